@@ -1,0 +1,5 @@
+pub mod CallLog
+pub mod Faults
+pub mod Memory
+pub mod Shelf
+pub mod Streams

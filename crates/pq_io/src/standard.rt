@@ -1,0 +1,111 @@
+// Sources and sinks over the readers and writers of std, such as standard input and output.
+ghost use Rattle.std.specs.Prelude.{◌≡◌, None};
+
+use crate::fault_count::FaultCount;
+use crate::{Failed, Sink, Source};
+use std::io::{Read, Write};
+use std::marker::Model;
+
+/// A source over a reader. What is left is not told. Contracts see it as its count of faults.
+#[derive(Drop)]
+pub struct Reading<R> {
+    inner: R,
+    faults: FaultCount,
+}
+
+impl<R> Model for Reading<R> {
+    ghost use Rattle.std.specs.Prelude.{ℕ};
+
+    ghost Value = { ℕ };
+
+    ghost view = { λ s. s.faults.0 };
+}
+
+impl<R> Reading<R> {
+    /// The reader as a source that has no fault yet.
+    pub fn new(inner: R) -> Reading<R>
+        ensures { result ≡ 0 }
+    {
+        Reading {
+            inner,
+            faults: FaultCount::new(),
+        }
+    }
+
+    /// How many calls have failed, up to the last value of the type.
+    pub fn faults(&self) -> u64
+        ensures { result ≡ self.now }
+    {
+        self.faults.count()
+    }
+}
+
+impl<R: Read> Source for Reading<R> {
+    ghost left = { λ _. None };
+
+    ghost faults = { λ faults. faults };
+
+    /// Makes one read. Each error of the reader is a fault.
+    fn read(&mut self, into: &mut [u8]) -> Result<usize, Failed> {
+        match self.inner.read(into) {
+            Ok(count) => Ok(count),
+            Err(_) => Err(self.faults.raise()),
+        }
+    }
+}
+
+/// A sink over a writer. What was taken is not told. Contracts see it as its count of faults.
+#[derive(Drop)]
+pub struct Writing<W> {
+    inner: W,
+    faults: FaultCount,
+}
+
+impl<W> Model for Writing<W> {
+    ghost use Rattle.std.specs.Prelude.{ℕ};
+
+    ghost Value = { ℕ };
+
+    ghost view = { λ s. s.faults.0 };
+}
+
+impl<W> Writing<W> {
+    /// The writer as a sink that has no fault yet.
+    pub fn new(inner: W) -> Writing<W>
+        ensures { result ≡ 0 }
+    {
+        Writing {
+            inner,
+            faults: FaultCount::new(),
+        }
+    }
+
+    /// How many calls have failed, up to the last value of the type.
+    pub fn faults(&self) -> u64
+        ensures { result ≡ self.now }
+    {
+        self.faults.count()
+    }
+}
+
+impl<W: Write> Sink for Writing<W> {
+    ghost taken = { λ _. None };
+
+    ghost faults = { λ faults. faults };
+
+    /// Makes one write and one flush, so that a reader at the other end sees each piece at once. Each error
+    /// of either is a fault, and so is a write that takes nothing of a piece.
+    fn write(&mut self, bytes: &[u8]) -> Result<usize, Failed> {
+        let count = match self.inner.write(bytes) {
+            Ok(count) => count,
+            Err(_) => return Err(self.faults.raise()),
+        };
+        if count == 0 && !bytes.is_empty() {
+            return Err(self.faults.raise());
+        }
+        match self.inner.flush() {
+            Ok(()) => Ok(count),
+            Err(_) => Err(self.faults.raise()),
+        }
+    }
+}

@@ -1,0 +1,58 @@
+-- Writes, entries and the history; the joins that stand and the base pairs are folds over it.
+use Rattle.std.specs.Prelude.{ℕ, ◌+◌, List, [], ◌∷◌, ◌++◌, fold, Bool, not}
+use Rattle.std.specs.List.{list_any}
+use Rattle.semantics.specs.Texts.{Text, Table, with_pair, without_key, pairs_where}
+use Rattle.semantics.specs.Patterns.{fits}
+use Rattle.semantics.specs.Joins.{Join}
+
+pub data Write : Type 0 where
+  put : Text → Text → Write
+  remove : Text → Write
+  declare : Join → Write
+
+-- an entry: the number of the client that wrote it, and the write
+pub record Entry : Type 0 where
+  pub client : ℕ
+  pub write : Write
+
+-- the history: entries in order, their positions counted from 1
+abbrev pub History : Type 0
+History = List Entry
+
+-- a join that stands is named by the position of its declaration
+pub record Standing : Type 0 where
+  pub position : ℕ
+  pub join : Join
+
+-- the joins that stand after a write that enters at a position
+abbrev pub joins_after : ℕ → Write → List Standing → List Standing
+joins_after position (put k v) joins = joins
+joins_after position (remove k) joins = joins
+joins_after position (declare j) joins = joins ++ record { position = position; join = j } ∷ []
+
+-- the joins that stand after entries that begin at a position
+abbrev pub joins_from : ℕ → List Standing → History → List Standing
+joins_from position joins [] = joins
+joins_from position joins (e ∷ es) = joins_from (position + 1) (joins_after position e.write joins) es
+
+-- `Joins`: the joins that stand after the history, in order of position
+abbrev pub joins_of : History → List Standing
+joins_of h = joins_from 1 [] h
+
+-- the base pairs after a write
+abbrev pub base_after : Write → Table → Table
+base_after (put k v) table = with_pair k v table
+base_after (remove k) table = without_key k table
+base_after (declare j) table = table
+
+-- `Base`: the pairs that the puts and removes leave
+abbrev pub base_of : History → Table
+base_of h = fold (λ table e. base_after e.write table) [] h
+
+-- whether a key fits the output of a join that stands
+abbrev pub is_computed : List Standing → Text → Bool
+is_computed joins key = list_any (λ s. fits s.join.output key) joins
+
+-- `Visible`: the base pairs that no output hides
+abbrev pub visible : History → Table
+visible h = pairs_where (λ key. not (is_computed (joins_of h) key)) (base_of h)

@@ -1,0 +1,14 @@
+pub mod Texts
+pub mod Patterns
+pub mod Joins
+pub mod Histories
+pub mod Outputs
+pub mod Graphs
+pub mod States
+pub mod Verdicts
+pub mod Answers
+pub mod PatternLaws
+pub mod OutputLaws
+pub mod GraphLaws
+pub mod StateLaws
+pub mod AdmissibleLaws

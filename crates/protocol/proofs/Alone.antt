@@ -1,0 +1,324 @@
+-- What one client alone is told decides its replies: they are those of the fold over its lines.
+use Rattle.std.proofs.Common.{◌≡◌, ℕ, suc, ◌+◌, ◌-◌, ◌<◌, ◌≤◌, ◌⊎◌, inl, inr, List, [], ◌∷◌, ◌++◌, length, get_or, take, map, Bool, true, false, Some, None, Result, Ok, Err, refl, sym, ap, ap₂, ◌∙◌, subst, arith, append_assoc, append-nil, length-append}
+use Rattle.std.specs.Prelude.{⊤, slice_get, if◌then◌else◌}
+use Rattle.std.specs.List.{AllZip, AllByRecursion, list_any}
+use Rattle.std.proofs.lemmas.Bool.{eq-eqb}
+use Rattle.std.proofs.Math.Seq.{take-append_seam}
+use Rattle.semantics.specs.Texts.{Text}
+use Rattle.semantics.specs.Histories.{Write, Entry, History}
+use Rattle.semantics.specs.Verdicts.{Cause, verdict}
+use Rattle.semantics.specs.Answers.{Read, Answer, answer}
+use Rattle.protocol.specs.Requests.{Request, write, read, quit, LineFault, request_of}
+use Rattle.protocol.specs.Replies.{Reply, done, answered, refused, unread, long, memory, bye}
+use Rattle.protocol.specs.Told.{answer_position, Answers, InOrder, done_positions, own_positions}
+use Rattle.protocol.specs.Transcript.{Reading, Step, write_step, step_of, memory_step, line_step, onto_replies, after_step, outcome_from}
+use Rattle.protocol.specs.Session.{AnswersLine, told_pairs, is_bye}
+use Rattle.protocol.proofs.WrittenLines.{is_memory}
+
+-- every form of a request is read, whatever the history is
+abbrev pub every_form : Reading
+every_form h line = request_of line
+
+-- the entries are those of the client with the number 0
+abbrev pub AreOwn : History → Type 0
+AreOwn = AllByRecursion (λ e. e.client ≡ 0)
+
+-- no reply but the last is `bye`
+abbrev pub ByeLast : List Reply → Type 0
+ByeLast [] = ⊤
+ByeLast (reply ∷ []) = ⊤
+ByeLast (reply ∷ other ∷ replies) = (is_bye reply ≡ false) × ByeLast (other ∷ replies)
+
+-- the lines that are skipped, counted from a number, are those whose reply is `memory`
+abbrev pub SkipsFrom : (ℕ → Bool) → ℕ → List Reply → Type 0
+SkipsFrom skipped number replies = (i : ℕ) → i < length replies → skipped (number + i) ≡ is_memory (get_or replies i bye)
+
+-- what is told from a history on, where the entries after it make the view
+pub record GoesOn (view h rest : History) (skipped : ℕ → Bool) (number : ℕ) (lines : List Text) (replies : List Reply) (pairs : List (Request × Reply)) : Type 0 where
+  pub whole : view ≡ h ++ rest
+  pub own : AreOwn rest
+  pub each : AllZip (λ line reply. AnswersLine (request_of line) reply) lines replies
+  pub answers : AllZip (Answers view 0) (map (λ p. p.0) pairs) (map (λ p. p.1) pairs)
+  pub ordered : InOrder (length h) (length view) (map (λ p. p.1) pairs)
+  pub positions : own_positions 0 (length h + 1) rest ≡ done_positions (map (λ p. p.1) pairs)
+  pub skips : SkipsFrom skipped number replies
+  pub last : ByeLast replies
+
+-- ---- positions
+
+-- the position of an own entry is the first of the own positions
+own_first : (n : ℕ) (e : Entry) (rest : History) → e.client ≡ 0 → own_positions 0 n (e ∷ rest) ≡ n ∷ own_positions 0 (n + 1) rest
+own_first n e rest is = rw (eq-eqb e.client 0 is)
+
+-- without own positions there is no entry
+none_left : (n : ℕ) (rest : History) → AreOwn rest → own_positions 0 n rest ≡ [] → rest ≡ []
+none_left n [] own none = refl
+none_left n (e ∷ rest) own none = let first = own_first n e rest own.0 in absurd (cc)
+
+-- the first entered write stands above the lower bound
+first_above : (low high m : ℕ) (replies : List Reply) (ms : List ℕ) → InOrder low high replies → done_positions replies ≡ m ∷ ms → low < m
+first_above low high m [] ms ordered first = absurd (cc)
+first_above low high m (done n ∷ replies) ms ordered first = let same : n ≡ m = cc in omega (arith, ordered.0)
+first_above low high m (answered a ∷ replies) ms ordered first = let above = first_above (answer_position a) high m replies ms ordered.2 first in omega (arith, ordered.0)
+first_above low high m (refused n cause ∷ replies) ms ordered first = let above = first_above n high m replies ms ordered.2 first in omega (arith, ordered.0)
+first_above low high m (unread fault ∷ replies) ms ordered first = first_above low high m replies ms ordered first
+first_above low high m (long ∷ replies) ms ordered first = first_above low high m replies ms ordered first
+first_above low high m (memory ∷ replies) ms ordered first = first_above low high m replies ms ordered first
+first_above low high m (bye ∷ replies) ms ordered first = first_above low high m replies ms ordered first
+
+-- a position between an entered write and the next is that of the first
+position_is : (view h rest : History) (n : ℕ) (others : List Reply) → view ≡ h ++ rest → AreOwn rest → length h ≤ n → n ≤ length view →
+    InOrder n (length view) others → own_positions 0 (length h + 1) rest ≡ done_positions others → n ≡ length h
+position_is view h [] n others whole own low high ordered positions =
+    let size : length view ≡ length h = ap length (whole ∙ append-nil h) in omega arith
+position_is view h (e ∷ rest) n others whole own low high ordered positions =
+    let above = first_above n (length view) (length h + 1) others _ ordered (sym positions ∙ own_first (length h + 1) e rest own.0) in omega arith
+
+-- the history so far is a prefix of the view
+prefix_is : (view h rest : History) → view ≡ h ++ rest → take (length h) view ≡ h
+prefix_is view h rest whole = ap (take (length h)) whole ∙ take-append_seam h rest
+
+-- the next entry stands behind the history so far
+next_is : (h : History) (e : Entry) (rest : History) → slice_get (h ++ e ∷ rest) (length h) ≡ Some e
+next_is [] e rest = refl
+next_is (f ∷ h) e rest = next_is h e rest
+
+-- ---- steps
+
+-- the rest of the replies, but the last, is without `bye` too
+last_later : (reply : Reply) (replies : List Reply) → ByeLast (reply ∷ replies) → ByeLast replies
+last_later reply [] last = tt
+last_later reply (other ∷ replies) last = last.1
+
+-- the rest of the lines is skipped by its own replies
+skips_later : (skipped : ℕ → Bool) (number : ℕ) (reply : Reply) (replies : List Reply) → SkipsFrom skipped number (reply ∷ replies) → SkipsFrom skipped (number + 1) replies
+skips_later skipped number reply replies skips i below =
+    let place : (number + 1) + i ≡ number + suc i = omega arith in
+    ap skipped place ∙ skips (suc i) (omega arith)
+
+-- the first line is skipped where its reply is `memory`
+skips_first : (skipped : ℕ → Bool) (number : ℕ) (reply : Reply) (replies : List Reply) → SkipsFrom skipped number (reply ∷ replies) → skipped number ≡ is_memory reply
+skips_first skipped number reply replies skips =
+    let place : number ≡ number + 0 = omega arith in
+    ap skipped place ∙ skips 0 (omega arith)
+
+-- the step of a line that finds no memory
+step_skipped : (skipped : ℕ → Bool) (number : ℕ) (h : History) (line : Text) → skipped number ≡ true → line_step every_form skipped number h line ≡ memory_step h
+step_skipped skipped number h line e = ap (λ (skip : Bool). if skip then memory_step h else step_of (request_of line) h) e
+
+-- the step of a line that is read
+step_read : (skipped : ℕ → Bool) (number : ℕ) (h : History) (line : Text) (found : Result Request LineFault) → skipped number ≡ false → request_of line ≡ found →
+    line_step every_form skipped number h line ≡ step_of found h
+step_read skipped number h line found e is =
+    ap (λ (skip : Bool). if skip then memory_step h else step_of (request_of line) h) e ∙ ap (λ (f : Result Request LineFault). step_of f h) is
+
+-- a step that goes on, and the outcome of the lines after it
+went_on : (skipped : ℕ → Bool) (number : ℕ) (h after view : History) (line : Text) (lines : List Text) (reply : Reply) (replies : List Reply) (over : Bool) →
+    line_step every_form skipped number h line ≡ record { reply = reply; history = after; over = false } →
+    outcome_from every_form skipped (number + 1) after lines ≡ record { replies = replies; history = view; over = over } →
+    outcome_from every_form skipped number h (line ∷ lines) ≡ record { replies = reply ∷ replies; history = view; over = over }
+went_on skipped number h after view line lines reply replies over step rest =
+    ap (λ (s : Step). after_step s.reply s.history s.over (λ last. outcome_from every_form skipped (number + 1) last lines)) step ∙ ap (onto_replies reply) rest
+
+-- what is to be shown of lines and their replies
+abbrev pub Decides : History → List Text → List Reply → Type 0
+Decides view lines replies =
+    (skipped : ℕ → Bool) (number : ℕ) (h rest : History) → GoesOn view h rest skipped number lines replies (told_pairs lines replies) →
+    outcome_from every_form skipped number h lines ≡ record { replies = replies; history = view; over = list_any is_bye replies }
+
+-- the entries after the history so far are none, where no write enters any more
+view_is : (view h rest : History) → view ≡ h ++ rest → AreOwn rest → own_positions 0 (length h + 1) rest ≡ [] → h ≡ view
+view_is view h rest whole own none = sym (whole ∙ ap (λ more. h ++ more) (none_left (length h + 1) rest own none) ∙ append-nil h)
+
+-- a line that ends the session is the last
+bye_first : (view h rest : History) (skipped : ℕ → Bool) (number : ℕ) (line : Text) (lines : List Text) (replies : List Reply) → request_of line ≡ Ok quit →
+    GoesOn view h rest skipped number (line ∷ lines) (bye ∷ replies) (told_pairs lines replies) →
+    outcome_from every_form skipped number h (line ∷ lines) ≡ record { replies = bye ∷ replies; history = view; over = true }
+bye_first view h rest skipped number line [] [] is g =
+    ap (λ (s : Step). after_step s.reply s.history s.over (λ last. outcome_from every_form skipped (number + 1) last []))
+    (step_read skipped number h line (Ok quit) (skips_first skipped number bye [] g.skips) is)
+    ∙ ap (λ last. record { replies = bye ∷ []; history = last; over = true }) (view_is view h rest g.whole g.own g.positions)
+bye_first view h rest skipped number line (other ∷ lines) [] is g = absurd g.each.1
+bye_first view h rest skipped number line lines (other ∷ replies) is g = let no : true ≡ false = g.last.0 in absurd (cc)
+
+module _ (view : History) (line : Text) (lines : List Text) (replies : List Reply) (later : Decides view lines replies) (skipped : ℕ → Bool) (number : ℕ) where
+  -- what is told of the first of some lines and of those after it
+  abbrev First : History → History → Reply → List (Request × Reply) → Type 0
+  First h rest reply pairs = GoesOn view h rest skipped number (line ∷ lines) (reply ∷ replies) pairs
+
+  -- the replies that are told of the lines after it
+  abbrev told_later : List Reply
+  told_later = map (λ p. p.1) (told_pairs lines replies)
+
+  -- what is to be shown of them
+  abbrev Shown : History → Reply → Type 0
+  Shown h reply = outcome_from every_form skipped number h (line ∷ lines) ≡ record { replies = reply ∷ replies; history = view; over = list_any is_bye (reply ∷ replies) }
+
+  -- a line that finds no memory
+  no_memory_first : (h rest : History) (pairs : List (Request × Reply)) → First h rest memory pairs → GoesOn view h rest skipped (number + 1) lines replies (told_pairs lines replies) → Shown h memory
+  no_memory_first h rest pairs g next =
+      went_on skipped number h h view line lines memory replies _ (step_skipped skipped number h line (skips_first skipped number memory replies g.skips)) (later skipped (number + 1) h rest next)
+
+  -- a line of which nothing is told, and those after it
+  untold : (h rest : History) (reply : Reply) → First h rest reply (told_pairs lines replies) → GoesOn view h rest skipped (number + 1) lines replies (told_pairs lines replies)
+  untold h rest reply g = record {
+    whole = g.whole;
+    own = g.own;
+    each = g.each.1;
+    answers = g.answers;
+    ordered = g.ordered;
+    positions = g.positions;
+    skips = skips_later skipped number reply replies g.skips;
+    last = last_later reply replies g.last;
+  }
+
+  -- a line that is no request
+  unread_first : (h rest : History) (fault : LineFault) → request_of line ≡ Err fault → First h rest (unread fault) (told_pairs lines replies) → Shown h (unread fault)
+  unread_first h rest fault is g =
+      went_on skipped number h h view line lines (unread fault) replies _ (step_read skipped number h line (Err fault) (skips_first skipped number (unread fault) replies g.skips) is)
+      (later skipped (number + 1) h rest (untold h rest (unread fault) g))
+
+  -- a write that enters is the next entry
+  done_first : (h rest : History) (w : Write) (n : ℕ) → request_of line ≡ Ok (write w) → First h rest (done n) ((write w, done n) ∷ told_pairs lines replies) → Shown h (done n)
+  done_first h [] w n is g = let none = g.positions in absurd (cc)
+  done_first h (e ∷ rest) w n is g =
+      let others : List ℕ = done_positions told_later in
+      let both : (length h + 1) ∷ own_positions 0 ((length h + 1) + 1) rest ≡ n ∷ others = sym (own_first (length h + 1) e rest g.own.0) ∙ g.positions in
+      let here : length h + 1 ≡ n = cc in
+      let rest_positions : own_positions 0 ((length h + 1) + 1) rest ≡ others = cc in
+      let place : n - 1 ≡ length h = omega arith in
+      let entry : Entry = record { client = 0; write = w } in
+      let found : Some e ≡ Some entry =
+      sym (next_is h e rest) ∙ ap (λ v. slice_get v (length h)) (sym g.whole) ∙ ap (slice_get view) (sym place) ∙ g.answers.0.0 in
+      let same : e ≡ entry = cc in
+      let entered : verdict w h ≡ None = sym (ap (verdict w) (ap (λ m. take m view) place ∙ prefix_is view h (e ∷ rest) g.whole)) ∙ g.answers.0.1 in
+      let size : n ≡ length (h ++ e ∷ []) = omega (arith, length-append h (e ∷ [])) in
+      let next_size : length (h ++ e ∷ []) + 1 ≡ (length h + 1) + 1 = omega (arith, length-append h (e ∷ [])) in
+      went_on skipped number h (h ++ e ∷ []) view line lines (done n) replies _
+      (step_read skipped number h line (Ok (write w)) (skips_first skipped number (done n) replies g.skips) is ∙ ap (write_step w h) entered
+      ∙ ap₂ (λ m (f : Entry). record { reply = done m; history = h ++ f ∷ []; over = false }) here (sym same))
+      (later skipped (number + 1) (h ++ e ∷ []) rest (record {
+        whole = g.whole ∙ sym (append_assoc h (e ∷ []) rest);
+        own = g.own.1;
+        each = g.each.1;
+        answers = g.answers.1;
+        ordered = subst (λ m. InOrder m (length view) told_later) size g.ordered.2;
+        positions = ap (λ m. own_positions 0 m rest) next_size ∙ rest_positions;
+        skips = skips_later skipped number (done n) replies g.skips;
+        last = last_later (done n) replies g.last;
+      }))
+
+  -- a write that is refused
+  refused_first : (h rest : History) (w : Write) (n : ℕ) (cause : Cause) → request_of line ≡ Ok (write w) →
+      First h rest (refused n cause) ((write w, refused n cause) ∷ told_pairs lines replies) → Shown h (refused n cause)
+  refused_first h rest w n cause is g =
+      let here : n ≡ length h = position_is view h rest n told_later g.whole g.own g.ordered.0 g.ordered.1 g.ordered.2 g.positions in
+      let against : verdict w h ≡ Some cause = sym (ap (verdict w) (ap (λ m. take m view) here ∙ prefix_is view h rest g.whole)) ∙ g.answers.0 in
+      went_on skipped number h h view line lines (refused n cause) replies _
+      (step_read skipped number h line (Ok (write w)) (skips_first skipped number (refused n cause) replies g.skips) is ∙ ap (write_step w h) against
+      ∙ ap (λ m. record { reply = refused m cause; history = h; over = false }) (sym here))
+      (later skipped (number + 1) h rest (record {
+        whole = g.whole;
+        own = g.own;
+        each = g.each.1;
+        answers = g.answers.1;
+        ordered = subst (λ m. InOrder m (length view) told_later) here g.ordered.2;
+        positions = g.positions;
+        skips = skips_later skipped number (refused n cause) replies g.skips;
+        last = last_later (refused n cause) replies g.last;
+      }))
+
+  -- a read that is answered
+  answered_first : (h rest : History) (r : Read) (a : Answer) → request_of line ≡ Ok (read r) → First h rest (answered a) ((read r, answered a) ∷ told_pairs lines replies) → Shown h (answered a)
+  answered_first h rest r a is g =
+      let here : answer_position a ≡ length h = position_is view h rest (answer_position a) told_later g.whole g.own g.ordered.0 g.ordered.1 g.ordered.2 g.positions in
+      let same : a ≡ answer r h = g.answers.0 ∙ ap (answer r) (ap (λ m. take m view) here ∙ prefix_is view h rest g.whole) in
+      went_on skipped number h h view line lines (answered a) replies _
+      (step_read skipped number h line (Ok (read r)) (skips_first skipped number (answered a) replies g.skips) is
+      ∙ ap (λ b. record { reply = answered b; history = h; over = false }) (sym same))
+      (later skipped (number + 1) h rest (record {
+        whole = g.whole;
+        own = g.own;
+        each = g.each.1;
+        answers = g.answers.1;
+        ordered = subst (λ m. InOrder m (length view) told_later) here g.ordered.2;
+        positions = g.positions;
+        skips = skips_later skipped number (answered a) replies g.skips;
+        last = last_later (answered a) replies g.last;
+      }))
+
+  -- a line whose request found no memory, and those after it
+  unanswered : (h rest : History) (request : Request) → First h rest memory ((request, memory) ∷ told_pairs lines replies) →
+      GoesOn view h rest skipped (number + 1) lines replies (told_pairs lines replies)
+  unanswered h rest request g = record {
+    whole = g.whole;
+    own = g.own;
+    each = g.each.1;
+    answers = g.answers.1;
+    ordered = g.ordered;
+    positions = g.positions;
+    skips = skips_later skipped number memory replies g.skips;
+    last = last_later memory replies g.last;
+  }
+
+  -- a line that writes
+  write_first : (h rest : History) (w : Write) (reply : Reply) → request_of line ≡ Ok (write w) → First h rest reply ((write w, reply) ∷ told_pairs lines replies) → Shown h reply
+  write_first h rest w (done n) is g = done_first h rest w n is g
+  write_first h rest w (answered a) is g = absurd g.answers.0
+  write_first h rest w (refused n cause) is g = refused_first h rest w n cause is g
+  write_first h rest w (unread fault) is g = absurd g.answers.0
+  write_first h rest w long is g = absurd g.answers.0
+  write_first h rest w memory is g = no_memory_first h rest _ g (unanswered h rest (write w) g)
+  write_first h rest w bye is g = absurd g.answers.0
+
+  -- a line that reads
+  read_first : (h rest : History) (r : Read) (reply : Reply) → request_of line ≡ Ok (read r) → First h rest reply ((read r, reply) ∷ told_pairs lines replies) → Shown h reply
+  read_first h rest r (done n) is g = absurd g.answers.0
+  read_first h rest r (answered a) is g = answered_first h rest r a is g
+  read_first h rest r (refused n cause) is g = absurd g.answers.0
+  read_first h rest r (unread fault) is g = absurd g.answers.0
+  read_first h rest r long is g = absurd g.answers.0
+  read_first h rest r memory is g = no_memory_first h rest _ g (unanswered h rest (read r) g)
+  read_first h rest r bye is g = absurd g.answers.0
+
+  -- a line that is no request, by what may answer it
+  fault_first : (h rest : History) (fault : LineFault) (reply : Reply) → request_of line ≡ Err fault → First h rest reply (told_pairs lines replies) → (reply ≡ unread fault) ⊎ (reply ≡ memory) → Shown h reply
+  fault_first h rest fault reply is g (inl same) =
+      subst (Shown h) (sym same) (unread_first h rest fault is (subst (λ r. First h rest r (told_pairs lines replies)) same g))
+  fault_first h rest fault reply is g (inr same) =
+      let h_g = subst (λ r. First h rest r (told_pairs lines replies)) same g in subst (Shown h) (sym same) (no_memory_first h rest _ h_g (untold h rest memory h_g))
+
+  -- a line that ends the session, by what may answer it
+  quit_first : (h rest : History) (reply : Reply) → request_of line ≡ Ok quit → First h rest reply (told_pairs lines replies) → (reply ≡ bye) ⊎ (reply ≡ memory) → Shown h reply
+  quit_first h rest reply is g (inl same) =
+      subst (Shown h) (sym same) (bye_first view h rest skipped number line lines replies is (subst (λ r. First h rest r (told_pairs lines replies)) same g))
+  quit_first h rest reply is g (inr same) =
+      let h_g = subst (λ r. First h rest r (told_pairs lines replies)) same g in subst (Shown h) (sym same) (no_memory_first h rest _ h_g (untold h rest memory h_g))
+
+  -- what is told of some lines, by what the first is read as
+  fault_pairs : (fault : LineFault) (reply : Reply) → request_of line ≡ Err fault → told_pairs (line ∷ lines) (reply ∷ replies) ≡ told_pairs lines replies
+  fault_pairs fault reply is = rw is
+
+  write_pairs : (w : Write) (reply : Reply) → request_of line ≡ Ok (write w) → told_pairs (line ∷ lines) (reply ∷ replies) ≡ (write w, reply) ∷ told_pairs lines replies
+  write_pairs w reply is = rw is
+
+  read_pairs : (r : Read) (reply : Reply) → request_of line ≡ Ok (read r) → told_pairs (line ∷ lines) (reply ∷ replies) ≡ (read r, reply) ∷ told_pairs lines replies
+  read_pairs r reply is = rw is
+
+  quit_pairs : (reply : Reply) → request_of line ≡ Ok quit → told_pairs (line ∷ lines) (reply ∷ replies) ≡ told_pairs lines replies
+  quit_pairs reply is = rw is
+
+  -- the first of some lines, by what it is read as
+  first_by : (h rest : History) (reply : Reply) (found : Result Request LineFault) → request_of line ≡ found → First h rest reply (told_pairs (line ∷ lines) (reply ∷ replies)) → Shown h reply
+  first_by h rest reply (Err fault) is g = fault_first h rest fault reply is (subst (First h rest reply) (fault_pairs fault reply is) g) (subst (λ f. AnswersLine f reply) is g.each.0)
+  first_by h rest reply (Ok (write w)) is g = write_first h rest w reply is (subst (First h rest reply) (write_pairs w reply is) g)
+  first_by h rest reply (Ok (read r)) is g = read_first h rest r reply is (subst (First h rest reply) (read_pairs r reply is) g)
+  first_by h rest reply (Ok quit) is g = quit_first h rest reply is (subst (First h rest reply) (quit_pairs reply is) g) (subst (λ f. AnswersLine f reply) is g.each.0)
+
+-- what one client alone is told decides the outcome of its lines
+pub alone_outcome : (view : History) (lines : List Text) (replies : List Reply) → Decides view lines replies
+alone_outcome view [] [] skipped number h rest g = ap (λ last. record { replies = []; history = last; over = false }) (view_is view h rest g.whole g.own g.positions)
+alone_outcome view [] (reply ∷ replies) skipped number h rest g = absurd g.each
+alone_outcome view (line ∷ lines) [] skipped number h rest g = absurd g.each
+alone_outcome view (line ∷ lines) (reply ∷ replies) skipped number h rest g =
+    first_by view line lines replies (alone_outcome view lines replies) skipped number h rest reply (request_of line) refl g

@@ -1,0 +1,13 @@
+pub mod Runs
+pub mod Telling
+pub mod OneLine
+pub mod CompactTexts
+pub mod ReplyReading
+pub mod ReplyTexts
+pub mod Cuts
+pub mod WrittenLines
+pub mod Skips
+pub mod TellingSteps
+pub mod RunSteps
+pub mod Alone
+pub mod AloneRuns

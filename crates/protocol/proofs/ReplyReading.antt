@@ -1,0 +1,127 @@
+-- A reply is read back from its items.
+use Rattle.std.proofs.Common.{◌≡◌, ℕ, List, [], ◌∷◌, map, refl, ap, sym, ◌∙◌}
+use Rattle.std.specs.Prelude.{codes, if◌then◌else◌}
+use Rattle.std.specs.List.{slice_index_or}
+use Rattle.serde_json.specs.Data.{Num, unsigned, negative, float, Data, null, boolean, number, string, array, object, Items, no_items, item}
+use Rattle.semantics.specs.Texts.{Text, Table, same}
+use Rattle.semantics.specs.Verdicts.{computed, late, full, slots, sources, clash, cycle, deep, many}
+use Rattle.semantics.specs.Answers.{found, absent, pairs}
+use Rattle.protocol.specs.Rows.{whole_number, list_of}
+use Rattle.protocol.specs.Requests.{json, form, key, value, range, syntax}
+use Rattle.protocol.specs.Replies.{Reply, done, answered, refused, unread, long, memory, bye, pair_item, reply_items}
+
+-- the whole number, or 0
+abbrev whole_in : Num → ℕ
+whole_in (unsigned n) = n
+whole_in (negative z) = 0
+whole_in (float x) = 0
+
+-- the number that a value is, or 0
+abbrev number_in : Data → ℕ
+number_in null = 0
+number_in (boolean b) = 0
+number_in (number n) = whole_in n
+number_in (string s) = 0
+number_in (array ds) = 0
+number_in (object ms) = 0
+
+-- the text that a value is, or the empty one
+abbrev text_in : Data → Text
+text_in null = []
+text_in (boolean b) = []
+text_in (number n) = []
+text_in (string s) = s
+text_in (array ds) = []
+text_in (object ms) = []
+
+-- items as a list
+abbrev listed_items : Items → List Data
+listed_items no_items = []
+listed_items (item d ds) = d ∷ listed_items ds
+
+-- the items of the array that a value is, or none
+abbrev list_in : Data → List Data
+list_in null = []
+list_in (boolean b) = []
+list_in (number n) = []
+list_in (string s) = []
+list_in (array ds) = listed_items ds
+list_in (object ms) = []
+
+-- the item at a place, or null
+abbrev item_at : List Data → ℕ → Data
+item_at items i = slice_index_or items i null
+
+-- the pair whose key and value are the first two items
+abbrev pair_in : Data → Text × Text
+pair_in d = (text_in (item_at (list_in d) 0), text_in (item_at (list_in d) 1))
+
+-- the reply that names this error
+abbrev error_in : Text → List Data → Reply
+error_in name items =
+    if same name (codes "computed") then refused (number_in (item_at items 2)) (computed (number_in (item_at items 3)))
+    else (if same name (codes "late") then refused (number_in (item_at items 2)) late
+    else (if same name (codes "full") then refused (number_in (item_at items 2)) full
+    else (if same name (codes "slots") then refused (number_in (item_at items 2)) slots
+    else (if same name (codes "sources") then refused (number_in (item_at items 2)) sources
+    else (if same name (codes "clash") then refused (number_in (item_at items 2)) (clash (number_in (item_at items 3)))
+    else (if same name (codes "cycle") then refused (number_in (item_at items 2)) (cycle (map number_in (list_in (item_at items 3))))
+    else (if same name (codes "deep") then refused (number_in (item_at items 2)) deep
+    else (if same name (codes "many") then refused (number_in (item_at items 2)) many
+    else (if same name (codes "json") then unread json
+    else (if same name (codes "form") then unread form
+    else (if same name (codes "key") then unread key
+    else (if same name (codes "value") then unread value
+    else (if same name (codes "range") then unread range
+    else (if same name (codes "syntax") then unread (syntax (number_in (item_at items 2)))
+    else (if same name (codes "long") then long
+    else memory)))))))))))))))
+
+-- the reply whose items these are
+abbrev reply_in : List Data → Reply
+reply_in items =
+    if same (text_in (item_at items 0)) (codes "error") then error_in (text_in (item_at items 1)) items
+    else (if same (text_in (item_at items 0)) (codes "ok") then done (number_in (item_at items 1))
+    else (if same (text_in (item_at items 0)) (codes "value") then answered (found (number_in (item_at items 1)) (text_in (item_at items 2)))
+    else (if same (text_in (item_at items 0)) (codes "none") then answered (absent (number_in (item_at items 1)))
+    else (if same (text_in (item_at items 0)) (codes "pairs") then answered (pairs (number_in (item_at items 1)) (map pair_in (list_in (item_at items 2))))
+    else bye))))
+
+-- a table is read back from its items
+pairs_read : (table : Table) → map pair_in (list_in (list_of (map pair_item table))) ≡ table
+pairs_read [] = refl
+pairs_read (pair ∷ table) = ap (λ others. pair ∷ others) (pairs_read table)
+
+-- numbers are read back from their items
+numbers_read : (ns : List ℕ) → map number_in (list_in (list_of (map whole_number ns))) ≡ ns
+numbers_read [] = refl
+numbers_read (n ∷ ns) = ap (λ others. n ∷ others) (numbers_read ns)
+
+-- a reply is read back from its items
+reply_in-reply_items : (reply : Reply) → reply_in (reply_items reply) ≡ reply
+reply_in-reply_items (done n) = refl
+reply_in-reply_items (answered (found n v)) = refl
+reply_in-reply_items (answered (absent n)) = refl
+reply_in-reply_items (answered (pairs n table)) = ap (λ t. answered (pairs n t)) (pairs_read table)
+reply_in-reply_items (refused n (computed position)) = refl
+reply_in-reply_items (refused n late) = refl
+reply_in-reply_items (refused n full) = refl
+reply_in-reply_items (refused n slots) = refl
+reply_in-reply_items (refused n sources) = refl
+reply_in-reply_items (refused n (clash position)) = refl
+reply_in-reply_items (refused n (cycle positions)) = ap (λ ns. refused n (cycle ns)) (numbers_read positions)
+reply_in-reply_items (refused n deep) = refl
+reply_in-reply_items (refused n many) = refl
+reply_in-reply_items (unread json) = refl
+reply_in-reply_items (unread form) = refl
+reply_in-reply_items (unread key) = refl
+reply_in-reply_items (unread value) = refl
+reply_in-reply_items (unread range) = refl
+reply_in-reply_items (unread (syntax at)) = refl
+reply_in-reply_items long = refl
+reply_in-reply_items memory = refl
+reply_in-reply_items bye = refl
+
+-- replies with the same items are the same
+pub reply_items_injective : (reply other : Reply) → reply_items reply ≡ reply_items other → reply ≡ other
+reply_items_injective reply other equal = sym (reply_in-reply_items reply) ∙ ap reply_in equal ∙ reply_in-reply_items other

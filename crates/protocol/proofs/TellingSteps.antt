@@ -1,0 +1,119 @@
+-- What a client is told by one step: a read, a write that enters or is refused, a lack of memory, or the entries of others.
+use Rattle.std.proofs.Common.{◌≡◌, ℕ, ◌+◌, ◌-◌, ◌==◌, List, [], ◌∷◌, ◌++◌, length, take, drop, Bool, true, false, Option, Some, None, refl, sym, ap, ◌∙◌, arith, append-nil, length-append}
+use Rattle.std.specs.Prelude.{slice_get}
+use Rattle.std.specs.List.{AllByRecursion}
+use Rattle.std.proofs.lemmas.Bool.{eq-eqb}
+use Rattle.std.proofs.Math.Seq.{drop-append_seam, take-append_seam, take-length, drop-length}
+use Rattle.semantics.specs.Texts.{Text, value_at}
+use Rattle.semantics.specs.Histories.{Write, Entry, History}
+use Rattle.semantics.specs.States.{state}
+use Rattle.semantics.specs.Verdicts.{Cause, verdict}
+use Rattle.semantics.specs.Answers.{Read, get, scan, answer}
+use Rattle.protocol.specs.Requests.{write, read}
+use Rattle.protocol.specs.Replies.{done, answered, refused, memory}
+use Rattle.protocol.specs.Told.{answer_position, own_positions, Told}
+use Rattle.protocol.specs.Transcript.{write_step}
+
+-- ---- a view that stays
+
+-- no own entry enters between a view and itself
+own_none : (view : History) (client : ℕ) → own_positions client (length view + 1) (drop (length view) view) ≡ []
+own_none view client = ap (own_positions client (length view + 1)) (drop-length view)
+
+-- nothing is told where nothing is asked
+pub told_nothing : (view : History) (client : ℕ) → Told view view client [] []
+told_nothing view client = record { grows = ([], sym (append-nil view)); answers = tt; ordered = tt; own = own_none view client }
+
+-- the position of the answer to a get, where its value is known
+position_by : (key : Text) (view : History) (value : Option Text) → value_at key (state view) ≡ value → answer_position (answer (get key) view) ≡ length view
+unfolding answer
+position_by key view None e = rw e
+position_by key view (Some value) e = rw e
+
+-- an answer speaks of the whole view
+pub answer_position-answer : (r : Read) (view : History) → answer_position (answer r view) ≡ length view
+unfolding answer
+answer_position-answer (get key) view = position_by key view (value_at key (state view)) refl
+answer_position-answer (scan range) view = refl
+
+-- a read is told the answer of the view
+pub told_read : (view : History) (client : ℕ) (r : Read) → Told view view client (read r ∷ []) (answered (answer r view) ∷ [])
+told_read view client r =
+    let place = answer_position-answer r view in
+    record {
+      grows = ([], sym (append-nil view));
+      answers = (ap (answer r) (sym (ap (λ n. take n view) place ∙ take-length view)), tt);
+      ordered = (omega arith, omega arith, tt);
+      own = own_none view client;
+    }
+
+-- a write with a cause against it is told that
+pub told_refused : (view : History) (client : ℕ) (w : Write) (cause : Cause) → verdict w view ≡ Some cause →
+    Told view view client (write w ∷ []) (refused (length view) cause ∷ [])
+told_refused view client w cause h = record {
+  grows = ([], sym (append-nil view));
+  answers = (ap (verdict w) (take-length view) ∙ h, tt);
+  ordered = (omega arith, omega arith, tt);
+  own = own_none view client;
+}
+
+-- a write may find no memory
+pub told_no_memory_to_write : (view : History) (client : ℕ) (w : Write) → Told view view client (write w ∷ []) (memory ∷ [])
+told_no_memory_to_write view client w = record { grows = ([], sym (append-nil view)); answers = (tt, tt); ordered = tt; own = own_none view client }
+
+-- a read may find no memory
+pub told_no_memory_to_read : (view : History) (client : ℕ) (r : Read) → Told view view client (read r ∷ []) (memory ∷ [])
+told_no_memory_to_read view client r = record { grows = ([], sym (append-nil view)); answers = (tt, tt); ordered = tt; own = own_none view client }
+
+-- ---- a view that grows
+
+-- an entry stands behind a view
+at_seam : {A : Type 0} (view : List A) (e : A) → slice_get (view ++ e ∷ []) (length view) ≡ Some e
+at_seam [] e = refl
+at_seam (x ∷ view) e = at_seam view e
+
+-- an entry of the client is its own
+own_by : (client n : ℕ) (e : Entry) (own : Bool) → (e.client == client) ≡ own → own ≡ true → own_positions client n (e ∷ []) ≡ n ∷ []
+own_by client n e own is h = rw (is ∙ h)
+
+-- a write with no cause against it enters behind the view
+pub told_done : (view : History) (client : ℕ) (w : Write) → verdict w view ≡ None →
+    Told view (view ++ record { client = client; write = w } ∷ []) client (write w ∷ []) (done (length view + 1) ∷ [])
+told_done view client w h =
+    let entry : Entry = record { client = client; write = w } in
+    let place : (length view + 1) - 1 ≡ length view = omega arith in
+    let size = length-append view (entry ∷ []) in
+    record {
+      grows = (entry ∷ [], refl);
+      answers = (
+        (ap (slice_get (view ++ entry ∷ [])) place ∙ at_seam view entry, ap (λ n. verdict w (take n (view ++ entry ∷ []))) place ∙ ap (verdict w) (take-append_seam view (entry ∷ [])) ∙ h),
+        tt,
+      );
+      ordered = (omega arith, omega arith, tt);
+      own = ap (own_positions client (length view + 1)) (drop-append_seam view (entry ∷ [])) ∙ own_by client (length view + 1) entry (client == client) refl (eq-eqb client client refl);
+    }
+
+-- entries of other clients are none of its own
+others_own_none : (client n : ℕ) (entries : History) → AllByRecursion (λ e. (e.client == client) ≡ false) entries → own_positions client n entries ≡ []
+others_own_none client n [] h = refl
+others_own_none client n (e ∷ entries) h = rw h.0 (others_own_none client (n + 1) entries h.1)
+
+-- entries of other clients enter, and nothing is told of them
+pub told_of_others : (view others : History) (client : ℕ) → AllByRecursion (λ e. (e.client == client) ≡ false) others → Told view (view ++ others) client [] []
+told_of_others view others client h = record {
+  grows = (others, refl);
+  answers = tt;
+  ordered = tt;
+  own = ap (own_positions client (length view + 1)) (drop-append_seam view others) ∙ others_own_none client (length view + 1) others h;
+}
+
+-- ---- one client alone
+
+-- the step of a write, where its verdict is known
+told_write_by : (h : History) (w : Write) (cause : Option Cause) → verdict w h ≡ cause → Told h (write_step w h cause).history 0 (write w ∷ []) ((write_step w h cause).reply ∷ [])
+told_write_by h w None is = told_done h 0 w is
+told_write_by h w (Some cause) is = told_refused h 0 w cause is
+
+-- the step of a write is told to the client with the number 0
+pub told_write_step : (h : History) (w : Write) → Told h (write_step w h (verdict w h)).history 0 (write w ∷ []) ((write_step w h (verdict w h)).reply ∷ [])
+told_write_step h w = told_write_by h w (verdict w h) refl

@@ -1,0 +1,5 @@
+use Rattle.protocol.proofs.Runs.{outcome_from-append}
+use Rattle.protocol.proofs.run_laws.outcome_of_parts.Goals as goal
+
+pub returns : goal.returns
+returns c reading skipped number h first second = outcome_from-append reading skipped first number h second

@@ -1,0 +1,13 @@
+pub mod JoinText
+pub mod Rows
+pub mod JoinsFile
+pub mod Lines
+pub mod Requests
+pub mod Replies
+pub mod Told
+pub mod Transcript
+pub mod ReplyLaws
+pub mod RunLaws
+pub mod Session
+pub mod Run
+pub mod AloneLaws

@@ -1,0 +1,106 @@
+-- What is served on one link: the lines that are taken, their replies, and the bytes that are written, at each end.
+use Rattle.std.specs.Prelude.{◌≡◌, ℕ, ◌^◌, ◌<◌, ◌≤◌, ◌⊎◌, List, [], ◌∷◌, ◌++◌, length, map, take, Bool, true, false, Option, Some, None, Result, Ok, Err, ⊤}
+use Rattle.std.specs.List.{AllZip, list_any}
+use Rattle.semantics.specs.Texts.{Text}
+use Rattle.semantics.specs.Histories.{History}
+use Rattle.protocol.specs.Lines.{lines_of}
+use Rattle.protocol.specs.Requests.{Request, write, read, quit, LineFault, request_of}
+use Rattle.protocol.specs.Replies.{Reply, done, answered, refused, unread, long, memory, bye, reply_text}
+use Rattle.protocol.specs.Told.{Told}
+use Rattle.protocol.specs.Transcript.{reply_texts}
+
+-- a line that is no request is answered by its fault, and `quit` by `bye`, where no want of memory comes first; what answers a write or a read is said by `Told`
+abbrev pub AnswersLine : Result Request LineFault → Reply → Type 0
+AnswersLine (Err fault) reply = (reply ≡ unread fault) ⊎ (reply ≡ memory)
+AnswersLine (Ok (write w)) reply = ⊤
+AnswersLine (Ok (read r)) reply = ⊤
+AnswersLine (Ok quit) reply = (reply ≡ bye) ⊎ (reply ≡ memory)
+
+-- a write or a read with its reply
+abbrev told_of : Result Request LineFault → Reply → List (Request × Reply)
+told_of (Err fault) reply = []
+told_of (Ok (write w)) reply = (write w, reply) ∷ []
+told_of (Ok (read r)) reply = (read r, reply) ∷ []
+told_of (Ok quit) reply = []
+
+-- the writes and reads among lines, with their replies
+abbrev pub told_pairs : List Text → List Reply → List (Request × Reply)
+told_pairs [] replies = []
+told_pairs (line ∷ lines) [] = []
+told_pairs (line ∷ lines) (reply ∷ replies) = told_of (request_of line) reply ++ told_pairs lines replies
+
+-- each line has one reply, in order, and `Told` holds for the writes and reads among them
+pub record Serves (before after : History) (client : ℕ) (lines : List Text) (replies : List Reply) : Type 0 where
+  pub each : AllZip (λ line reply. AnswersLine (request_of line) reply) lines replies
+  pub told : Told before after client (map (λ p. p.0) (told_pairs lines replies)) (map (λ p. p.1) (told_pairs lines replies))
+
+-- the lines are the first ones of the bytes
+abbrev pub BeginLines : Text → Bool → List Text → Type 0
+BeginLines bytes ended lines = (rest : List Text) × ((lines_of bytes ended).lines ≡ lines ++ rest)
+
+abbrev pub is_bye : Reply → Bool
+is_bye (done n) = false
+is_bye (answered a) = false
+is_bye (refused n cause) = false
+is_bye (unread fault) = false
+is_bye long = false
+is_bye memory = false
+is_bye bye = true
+
+-- no reply is `bye`
+abbrev pub NoBye : List Reply → Type 0
+NoBye replies = list_any is_bye replies ≡ false
+
+-- where it is told what is left, nothing is
+abbrev pub NothingLeft : Option Text → Type 0
+NothingLeft None = ⊤
+NothingLeft (Some bytes) = bytes ≡ []
+
+-- how serving a link ends
+pub data Ending : Type 0 where
+  closed : Ending
+  quit_line : Ending
+  long_line : Ending
+  read_fault : Ending
+  write_fault : Ending
+  spent : Ending
+  no_memory : Ending
+
+-- what every end has in common: the views, the client, the bytes that the link gave and took, and what it has left
+pub record Link : Type 0 where
+  pub before : History
+  pub after : History
+  pub client : ℕ
+  pub bytes : Text
+  pub written : Text
+  pub left : Option Text
+
+-- every line was answered, none of them by `bye`, and the texts of the replies were written
+pub record AllServed (link : Link) (ended : Bool) (replies : List Reply) : Type 0 where
+  pub serves : Serves link.before link.after link.client (lines_of link.bytes ended).lines replies
+  pub no_bye : NoBye replies
+
+-- the first lines were answered, the last of them by this reply, and none before by `bye`
+pub record ServedTo (link : Link) (replies : List Reply) (last : Reply) : Type 0 where
+  pub ended : Bool
+  pub at_end : ended ≡ true → NothingLeft link.left
+  pub lines : List Text
+  pub begin : BeginLines link.bytes ended lines
+  pub serves : Serves link.before link.after link.client lines (replies ++ last ∷ [])
+  pub no_bye : NoBye replies
+
+-- of the last text a part that is not the whole was written, after the texts of the replies before
+abbrev pub CutsText : Text → List Reply → Reply → Type 0
+CutsText written replies last = (n : ℕ) × (n < length (reply_text last)) × (written ≡ reply_texts replies ++ take n (reply_text last))
+
+-- how a link is left at each end
+abbrev pub Served : Ending → Link → Type 0
+Served closed link = (replies : List Reply) × AllServed link true replies × ((lines_of link.bytes true).long ≡ false) × (link.written ≡ reply_texts replies) × NothingLeft link.left
+Served quit_line link = (replies : List Reply) × ServedTo link replies bye × (link.written ≡ reply_texts (replies ++ bye ∷ []))
+Served long_line link = (replies : List Reply) × AllServed link false replies × ((lines_of link.bytes false).long ≡ true) × (link.written ≡ reply_texts (replies ++ long ∷ []))
+Served read_fault link = (replies : List Reply) × AllServed link false replies × ((lines_of link.bytes false).long ≡ false) × (link.written ≡ reply_texts replies)
+Served write_fault link =
+    ((replies : List Reply) × (last : Reply) × ServedTo link replies last × CutsText link.written replies last)
+    ⊎ ((replies : List Reply) × AllServed link false replies × ((lines_of link.bytes false).long ≡ true) × CutsText link.written replies long)
+Served spent link = (replies : List Reply) × AllServed link false replies × ((lines_of link.bytes false).long ≡ false) × (link.written ≡ reply_texts replies) × (2 ^ 40 ≤ length link.bytes)
+Served no_memory link = (link.bytes ≡ []) × (link.written ≡ []) × (link.after ≡ link.before)

@@ -1,0 +1,95 @@
+-- What one client alone is answered, from an empty history on: one fold over its lines.
+use Rattle.std.specs.Prelude.{ℕ, zero, suc, ◌+◌, ◌&&◌, List, [], ◌∷◌, ◌++◌, length, slice_get, flat_map, Bool, true, false, not, if◌then◌else◌, Option, Some, None, Result, Ok, Err}
+use Rattle.std.specs.Option.{option_map_or}
+use Rattle.semantics.specs.Texts.{Text, same}
+use Rattle.semantics.specs.Histories.{Write, History}
+use Rattle.semantics.specs.Verdicts.{Cause, verdict}
+use Rattle.semantics.specs.Answers.{answer}
+use Rattle.protocol.specs.Lines.{Cut, lines_of, whole_lines}
+use Rattle.protocol.specs.Requests.{Request, write, read, quit, LineFault, request_of}
+use Rattle.protocol.specs.Replies.{Reply, done, answered, refused, unread, long, memory, bye, reply_text}
+
+-- a reading says what a line asks for after a history, or why it asks for nothing
+abbrev pub Reading : Type 0
+Reading = History → Text → Result Request LineFault
+
+-- a reply, the history after it, and whether it ends the session
+pub record Step : Type 0 where
+  pub reply : Reply
+  pub history : History
+  pub over : Bool
+
+-- a write enters where there is no cause against it
+abbrev pub write_step : Write → History → Option Cause → Step
+write_step w h None = record { reply = done (length h + 1); history = h ++ record { client = 0; write = w } ∷ []; over = false }
+write_step w h (Some cause) = record { reply = refused (length h) cause; history = h; over = false }
+
+-- the step of what a line was read as
+abbrev pub step_of : Result Request LineFault → History → Step
+step_of (Err fault) h = record { reply = unread fault; history = h; over = false }
+step_of (Ok (write w)) h = write_step w h (verdict w h)
+step_of (Ok (read r)) h = record { reply = answered (answer r h); history = h; over = false }
+step_of (Ok quit) h = record { reply = bye; history = h; over = true }
+
+-- a line for which no memory was found changes nothing
+abbrev pub memory_step : History → Step
+memory_step h = record { reply = memory; history = h; over = false }
+
+-- the step of a line with a number, where the lines that are skipped find no memory
+abbrev pub line_step : Reading → (ℕ → Bool) → ℕ → History → Text → Step
+line_step reading skipped number h line = if skipped number then memory_step h else step_of (reading h line) h
+
+-- the replies to lines, the history after them, and whether the session ended
+pub record Outcome : Type 0 where
+  pub replies : List Reply
+  pub history : History
+  pub over : Bool
+
+abbrev pub onto_replies : Reply → Outcome → Outcome
+onto_replies reply outcome = record { replies = reply ∷ outcome.replies; history = outcome.history; over = outcome.over }
+
+-- after a step the lines go on, unless it ended the session
+abbrev pub after_step : Reply → History → Bool → (History → Outcome) → Outcome
+after_step reply h true more = record { replies = reply ∷ []; history = h; over = true }
+after_step reply h false more = onto_replies reply (more h)
+
+-- the fold over lines, which are counted from a number
+abbrev pub outcome_from : Reading → (ℕ → Bool) → ℕ → History → List Text → Outcome
+outcome_from reading skipped number h [] = record { replies = []; history = h; over = false }
+outcome_from reading skipped number h (line ∷ lines) =
+    after_step (line_step reading skipped number h line).reply (line_step reading skipped number h line).history (line_step reading skipped number h line).over
+    (λ after. outcome_from reading skipped (number + 1) after lines)
+
+-- the outcome of lines from the empty history; lines are counted from 1
+unfoldable pub outcome_of : Reading → (ℕ → Bool) → List Text → Outcome
+outcome_of reading skipped lines = outcome_from reading skipped 1 [] lines
+
+abbrev pub reply_texts : List Reply → Text
+reply_texts = flat_map reply_text
+
+-- the text of `long`, where the mark ends the lines and no `quit` came before
+abbrev pub long_text : Bool → Outcome → Text
+long_text marked outcome = if marked && not outcome.over then reply_text long else []
+
+abbrev pub transcript_of_cut : Reading → (ℕ → Bool) → Cut → Text
+transcript_of_cut reading skipped cut =
+    reply_texts (outcome_of reading skipped cut.lines).replies ++ long_text cut.long (outcome_of reading skipped cut.lines)
+
+-- `Transcript` under a reading: the texts of the replies to the lines of the bytes, where the numbered lines find no memory
+unfoldable pub transcript_by : Reading → Text → Bool → (ℕ → Bool) → Text
+transcript_by reading bytes ended skipped = transcript_of_cut reading skipped (lines_of bytes ended)
+
+-- `Transcript`: every form of a request is read
+abbrev pub transcript : Text → Bool → (ℕ → Bool) → Text
+transcript = transcript_by (λ h line. request_of line)
+
+-- ---- which lines found no memory, by what was written
+
+-- whether a line with its byte 10 is the text of `memory`
+abbrev pub is_memory_line : Text → Bool
+is_memory_line line = same (line ++ 10 ∷ []) (reply_text memory)
+
+-- whether the whole line with a number, counted from 1, of a written text is the text of `memory`
+unfoldable pub memory_lines : Text → ℕ → Bool
+memory_lines written zero = false
+memory_lines written (suc i) = option_map_or is_memory_line (slice_get (whole_lines written) i) false

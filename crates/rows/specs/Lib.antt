@@ -1,0 +1,4 @@
+pub mod Runs
+pub mod CopyRows
+pub mod AggregateRows
+pub mod RefusalRows

@@ -1,0 +1,126 @@
+// Keys.
+ghost use Rattle.std.specs.Prelude.{◌≡◌, ◌↔◌, IfOk, true, false, Some, nat_eq, refl};
+ghost use Rattle.std.specs.Cmp.{partial_equiv_from_equiv};
+ghost use Rattle.std.specs.Cmp.Lexicographic.{nat_list_eq_equiv, nat_list_cmp_total, texts_ties, texts_po};
+ghost use Rattle.semantics.specs.Texts.{is_key, table_of, text_cmp, same};
+
+use crate::table::{find_table, names_table};
+use memory::OutOfMemory;
+use std::alloc::Global;
+use std::cmp::Ordering;
+use std::marker::Model;
+use std::sync::ArcStr;
+
+/// The most bytes of a key.
+pub const MOST_KEY_BYTES: usize = 512;
+
+/// A key: UTF-8 text of at most 512 bytes, which begins with a table's name of 1 to 64 bytes and `|`. Keys are in byte
+/// order. A copy shares the text.
+#[derive(Debug, Drop)]
+pub struct Key {
+    text: ArcStr,
+}
+
+impl Model for Key {
+    ghost use Rattle.std.specs.Prelude.{◌≡◌, List, ℕ, true};
+    ghost use Rattle.std.specs.Arc.{arc_str_bytes};
+    ghost use Rattle.semantics.specs.Texts.{is_key};
+
+    ghost Value = { List ℕ };
+
+    ghost view = { λ k. arc_str_bytes k.text };
+
+    ghost invariant = { λ k. is_key (arc_str_bytes k.text) ≡ true };
+}
+
+/// Why a text was not taken as a key.
+#[derive(Clone, Copy, Debug, PartialEq, Eq)]
+pub enum KeyFault {
+    /// The text is no key.
+    BadKey,
+    /// No memory was found for it.
+    OutOfMemory,
+}
+
+impl Key {
+    /// The text as a key, which is copied once. Linear in its length.
+    ///
+    /// `BadKey` comes exactly where the text has more than 512 bytes or does not begin with a table's name of 1 to 64
+    /// bytes and `|`.
+    pub fn read(alloc: Global, text: &str) -> Result<Key, KeyFault>
+        ensures ok { IfOk result (λ key. (key ≡ text.now) × (is_key text.now ≡ true)) }
+        ensures bad_key { (result ≡ Err KeyFault.BadKey) ↔ (is_key text.now ≡ false) }
+    {
+        if text.len() > MOST_KEY_BYTES || !names_table(text) {
+            return Err(KeyFault::BadKey);
+        }
+        match ArcStr::from_str(alloc, text) {
+            Ok(text) => Ok(Key { text }),
+            Err(_) => Err(KeyFault::OutOfMemory),
+        }
+    }
+
+    /// The text of the key.
+    pub fn text(&self) -> &str
+        ensures text { result.now ≡ self.now }
+        ensures is_key { is_key self.now ≡ true }
+    {
+        self.text.as_str()
+    }
+
+    /// The name of the key's table: what stands before its first `|`. Linear in the name.
+    pub fn table(&self) -> &str
+        ensures { result.now ≡ table_of self.now }
+    {
+        match find_table(self.text()) {
+            Some(table) => table,
+            None => unreachable!(),
+        }
+    }
+
+    /// An equal key, which shares the text. It takes constant time.
+    pub fn copy(&self) -> Result<Key, OutOfMemory>
+        ensures { IfOk result (λ copy. copy ≡ self.now) }
+    {
+        let text = self.text.clone()?;
+        Ok(Key { text })
+    }
+}
+
+impl PartialEq for Key {
+    ghost eq = { λ x y. same x y };
+
+    ghost laws = { partial_equiv_from_equiv nat_list_eq_equiv };
+
+    fn eq(&self, other: &Self) -> bool {
+        self.text() == other.text()
+    }
+}
+
+impl Eq for Key {
+    ghost laws = { nat_list_eq_equiv };
+}
+
+impl PartialOrd for Key {
+    ghost partial_cmp = { λ x y. Some (text_cmp x y) };
+
+    ghost laws = { texts_po };
+
+    fn partial_cmp(&self, other: &Self) -> Option<Ordering> {
+        Some(self.cmp(other))
+    }
+}
+
+impl Ord for Key {
+    ghost cmp = { λ x y. text_cmp x y };
+
+    ghost total = { nat_list_cmp_total };
+
+    ghost matches_partial_cmp = { λ x y. refl };
+
+    ghost matches_eq = { λ x y. texts_ties x y };
+
+    fn cmp(&self, other: &Self) -> Ordering {
+        self.text().cmp(other.text())
+    }
+}

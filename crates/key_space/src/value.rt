@@ -1,0 +1,72 @@
+// Values.
+ghost use Rattle.std.specs.Prelude.{◌≡◌, ◌↔◌, IfOk, true, false};
+ghost use Rattle.semantics.specs.Texts.{is_value};
+
+use memory::OutOfMemory;
+use std::alloc::Global;
+use std::marker::Model;
+use std::sync::ArcStr;
+
+/// The most bytes of a value.
+pub const MOST_VALUE_BYTES: usize = 65_536;
+
+/// A value: UTF-8 text of at most 65,536 bytes. A copy shares the text.
+#[derive(Debug, Drop)]
+pub struct Value {
+    text: ArcStr,
+}
+
+impl Model for Value {
+    ghost use Rattle.std.specs.Prelude.{◌≡◌, List, ℕ, true};
+    ghost use Rattle.std.specs.Arc.{arc_str_bytes};
+    ghost use Rattle.semantics.specs.Texts.{is_value};
+
+    ghost Value = { List ℕ };
+
+    ghost view = { λ v. arc_str_bytes v.text };
+
+    ghost invariant = { λ v. is_value (arc_str_bytes v.text) ≡ true };
+}
+
+/// Why a text was not taken as a value.
+#[derive(Clone, Copy, Debug, PartialEq, Eq)]
+pub enum ValueFault {
+    /// The text has more than 65,536 bytes.
+    BadValue,
+    /// No memory was found for it.
+    OutOfMemory,
+}
+
+impl Value {
+    /// The text as a value, which is copied once. Linear in its length.
+    ///
+    /// `BadValue` comes exactly where the text has more than 65,536 bytes.
+    pub fn read(alloc: Global, text: &str) -> Result<Value, ValueFault>
+        ensures ok { IfOk result (λ value. (value ≡ text.now) × (is_value text.now ≡ true)) }
+        ensures bad_value { (result ≡ Err ValueFault.BadValue) ↔ (is_value text.now ≡ false) }
+    {
+        if text.len() > MOST_VALUE_BYTES {
+            return Err(ValueFault::BadValue);
+        }
+        match ArcStr::from_str(alloc, text) {
+            Ok(text) => Ok(Value { text }),
+            Err(_) => Err(ValueFault::OutOfMemory),
+        }
+    }
+
+    /// The text of the value.
+    pub fn text(&self) -> &str
+        ensures text { result.now ≡ self.now }
+        ensures is_value { is_value self.now ≡ true }
+    {
+        self.text.as_str()
+    }
+
+    /// An equal value, which shares the text. It takes constant time.
+    pub fn copy(&self) -> Result<Value, OutOfMemory>
+        ensures { IfOk result (λ copy. copy ≡ self.now) }
+    {
+        let text = self.text.clone()?;
+        Ok(Value { text })
+    }
+}

@@ -1,0 +1,67 @@
+use Rattle.std.proofs.Common.{◌≡◌, ◌<◌, ◌≤◌, true, length, drop, sym, ap, ◌∙◌, arith}
+use Rattle.std.specs.List.{list_all}
+use Rattle.std.proofs.lemmas.List.{length-map}
+use Rattle.semantics.specs.Patterns.{Pattern, is_segment, bind, take_all}
+use Rattle.semantics.proofs.PatternLemmas.{segments_of_pattern}
+use Rattle.key_pattern.specs.Plain.{plain_segment, plain_segments}
+use Rattle.key_pattern.specs.Pieces.{segments_left}
+use Rattle.key_pattern.proofs.WalkLemmas.{seen_at, passes_at, walk_short, walk_stop, walk_more, walk_long}
+use Rattle.key_pattern.proofs.pattern.Pattern.matches.Goals as goal
+
+pub returns-in_err-left-clause-binds : goal.returns-in_err-left-clause-binds
+returns-in_err-left-clause-binds c =
+    let items = c.deref-segment-items.result.now in
+    let p : Pattern = plain_segments items in
+    let i = c.loop-segment.segment-index in
+    let within : i < length p = omega (arith, c.loop-segment-test.true, length-map items plain_segment) in
+    c.from_residual.ensures ∙ sym (
+    ap (λ q. bind q c.args.key.now c.args.given.now) (sym (ap plain_segments c.deref-segment-items.ensures.value ∙ c.self.view_is))
+    ∙ sym c.loop-segment.invariant
+    ∙ ap (λ l. take_all (drop i p) (segments_left l) c.loop-segment.found) c.in_err-left.was
+    ∙ walk_short p i c.loop-segment.found within)
+
+pub take-requires-clause-segment : goal.take-requires-clause-segment
+take-requires-clause-segment c =
+    let items = c.deref-segment-items.result.now in
+    let i = c.loop-segment.segment-index in
+    let within : i < length (plain_segments items) = omega (arith, c.loop-segment-test.true, length-map items plain_segment) in
+    let fine : list_all is_segment (plain_segments items) ≡ true =
+    ap (λ v. list_all is_segment (plain_segments v)) c.deref-segment-items.ensures.value ∙ segments_of_pattern (plain_segments c.self.inside.segments.items) c.self.invariant in
+    passes_at is_segment (plain_segments items) i (plain_segment c.segment-item.result) fine within
+    (seen_at plain_segment items i c.segment-item.result c.loop-segment-test.true c.segment-item.is)
+
+pub returns-in_err-found-clause-binds : goal.returns-in_err-found-clause-binds
+returns-in_err-found-clause-binds c =
+    let items = c.deref-segment-items.result.now in
+    let p : Pattern = plain_segments items in
+    let i = c.loop-segment.segment-index in
+    let within : i < length p = omega (arith, c.loop-segment-test.true, length-map items plain_segment) in
+    c.from_residual-in_err-found.ensures ∙ sym (
+    ap (λ q. bind q c.args.key.now c.args.given.now) (sym (ap plain_segments c.deref-segment-items.ensures.value ∙ c.self.view_is))
+    ∙ sym c.loop-segment.invariant
+    ∙ walk_stop p i (plain_segment c.segment-item.result) c.first_segment.result.0.now (segments_left c.first_segment.result.1) (segments_left c.loop-segment.left) c.loop-segment.found
+    within (seen_at plain_segment items i c.segment-item.result c.loop-segment-test.true c.segment-item.is)
+    (ap segments_left c.in_ok-left.was ∙ c.first_segment.ensures.parts) (sym c.in_err-found.ensures))
+
+pub loop-segment-preserved : goal.loop-segment-preserved
+loop-segment-preserved c =
+    let items = c.deref-segment-items.result.now in
+    let p : Pattern = plain_segments items in
+    let i = c.loop-segment.segment-index in
+    let within : i < length p = omega (arith, c.loop-segment-test.true, length-map items plain_segment) in
+    walk_more p i (plain_segment c.segment-item.result) c.first_segment.result.0.now (segments_left c.first_segment.result.1) (segments_left c.loop-segment.left) c.loop-segment.found c.in_ok-found.found
+    within (seen_at plain_segment items i c.segment-item.result c.loop-segment-test.true c.segment-item.is)
+    (ap segments_left c.in_ok-left.was ∙ c.first_segment.ensures.parts) (sym c.in_ok-found.ensures)
+    ∙ c.loop-segment.invariant
+
+pub returns-in-Some-clause-binds : goal.returns-in-Some-clause-binds
+returns-in-Some-clause-binds c =
+    let items = c.deref-segment-items.result.now in
+    let p : Pattern = plain_segments items in
+    let i = c.loop-segment.segment-index in
+    let end : length p ≤ i = omega (arith, c.loop-segment-test.false, length-map items plain_segment) in
+    sym (
+    ap (λ q. bind q c.args.key.now c.args.given.now) (sym (ap plain_segments c.deref-segment-items.ensures.value ∙ c.self.view_is))
+    ∙ sym c.loop-segment.invariant
+    ∙ ap (λ l. take_all (drop i p) (segments_left l) c.loop-segment.found) c.in-Some.is
+    ∙ walk_long p i c.in-Some.field-0.now c.loop-segment.found end)

@@ -1,0 +1,87 @@
+// How a segment takes and gives a text, and how a key's text is cut into segments and joined of them.
+ghost use Rattle.std.specs.Prelude.{◌≡◌, IfOk, IsSome, true, false};
+ghost use Rattle.std.specs.String.{string_bytes};
+ghost use Rattle.semantics.specs.Texts.{has_bar};
+ghost use Rattle.semantics.specs.Patterns.{is_segment, taken, takes_width, segment_text};
+ghost use Rattle.key_pattern.specs.Plain.{plain_segment, plain_segments};
+ghost use Rattle.key_pattern.specs.Places.{CanFill};
+ghost use Rattle.key_pattern.specs.Pieces.{CutsFirst, AddsSegment, Joins};
+
+use crate::segment::Segment;
+use crate::slots::Slots;
+use memory::OutOfMemory;
+use std::alloc::Global;
+
+/// The first segment of a text, and what is left after its `|`, if there is one. Linear in the segment.
+pub fn first_segment(text: &str) -> (&str, Option<&str>)
+    ensures { CutsFirst text.now result.0.now result.1 }
+{
+    match text.split_once('|') {
+        None => (text, None),
+        Some((first, rest)) => (first, Some(rest)),
+    }
+}
+
+/// Whether a slot of the width takes the text: it is not empty, and has the width where that is not 0.
+pub fn takes_width(width: u8, text: &str) -> bool
+    ensures { result ≡ takes_width width text.now }
+{
+    1 <= text.len() && (width == 0 || text.len() == usize::from(width))
+}
+
+/// The slots after the segment has taken the text; none where it does not take it.
+pub fn take<'a>(segment: &Segment, text: &'a str, given: &Slots<'a>) -> Option<Slots<'a>>
+    requires segment { is_segment (plain_segment segment.now) ≡ true }
+    requires text { has_bar text.now ≡ false }
+    ensures { result ≡ taken (plain_segment segment.now) text.now given.now }
+{
+    match segment {
+        Segment::Literal(literal) => {
+            if literal.as_str() == text {
+                Some(given.copy())
+            } else {
+                None
+            }
+        }
+        Segment::Slot { place, width } => {
+            if !takes_width(*width, text) {
+                return None;
+            }
+            match given.at(*place) {
+                None => Some(given.with(*place, text)),
+                Some(there) => if there == text {
+                    Some(given.copy())
+                } else {
+                    None
+                },
+            }
+        }
+    }
+}
+
+/// Puts the text that the segment has under the slots at the end. Want of memory leaves the text at any length.
+fn push_segment(text: &mut String, segment: &Segment, slots: &Slots<'_>) -> Result<(), OutOfMemory>
+    requires { IsSome (segment_text (plain_segment segment.now) slots.now) }
+    ensures { IfOk result (λ _. AddsSegment (plain_segment segment.now) slots.now (string_bytes text.old) (string_bytes text.new)) }
+{
+    match segment {
+        Segment::Literal(literal) => text.push_str(literal.as_str())?,
+        Segment::Slot { place, .. } => text.push_str(slots.at(*place).unwrap())?,
+    }
+    Ok(())
+}
+
+/// The texts of the segments under the slots, with `|` between each two. Linear in the text.
+pub fn join(alloc: Global, segments: &[Segment], slots: &Slots<'_>) -> Result<String, OutOfMemory>
+    requires { CanFill (plain_segments segments.now) slots.now }
+    ensures { IfOk result (λ text. Joins (plain_segments segments.now) slots.now (string_bytes text)) }
+{
+    let mut text = String::new(alloc);
+    let mut separator = "";
+    for segment in segments {
+        text.push_str(separator)?;
+        push_segment(&mut text, segment, slots)?;
+        separator = "|";
+    }
+    Ok(text)
+}

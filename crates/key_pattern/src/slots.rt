@@ -1,0 +1,137 @@
+// Texts for the slots of patterns, by place.
+ghost use Rattle.std.specs.Prelude.{◌≡◌, IfOk, Some, ◌<◌, slice_set, option_map};
+ghost use Rattle.std.specs.Option.{option_copied};
+ghost use Rattle.std.specs.String.{string_bytes};
+ghost use Rattle.semantics.specs.Patterns.{no_slots, text_at};
+ghost use Rattle.key_pattern.specs.Places.{AreSlots, IsSegmentText};
+
+use memory::OutOfMemory;
+use std::alloc::Global;
+use std::marker::Model;
+
+/// Texts that are lent to some of 16 places, none of them empty and none with a `|`.
+#[derive(Debug, Drop)]
+pub struct Slots<'a> {
+    texts: [Option<&'a str>; 16],
+}
+
+impl<'a> Model for Slots<'a> {
+    ghost use Rattle.semantics.specs.Patterns as plain;
+    ghost use Rattle.key_pattern.specs.Places.{lent_texts, AreSlots};
+
+    ghost Value = { plain.Slots };
+
+    ghost view = { λ s. lent_texts s.texts };
+
+    ghost invariant = { λ s. AreSlots (lent_texts s.texts) };
+}
+
+impl<'a> Slots<'a> {
+    /// The slots with no text.
+    pub fn none() -> Slots<'a>
+        ensures { result ≡ no_slots }
+    {
+        Slots { texts: [None; 16] }
+    }
+
+    /// The text at a place; none where no text was given to it, as at the places from 16 on.
+    pub fn at(&self, place: u8) -> Option<&'a str>
+        ensures text { option_copied result ≡ text_at place self.now }
+        ensures slots { AreSlots self.now }
+    {
+        let place = usize::from(place);
+        if place < self.texts.len() {
+            self.texts[place]
+        } else {
+            None
+        }
+    }
+
+    /// Equal slots, whose texts are lent by the same owners.
+    pub fn copy(&self) -> Slots<'a>
+        ensures copy { result ≡ self.now }
+        ensures slots { AreSlots self.now }
+    {
+        Slots { texts: self.texts }
+    }
+
+    /// The slots with this text at the place, whatever stood there.
+    pub(crate) fn with(&self, place: u8, text: &'a str) -> Slots<'a>
+        requires place { place < 16 }
+        requires text { IsSegmentText text.now }
+        ensures { result ≡ slice_set self.now place (Some text.now) }
+    {
+        let mut texts = self.texts;
+        texts[usize::from(place)] = Some(text);
+        Slots { texts }
+    }
+}
+
+/// Slots that own their texts.
+#[derive(Debug, Drop)]
+pub struct SlotTexts {
+    texts: Vec<Option<String>>,
+}
+
+impl Model for SlotTexts {
+    ghost use Rattle.semantics.specs.Patterns as plain;
+    ghost use Rattle.key_pattern.specs.Places.{owned_texts, AreSlots};
+
+    ghost Value = { plain.Slots };
+
+    ghost view = { λ s. owned_texts s.texts.items };
+
+    ghost invariant = { λ s. AreSlots (owned_texts s.texts.items) };
+}
+
+impl SlotTexts {
+    /// The texts of the slots, which are copied once.
+    pub fn of(alloc: Global, slots: &Slots<'_>) -> Result<SlotTexts, OutOfMemory>
+        ensures { IfOk result (λ texts. texts ≡ slots.now) }
+    {
+        let mut texts = Vec::with_capacity(alloc, 16)?;
+        for text in slots.texts.iter() {
+            texts.push(own(alloc, *text)?)?;
+        }
+        Ok(SlotTexts { texts })
+    }
+
+    /// The slots, whose texts are lent.
+    pub fn lend(&self) -> Slots<'_>
+        ensures lent { result ≡ self.now }
+        ensures slots { AreSlots self.now }
+    {
+        let mut texts = [None; 16];
+        for (place, text) in self.texts.iter().enumerate() {
+            texts[place] = lend(text);
+        }
+        Slots { texts }
+    }
+
+    /// Equal slots, whose texts are copied.
+    pub fn copy(&self, alloc: Global) -> Result<SlotTexts, OutOfMemory>
+        ensures { IfOk result (λ copy. copy ≡ self.now) }
+    {
+        SlotTexts::of(alloc, &self.lend())
+    }
+}
+
+/// A copy of the text, if there is one.
+fn own(alloc: Global, text: Option<&str>) -> Result<Option<String>, OutOfMemory>
+    ensures { IfOk result (λ own. option_map string_bytes own ≡ option_copied text.entry) }
+{
+    match text {
+        None => Ok(None),
+        Some(text) => Ok(Some(String::from_str(alloc, text)?)),
+    }
+}
+
+/// The text, if there is one, which is lent.
+fn lend(text: &Option<String>) -> Option<&str>
+    ensures { option_copied result ≡ option_map string_bytes text.now }
+{
+    match text {
+        None => None,
+        Some(text) => Some(text.as_str()),
+    }
+}

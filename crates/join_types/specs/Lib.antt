@@ -1,0 +1,3 @@
+pub mod Plain
+pub mod Writes
+pub mod Causes

@@ -1,0 +1,42 @@
+// Why a text was not read as a join.
+ghost use Rattle.std.specs.Prelude.{◌≡◌};
+ghost use Rattle.join_lang.specs.declared.fault.ParseFault.TheVariants.{OutOfMemory as NoMemory};
+
+use memory::OutOfMemory;
+use std::alloc::{AllocError, AllocFailed};
+use thiserror::Error;
+
+/// Why a text was not read as a join.
+#[derive(Debug, Drop, Error)]
+pub enum ParseFault {
+    /// The text is no join; `at` is the first byte of the first token that is not accepted in its place.
+    #[error("the text is no join: byte {at} is not accepted")]
+    Syntax { at: usize },
+    /// No memory was found for the join.
+    #[error("out of memory")]
+    OutOfMemory,
+}
+
+impl From<OutOfMemory> for ParseFault {
+    ghost from_gives = { λ _ fault. fault ≡ NoMemory };
+
+    fn from(_want: OutOfMemory) -> Self {
+        ParseFault::OutOfMemory
+    }
+}
+
+impl From<AllocError> for ParseFault {
+    ghost from_gives = { λ _ fault. fault ≡ NoMemory };
+
+    fn from(_error: AllocError) -> Self {
+        ParseFault::OutOfMemory
+    }
+}
+
+impl<T: Drop> From<AllocFailed<T>> for ParseFault {
+    ghost from_gives = { λ _ fault. fault ≡ NoMemory };
+
+    fn from(_failed: AllocFailed<T>) -> Self {
+        ParseFault::OutOfMemory
+    }
+}

@@ -1,0 +1,12 @@
+// The laws on the text of a join. Each function has an empty body, and its contract is the law.
+ghost use Rattle.join_lang.specs.JoinTextLaws.{ReadsJoins, ReadsBack};
+
+/// What a text is read as is a join.
+pub fn reads_joins()
+    ensures { ReadsJoins }
+{}
+
+/// The canonical text of a join that was read is read as that join.
+pub fn reads_back()
+    ensures { ReadsBack }
+{}

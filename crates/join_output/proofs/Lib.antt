@@ -1,0 +1,6 @@
+pub mod NumberLemmas
+pub mod MapLemmas
+pub mod ListLemmas
+pub mod GroupLemmas
+pub mod SlotLemmas
+pub mod EvaluationLemmas

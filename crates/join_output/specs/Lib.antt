@@ -1,0 +1,4 @@
+pub mod Numbers
+pub mod Merging
+pub mod Groups
+pub mod Evaluation

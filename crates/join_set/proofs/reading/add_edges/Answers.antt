@@ -1,0 +1,31 @@
+use Rattle.std.proofs.Common.{◌≤◌, ◌∙◌, length, true, false, sym, ap, append-nil, arith}
+use Rattle.semantics.specs.Joins.{reads_output}
+use Rattle.semantics.specs.Histories.{Standing}
+use Rattle.join_set.proofs.ReadingLemmas.{edges_step, edges_last}
+use Rattle.join_set.proofs.reading.add_edges.Goals as goal
+use Rattle.join_set.proofs.reading.add_edges.Goals.{then-reads_output+in_ok-push, else-reads_output}
+
+pub loop-other-preserved : goal.loop-other-preserved
+loop-other-preserved c =
+    let at = ap (λ (s : Standing). reads_output c.args.reader.now s.join) (sym c.stands.view_is) ∙ sym c.reads_output.ensures in
+    elim c.if-reads_output.branch [
+      | then-reads_output+in_ok-push w ↦
+          (let step = edges_step c.args.number c.args.reader.now c.args.joins.now c.loop-other.other c.index-joins-other.result true c.args.edges.now.items c.loop-other.edges.items c.loop-other-test.true c.index-joins-other.is (at ∙ w.if-reads_output.true) c.loop-other.invariant in
+          cc (w.in_ok-push.ensures.items, step))
+      | else-reads_output w ↦
+          (let step = edges_step c.args.number c.args.reader.now c.args.joins.now c.loop-other.other c.index-joins-other.result false c.args.edges.now.items c.loop-other.edges.items c.loop-other-test.true c.index-joins-other.is (at ∙ w.if-reads_output.false) c.loop-other.invariant in
+          let none = append-nil c.loop-other.edges.items in
+          cc (none, step))
+    ]
+
+pub returns-in_ok-push-2 : goal.returns-in_ok-push-2
+returns-in_ok-push-2 c = λ at.
+    let all : length c.args.joins.now ≤ c.loop-other.other = omega arith in
+    c.in_ok-push-2.ensures.items
+    ∙ edges_last c.args.number c.args.reader.now c.args.joins.now c.loop-other.other at c.args.join.now true c.args.edges.now.items c.loop-other.edges.items all (sym c.reads_output-2.ensures ∙ c.if-reads_output-2.true) c.loop-other.invariant
+
+pub returns-else-reads_output-2 : goal.returns-else-reads_output-2
+returns-else-reads_output-2 c = λ at.
+    let all : length c.args.joins.now ≤ c.loop-other.other = omega arith in
+    sym (append-nil c.loop-other.edges.items)
+    ∙ edges_last c.args.number c.args.reader.now c.args.joins.now c.loop-other.other at c.args.join.now false c.args.edges.now.items c.loop-other.edges.items all (sym c.reads_output-2.ensures ∙ c.if-reads_output-2.false) c.loop-other.invariant

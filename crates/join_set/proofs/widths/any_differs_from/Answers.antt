@@ -1,0 +1,14 @@
+use Rattle.std.proofs.Common.{◌∙◌, ◌++◌, rules}
+use Rattle.std.proofs.lemmas.Iterator.{YieldsList-from_slice}
+use Rattle.std.proofs.lemmas.Iterator.Search.{any_from_yields_List}
+use borrow.Author.Tests.{tests}
+use Rattle.key_pattern.specs.Plain.{plain_segment}
+use Rattle.semantics.specs.Joins.{slots_of, source_slots_of}
+use Rattle.join_set.specs.SlotTests.{is_slot_with, differs_within}
+use Rattle.join_set.proofs.SlotLemmas.{any_slots}
+use Rattle.join_set.proofs.widths.any_differs_from.Goals as goal
+
+pub returns : goal.returns
+returns c =
+    any_from_yields_List (λ s. is_slot_with (differs_within (slots_of c.args.output.now ++ source_slots_of c.args.sources.now)) (plain_segment s)) _ _ c.any.result c.any.ensures.ran (YieldsList-from_slice c.segments.result.now cc) (λ x b q k. search (rules, tests))
+    ∙ any_slots (differs_within (slots_of c.args.output.now ++ source_slots_of c.args.sources.now)) c.segments.result.now c.args.pattern.now c.segments.ensures.segments

@@ -1,0 +1,50 @@
+// Why a join may not be added to a set.
+ghost use Rattle.std.specs.Prelude.{◌≡◌};
+ghost use Rattle.join_set.specs.declared.fault.AddFault.TheVariants.{OutOfMemory as NoMemory};
+
+use join_types::Positions;
+use memory::OutOfMemory;
+use std::alloc::AllocFailed;
+use thiserror::Error;
+
+/// Why a join may not be added to a set of joins.
+#[derive(Debug, Drop, Error)]
+pub enum AddFault {
+    /// The join breaks the rule on slots.
+    #[error("the join breaks the rule on slots")]
+    Slots,
+    /// The join breaks the rule on sources.
+    #[error("the join breaks the rule on sources")]
+    Sources,
+    /// The output overlaps that of the join at this position, the least such.
+    #[error("the output overlaps that of the join at position {0}")]
+    Clash(u64),
+    /// With the join the reading would have a cycle: the shortest through it, and among these the least.
+    #[error("the joins at the positions {:?} would read each other in a cycle", .0.as_slice())]
+    Cycle(Positions),
+    /// Some rank would be above 7.
+    #[error("some rank would be above 7")]
+    Deep,
+    /// 64 joins stand already.
+    #[error("64 joins stand already")]
+    Many,
+    /// No memory was found.
+    #[error("out of memory")]
+    OutOfMemory,
+}
+
+impl From<OutOfMemory> for AddFault {
+    ghost from_gives = { λ _ fault. fault ≡ NoMemory };
+
+    fn from(_want: OutOfMemory) -> Self {
+        AddFault::OutOfMemory
+    }
+}
+
+impl<T: Drop> From<AllocFailed<T>> for AddFault {
+    ghost from_gives = { λ _ fault. fault ≡ NoMemory };
+
+    fn from(_failed: AllocFailed<T>) -> Self {
+        AddFault::OutOfMemory
+    }
+}

@@ -1,0 +1,24 @@
+// The sets of joins that may stand, why a join may not be added to one, and the verdict of a write.
+//
+// It stands on `memory`, `key_space`, `key_pattern`, `join_types`, `rank_order` and, for its definitions, on `semantics`.
+// The layers above may use the rules on joins, `JoinSet` and `Standing`: contracts see a set as the list of its joins with
+// their positions, and `Standing` as what it keeps of a history.
+#![tactic(auto)]
+
+pub mod fault;
+mod places;
+mod reading;
+pub mod rules;
+pub mod set;
+pub mod standing;
+mod stands;
+mod weighing;
+mod widths;
+
+pub use fault::AddFault;
+pub use rules::{keeps_slot_rule, keeps_source_rule, reads_output};
+pub use set::JoinSet;
+pub use standing::Standing;
+
+#[cfg(test)]
+mod tests;

@@ -1,0 +1,103 @@
+// Whether a join may be added to a set, and the ranks that the set then has.
+ghost use Rattle.std.specs.Prelude.{◌≡◌, ◌≤◌, IfOk, IfErr, None, length, map, nat_lt};
+ghost use Rattle.std.specs.List.{All, list_any};
+ghost use Rattle.semantics.specs.Joins.{Join as PlainJoin};
+ghost use Rattle.semantics.specs.States.{IsAdmissible, ranks_of};
+ghost use Rattle.semantics.specs.Verdicts.{cycle_cause, join_cause, joined};
+ghost use Rattle.join_set.specs.Faults.{IsFaultOf};
+ghost use Rattle.join_set.specs.Sets.{position_at, IsRankedWith};
+
+use crate::fault::AddFault;
+use crate::reading::edges;
+use crate::rules::{keeps_slot_rule, keeps_source_rule};
+use crate::stands::{Stands, clash};
+use join_types::{Join, Positions};
+use memory::OutOfMemory;
+use rank_order::ranked::{Ranked, ranks};
+use std::alloc::Global;
+
+/// The greatest rank of a join.
+pub const MOST_RANK: u64 = 7;
+
+/// The most joins of a set.
+pub const MOST_JOINS: usize = 64;
+
+/// The position of the join with the number, of which the last is that of the new join.
+fn position(joins: &[Stands], at: u64, number: usize) -> u64
+    requires { number ≤ length joins.now }
+    ensures { (join : PlainJoin) → result ≡ position_at (joined joins.now at join) number }
+{
+    if number < joins.len() {
+        let stands = &joins[number];
+        stands.position
+    } else {
+        at
+    }
+}
+
+/// The positions of the joins with these numbers, of which the last is that of the new join.
+fn positions(
+    alloc: Global,
+    joins: &[Stands],
+    at: u64,
+    numbers: &[usize],
+) -> Result<Positions, OutOfMemory>
+    requires { All (λ number. number ≤ length joins.now) numbers.now }
+    ensures { IfOk result (λ found. (join : PlainJoin) → found ≡ map (position_at (joined joins.now at join)) numbers.now) }
+{
+    let mut found = Vec::with_capacity(alloc, numbers.len())?;
+    for &number in numbers {
+        found.push(position(joins, at, number))?;
+    }
+    Ok(Positions::of(found))
+}
+
+/// The ranks of the set with the new join, or the cycle of its reading. Each join is held against each, and the ranks
+/// cost what those of a graph do.
+fn rank_with(alloc: Global, joins: &[Stands], at: u64, join: &Join) -> Result<Vec<u64>, AddFault>
+    requires { IsAdmissible joins.now }
+    ensures ok { IfOk result (λ ranks. IsRankedWith joins.now at join.now ranks.items) }
+    ensures err { IfErr result (λ fault. IsFaultOf fault (cycle_cause (length joins.now) (joined joins.now at join.now))) }
+{
+    let edges = edges(alloc, joins, join)?;
+    match ranks(alloc, joins.len() + 1, edges.as_slice(), joins.len())? {
+        Ranked::Ranks(ranks) => Ok(ranks),
+        Ranked::Cycle(cycle) => {
+            Err(AddFault::Cycle(positions(alloc, joins, at, cycle.as_slice())?))
+        }
+    }
+}
+
+/// Whether some rank is above the greatest that a join may have.
+fn are_deep(ranks: &[u64]) -> bool
+    ensures { result ≡ list_any (nat_lt 7) ranks.now }
+{
+    ranks.iter().any(|rank| *rank > MOST_RANK)
+}
+
+/// The ranks of the set with the new join, or why the join may not be added: the first that holds of the rules on slots
+/// and on sources, a clash, a cycle, a rank above 7, and 64 joins that stand. Each join is held against each.
+pub fn weigh(alloc: Global, joins: &[Stands], at: u64, join: &Join) -> Result<Vec<u64>, AddFault>
+    requires { IsAdmissible joins.now }
+    ensures ok { IfOk result (λ ranks. ranks.items ≡ ranks_of (joined joins.now at join.now)) }
+    ensures free { IfOk result (λ ranks. join_cause joins.now at join.now ≡ None) }
+    ensures err { IfErr result (λ fault. IsFaultOf fault (join_cause joins.now at join.now)) }
+{
+    if !keeps_slot_rule(join) {
+        return Err(AddFault::Slots);
+    }
+    if !keeps_source_rule(join) {
+        return Err(AddFault::Sources);
+    }
+    if let Some(position) = clash(joins, join) {
+        return Err(AddFault::Clash(position));
+    }
+    let ranks = rank_with(alloc, joins, at, join)?;
+    if are_deep(ranks.as_slice()) {
+        return Err(AddFault::Deep);
+    }
+    if joins.len() >= MOST_JOINS {
+        return Err(AddFault::Many);
+    }
+    Ok(ranks)
+}

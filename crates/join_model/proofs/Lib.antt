@@ -1,0 +1,4 @@
+pub mod EnteredLemmas
+mod HidingLemmas
+mod ReplayLemmas
+mod RankLemmas

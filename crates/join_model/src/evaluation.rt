@@ -1,0 +1,61 @@
+// The state after a history, and what a reader asks of it.
+ghost use Rattle.std.specs.Prelude.{◌≡◌, IfOk};
+ghost use Rattle.semantics.specs.Texts.{value_at, pairs_within};
+ghost use Rattle.semantics.specs.States.{state};
+ghost use Rattle.semantics.specs.Verdicts.{AllEntered};
+
+use crate::hiding::hide_computed;
+use crate::outputs::rank_outputs;
+use crate::replay::{Left, replay};
+use join_output::Table;
+use join_types::{Entry, Pair};
+use key_space::{Key, Range, Value};
+use memory::OutOfMemory;
+use std::alloc::Global;
+
+/// The number of ranks that a join may have, from 0.
+pub const RANKS: u8 = 8;
+
+/// The state after the entries, each of which entered at its place: the base pairs that no output hides, with the outputs
+/// of the joins, rank by rank upwards. Each join is evaluated as it is defined, over the whole table: that takes the
+/// table's size to the power of the number of its sources.
+pub fn state(alloc: Global, entries: &[Entry]) -> Result<Table, OutOfMemory>
+    requires { AllEntered entries.now }
+    ensures { IfOk result (λ table. table ≡ state entries.now) }
+{
+    let Left {
+        standing,
+        base: mut table,
+    } = replay(alloc, entries)?;
+    let joins = standing.joins();
+    hide_computed(&mut table, joins);
+    for rank in 0..RANKS {
+        let outputs = rank_outputs(alloc, joins, rank, &table)?;
+        table.merge(outputs)?;
+    }
+    Ok(table)
+}
+
+/// Copies of the pairs of the state after the entries whose keys lie in the range, in order. It costs what `state` does.
+pub fn afresh(alloc: Global, entries: &[Entry], range: &Range) -> Result<Vec<Pair>, OutOfMemory>
+    requires { AllEntered entries.now }
+    ensures { IfOk result (λ pairs. pairs.items ≡ pairs_within range.now (state entries.now)) }
+{
+    state(alloc, entries)?.within(alloc, range)
+}
+
+/// A copy of the value at the key in the state after the entries. It costs what `state` does.
+pub fn value_afresh(
+    alloc: Global,
+    entries: &[Entry],
+    key: &Key,
+) -> Result<Option<Value>, OutOfMemory>
+    requires { AllEntered entries.now }
+    ensures { IfOk result (λ value. value ≡ value_at key.now (state entries.now)) }
+{
+    let table = state(alloc, entries)?;
+    match table.get(key) {
+        None => Ok(None),
+        Some(value) => Ok(Some(value.copy()?)),
+    }
+}

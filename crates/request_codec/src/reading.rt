@@ -1,0 +1,246 @@
+// Requests from lines.
+ghost use Rattle.std.specs.Prelude.{◌≡◌, IfOk, IfErr, Some, Ok, length, map, slice_get, option_map, option_and_then};
+ghost use Rattle.serde_json.specs.View.{view, items_view};
+ghost use Rattle.protocol.specs.Requests.{json_of, text_of, texts_of_items, put_request, remove_request, get_request, scan_request, join_or_syntax, request_of_one, request_of_two, request_of_three, request_of_form, request_of_value, request_of_json, request_of};
+ghost use Rattle.protocol.specs.JoinText.{read_join};
+ghost use Rattle.request_codec.specs.Plain.{plain_request, IsFaultOf};
+
+use crate::request::{LineFault, Request};
+use join_lang::{ParseFault, parse};
+use key_space::{Key, KeyFault, Range, RangeFault, Value, ValueFault};
+use serde_json::Value as Json;
+use std::alloc::Global;
+
+/// The request to put a value at a key.
+fn read_put(alloc: Global, key: &str, value: &str) -> Result<Request, LineFault>
+    ensures request { IfOk result (λ request. put_request key.now value.now ≡ Ok (plain_request request)) }
+    ensures fault { IfErr result (IsFaultOf (put_request key.now value.now)) }
+{
+    let key = match Key::read(alloc, key) {
+        Ok(key) => key,
+        Err(KeyFault::BadKey) => return Err(LineFault::Key),
+        Err(KeyFault::OutOfMemory) => return Err(LineFault::OutOfMemory),
+    };
+    match Value::read(alloc, value) {
+        Ok(value) => Ok(Request::Put(key, value)),
+        Err(ValueFault::BadValue) => Err(LineFault::Value),
+        Err(ValueFault::OutOfMemory) => Err(LineFault::OutOfMemory),
+    }
+}
+
+/// The request to remove a key.
+fn read_remove(alloc: Global, key: &str) -> Result<Request, LineFault>
+    ensures request { IfOk result (λ request. remove_request key.now ≡ Ok (plain_request request)) }
+    ensures fault { IfErr result (IsFaultOf (remove_request key.now)) }
+{
+    match Key::read(alloc, key) {
+        Ok(key) => Ok(Request::Remove(key)),
+        Err(KeyFault::BadKey) => Err(LineFault::Key),
+        Err(KeyFault::OutOfMemory) => Err(LineFault::OutOfMemory),
+    }
+}
+
+/// The request for the value at a key.
+fn read_get(alloc: Global, key: &str) -> Result<Request, LineFault>
+    ensures request { IfOk result (λ request. get_request key.now ≡ Ok (plain_request request)) }
+    ensures fault { IfErr result (IsFaultOf (get_request key.now)) }
+{
+    match Key::read(alloc, key) {
+        Ok(key) => Ok(Request::Get(key)),
+        Err(KeyFault::BadKey) => Err(LineFault::Key),
+        Err(KeyFault::OutOfMemory) => Err(LineFault::OutOfMemory),
+    }
+}
+
+/// The request for the pairs between two bounds.
+fn read_scan(alloc: Global, low: &str, high: &str) -> Result<Request, LineFault>
+    ensures request { IfOk result (λ request. scan_request low.now high.now ≡ Ok (plain_request request)) }
+    ensures fault { IfErr result (IsFaultOf (scan_request low.now high.now)) }
+{
+    match Range::read(alloc, low, high) {
+        Ok(range) => Ok(Request::Scan(range)),
+        Err(RangeFault::BadRange) => Err(LineFault::Range),
+        Err(RangeFault::OutOfMemory) => Err(LineFault::OutOfMemory),
+    }
+}
+
+/// The request to declare a join.
+fn read_declare(alloc: Global, text: &str) -> Result<Request, LineFault>
+    ensures request { IfOk result (λ request. join_or_syntax (read_join text.now) ≡ Ok (plain_request request)) }
+    ensures fault { IfErr result (IsFaultOf (join_or_syntax (read_join text.now))) }
+{
+    match parse(alloc, text) {
+        Ok(join) => Ok(Request::Declare(join)),
+        Err(ParseFault::Syntax { at }) => Err(LineFault::Syntax(at)),
+        Err(ParseFault::OutOfMemory) => Err(LineFault::OutOfMemory),
+    }
+}
+
+/// The request of one word.
+fn read_one(word: &str) -> Result<Request, LineFault>
+    ensures request { IfOk result (λ request. request_of_one word.now ≡ Ok (plain_request request)) }
+    ensures fault { IfErr result (IsFaultOf (request_of_one word.now)) }
+{
+    if word == "quit" {
+        Ok(Request::Quit)
+    } else {
+        Err(LineFault::Form)
+    }
+}
+
+/// The request of a word and a text.
+fn read_two(alloc: Global, word: &str, text: &str) -> Result<Request, LineFault>
+    ensures request { IfOk result (λ request. request_of_two word.now text.now ≡ Ok (plain_request request)) }
+    ensures fault { IfErr result (IsFaultOf (request_of_two word.now text.now)) }
+{
+    if word == "remove" {
+        read_remove(alloc, text)
+    } else if word == "join" {
+        read_declare(alloc, text)
+    } else if word == "get" {
+        read_get(alloc, text)
+    } else {
+        Err(LineFault::Form)
+    }
+}
+
+/// The request of a word and two texts.
+fn read_three(alloc: Global, word: &str, first: &str, second: &str) -> Result<Request, LineFault>
+    ensures request { IfOk result (λ request. request_of_three word.now first.now second.now ≡ Ok (plain_request request)) }
+    ensures fault { IfErr result (IsFaultOf (request_of_three word.now first.now second.now)) }
+{
+    if word == "put" {
+        read_put(alloc, first, second)
+    } else if word == "scan" {
+        read_scan(alloc, first, second)
+    } else {
+        Err(LineFault::Form)
+    }
+}
+
+/// The text of the item at a place, where there is one and it is a text.
+fn text_at(items: &[Json], place: usize) -> Option<&str>
+    ensures { option_map (λ text. text.now) result ≡ option_and_then text_of (slice_get (map view items.now) place) }
+{
+    match items.get(place) {
+        Some(item) => item.as_str(),
+        None => None,
+    }
+}
+
+/// The request that one item is.
+fn read_word(items: &[Json]) -> Result<Request, LineFault>
+    requires { length items.now ≡ 1 }
+    ensures request { IfOk result (λ request. request_of_form (texts_of_items (items_view items.now)) ≡ Ok (plain_request request)) }
+    ensures fault { IfErr result (IsFaultOf (request_of_form (texts_of_items (items_view items.now)))) }
+{
+    let word = match text_at(items, 0) {
+        Some(word) => word,
+        None => return Err(LineFault::Form),
+    };
+    read_one(word)
+}
+
+/// The request that two items are.
+fn read_word_and_text(alloc: Global, items: &[Json]) -> Result<Request, LineFault>
+    requires { length items.now ≡ 2 }
+    ensures request { IfOk result (λ request. request_of_form (texts_of_items (items_view items.now)) ≡ Ok (plain_request request)) }
+    ensures fault { IfErr result (IsFaultOf (request_of_form (texts_of_items (items_view items.now)))) }
+{
+    let word = match text_at(items, 0) {
+        Some(word) => word,
+        None => return Err(LineFault::Form),
+    };
+    let text = match text_at(items, 1) {
+        Some(text) => text,
+        None => return Err(LineFault::Form),
+    };
+    read_two(alloc, word, text)
+}
+
+/// The request that three items are.
+fn read_word_and_texts(alloc: Global, items: &[Json]) -> Result<Request, LineFault>
+    requires { length items.now ≡ 3 }
+    ensures request { IfOk result (λ request. request_of_form (texts_of_items (items_view items.now)) ≡ Ok (plain_request request)) }
+    ensures fault { IfErr result (IsFaultOf (request_of_form (texts_of_items (items_view items.now)))) }
+{
+    let word = match text_at(items, 0) {
+        Some(word) => word,
+        None => return Err(LineFault::Form),
+    };
+    let first = match text_at(items, 1) {
+        Some(first) => first,
+        None => return Err(LineFault::Form),
+    };
+    let second = match text_at(items, 2) {
+        Some(second) => second,
+        None => return Err(LineFault::Form),
+    };
+    read_three(alloc, word, first, second)
+}
+
+/// The request that the items of an array are.
+fn read_items(alloc: Global, items: &[Json]) -> Result<Request, LineFault>
+    ensures request { IfOk result (λ request. request_of_form (texts_of_items (items_view items.now)) ≡ Ok (plain_request request)) }
+    ensures fault { IfErr result (IsFaultOf (request_of_form (texts_of_items (items_view items.now)))) }
+{
+    let count = items.len();
+    if count == 1 {
+        read_word(items)
+    } else if count == 2 {
+        read_word_and_text(alloc, items)
+    } else if count == 3 {
+        read_word_and_texts(alloc, items)
+    } else {
+        Err(LineFault::Form)
+    }
+}
+
+/// The request that a JSON value is. Linear in its texts.
+///
+/// Each fault but `OutOfMemory` comes exactly where it is the first of `Form`, `Key`, `Value`, `Range` and `Syntax` that
+/// refuses the value.
+pub fn read_value(alloc: Global, value: &Json) -> Result<Request, LineFault>
+    ensures request { IfOk result (λ request. request_of_value (view value.now) ≡ Ok (plain_request request)) }
+    ensures fault { IfErr result (IsFaultOf (request_of_value (view value.now))) }
+{
+    match value.as_array() {
+        Some(items) => read_items(alloc, items.as_slice()),
+        None => Err(LineFault::Form),
+    }
+}
+
+/// The JSON value of a line (RFC 8259).
+fn read_json(alloc: Global, line: &[u8]) -> Result<Json, LineFault>
+    ensures value { IfOk result (λ value. json_of line.now ≡ Some (view value)) }
+    ensures fault { IfErr result (IsFaultOf (request_of_json (json_of line.now))) }
+{
+    let text = match std::str::from_utf8(line) {
+        Ok(text) => text,
+        Err(_) => return Err(LineFault::Json),
+    };
+    match Json::from_str(alloc, text) {
+        Ok(value) => Ok(value),
+        Err(error) => {
+            if error.is_memory() {
+                Err(LineFault::OutOfMemory)
+            } else {
+                Err(LineFault::Json)
+            }
+        }
+    }
+}
+
+/// The request that a line is, given without the byte 10 that ends it. Linear in the line.
+///
+/// Each fault but `OutOfMemory` comes exactly where it is the first of `Json`, `Form`, `Key`, `Value`, `Range` and
+/// `Syntax` that refuses the line.
+pub fn read(alloc: Global, line: &[u8]) -> Result<Request, LineFault>
+    ensures request { IfOk result (λ request. request_of line.now ≡ Ok (plain_request request)) }
+    ensures fault { IfErr result (IsFaultOf (request_of line.now)) }
+{
+    match read_json(alloc, line) {
+        Ok(value) => read_value(alloc, &value),
+        Err(fault) => Err(fault),
+    }
+}

@@ -1,0 +1,27 @@
+// Replies.
+use crate::request::LineFault;
+use join_types::{Cause, Pair};
+use key_space::Value;
+
+/// What a line is answered. The number, where there is one, is a position of the history.
+#[derive(Debug, Drop)]
+pub enum Reply {
+    /// The write is the entry at this position.
+    Done(u64),
+    /// The value at the key after so many entries.
+    Found(u64, Value),
+    /// Nothing stands at the key after so many entries.
+    Absent(u64),
+    /// The pairs in the range after so many entries, in key order.
+    Pairs(u64, Vec<Pair>),
+    /// The write has this verdict after so many entries.
+    Refused(u64, Cause),
+    /// The line is no request.
+    Unread(LineFault),
+    /// The line is too long.
+    Long,
+    /// No memory was found for the answer.
+    Memory,
+    /// The session ends.
+    Bye,
+}

@@ -1,0 +1,3 @@
+pub mod LineLemmas
+pub mod DeclareLemmas
+pub mod RowLemmas

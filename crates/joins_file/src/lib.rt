@@ -1,0 +1,17 @@
+// Files of joins: what they declare, and what is written about them.
+//
+// It stands on `join_lang`, which reads and prints the text of joins, on `join_set`, which judges each declaration, on
+// `request_codec` for rows, and, for its definitions, on `protocol`. The layers above may declare the joins of a file with
+// `declare`, and write about one with `report`.
+#![tactic(auto)]
+
+pub mod declaring;
+mod lines;
+pub mod reporting;
+mod rows;
+
+pub use declaring::{Declared, RefusedLine, declare};
+pub use reporting::{FileReport, report};
+
+#[cfg(test)]
+mod tests;

@@ -1,0 +1,6 @@
+pub mod ToldLemmas
+pub mod LineLemmas
+pub mod SendLemmas
+pub mod TakeLemmas
+pub mod PieceLemmas
+pub mod ReadLemmas

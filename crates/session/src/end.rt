@@ -1,0 +1,20 @@
+// How serving a link ends.
+
+/// How serving a link ends.
+#[derive(Clone, Copy, Debug, PartialEq, Eq)]
+pub enum End {
+    /// The link gave no more bytes, and every line was answered.
+    Closed,
+    /// A line `["quit"]` was answered; what follows it is not.
+    Quit,
+    /// A line reached 1,048,577 bytes, and that was written.
+    Long,
+    /// A read failed. Every line that had ended before was answered.
+    ReadFault,
+    /// A write failed. What was written is a beginning of the replies' texts.
+    WriteFault,
+    /// The link gave bytes 2^40 times, and no other end came.
+    Spent,
+    /// No memory was found for the lines. Nothing was read or written.
+    OutOfMemory,
+}

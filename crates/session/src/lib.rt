@@ -1,0 +1,17 @@
+// Serving one link: lines in, their replies out, by whatever answers requests.
+//
+// It stands on `request_codec` for lines, requests and replies, on `pq_io` for links, and, for its definitions, on
+// `protocol`. The layers above give it a `Service`, and may rely on what `serve_link` says of each end.
+#![tactic(auto)]
+
+pub mod end;
+mod line;
+mod serve;
+pub mod service;
+
+pub use end::End;
+pub use serve::serve_link;
+pub use service::Service;
+
+#[cfg(test)]
+mod tests;

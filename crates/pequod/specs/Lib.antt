@@ -1,0 +1,4 @@
+pub mod Words
+pub mod Statuses
+pub mod Histories
+pub mod Commands

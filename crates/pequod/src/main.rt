@@ -1,0 +1,58 @@
+// Pequod: an ordered key-value cache with cache joins, as a program.
+//
+// `main` makes the real source, sink and shelf and hands them to the top call, `top::pequod`, which does all that the program
+// does and carries its contract. The crate stands on `session` and what is below it.
+#![tactic(auto)]
+
+mod check;
+mod plain_client;
+mod run;
+mod status;
+#[cfg(test)]
+mod tests;
+mod top;
+mod words;
+
+use crate::status::Status;
+use crate::top::pequod;
+use pq_io::{FileShelf, Reading, Writing};
+use std::process::ExitCode;
+use std::{env, io};
+
+/// The words after the program's name, or how the program ends without them: words that are not text form no command,
+/// and there may be no memory for them.
+fn given_words(rt: &HostRuntime) -> Result<Vec<String>, Status> {
+    let Ok(given) = env::args(rt) else {
+        return Err(Status::WORDS);
+    };
+    let mut words = Vec::new(rt.alloc());
+    for word in given.skip(1) {
+        if words.push(word).is_err() {
+            return Err(Status::MEMORY);
+        }
+    }
+    Ok(words)
+}
+
+fn main(rt: HostRuntime) -> ExitCode {
+    let status = match given_words(&rt) {
+        Err(status) => status,
+        Ok(words) => {
+            let mut source = Reading::new(rt.stdin());
+            let mut sink = Writing::new(rt.stdout());
+            let mut shelf = FileShelf::new(&rt);
+            pequod(
+                &rt,
+                rt.alloc(),
+                words.as_slice(),
+                &mut source,
+                &mut sink,
+                &mut shelf,
+            )
+        }
+    };
+    if let Some(message) = status.message() {
+        let _ = rt.eprintln(message);
+    }
+    ExitCode::from(status.number)
+}

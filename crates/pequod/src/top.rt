@@ -1,0 +1,49 @@
+// The top call: all that the program does, over what it is handed.
+ghost use Rattle.std.specs.Prelude.{◌≡◌, ◌≤◌, ◌↔◌, List, ℕ, map, string_bytes, Some, None};
+ghost use Rattle.pq_io.specs.Faults.{Rose};
+ghost use Rattle.pequod.specs.Words as plain;
+ghost use Rattle.pequod.specs.Statuses.{RunsTo, ChecksTo, Unread, Unwritten};
+
+use crate::check::check;
+use crate::run::run;
+use crate::status::Status;
+use crate::words::{Command, command_of};
+use pq_io::{Shelf, Sink, Source};
+use std::alloc::Global;
+use std::sync::Wait;
+use std::thread::Threads;
+
+/// Does what the words after the program's name ask for, and says how that ended.
+///
+/// `run` answers one client's lines from the source into the sink. `check FILE` takes a joins file from the shelf and
+/// writes about it into the sink. Words that form no command have status 2, and then nothing is read or written.
+pub fn pequod<R: Threads + Wait + Sync, S: Source, W: Sink, F: Shelf>(
+    rt: &R,
+    alloc: Global,
+    words: &[String],
+    source: &mut S,
+    sink: &mut W,
+    shelf: &mut F,
+) -> Status
+    ensures words { (result.number ≡ 2) ↔ (plain.command_of (map string_bytes words.now) ≡ None) }
+    ensures unread { plain.command_of (map string_bytes words.now) ≡ None → Unread (S.left source.old) (S.left source.new) }
+    ensures unwritten { plain.command_of (map string_bytes words.now) ≡ None → Unwritten (W.taken sink.old) (W.taken sink.new) }
+    ensures run { plain.command_of (map string_bytes words.now) ≡ Some plain.run →
+        RunsTo result.number (S.left source.old) (S.left source.new) (W.taken sink.old) (W.taken sink.new) }
+    ensures check { (name : List ℕ) → plain.command_of (map string_bytes words.now) ≡ Some (plain.check name) →
+        ChecksTo result.number (F.held shelf.old) name (W.taken sink.old) (W.taken sink.new) }
+
+    // A fault comes only from the object whose count of faults rose.
+    ensures source_later { S.faults source.old ≤ S.faults source.new }
+    ensures sink_later { W.faults sink.old ≤ W.faults sink.new }
+    ensures shelf_later { F.faults shelf.old ≤ F.faults shelf.new }
+    ensures read { result.number ≡ 4 → Rose (S.faults source.old) (S.faults source.new) }
+    ensures write { result.number ≡ 5 → Rose (W.faults sink.old) (W.faults sink.new) }
+    ensures shelf { result.number ≡ 9 → Rose (F.faults shelf.old) (F.faults shelf.new) }
+{
+    match command_of(words) {
+        None => Status::WORDS,
+        Some(Command::Run) => run(rt, alloc, source, sink),
+        Some(Command::Check(name)) => check(alloc, name, sink, shelf),
+    }
+}

@@ -31,7 +31,7 @@ first_cause (None ∷ others) = first_cause others
 first_cause (Some cause ∷ others) = Some cause
 
 -- whether an entry changes a pair
-abbrev is_change : Write → Bool
+abbrev pub is_change : Write → Bool
 is_change (put k v) = true
 is_change (remove k) = true
 is_change (declare j) = false
@@ -49,7 +49,7 @@ abbrev pub clash_cause : Join → List Standing → Option Cause
 clash_cause j joins = option_map clash (first_position (λ other. overlaps j.output other.output) joins)
 
 -- the position of the join with a number
-abbrev position_at : List Standing → ℕ → ℕ
+abbrev pub position_at : List Standing → ℕ → ℕ
 position_at joins i = unwrap_or (option_map (λ s. s.position) (slice_get joins i)) 0
 
 -- `cycle`: the reading with the new join, which stands last, has a cycle; the shortest and least one is carried as positions

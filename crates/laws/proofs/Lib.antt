@@ -1,0 +1,5 @@
+pub mod TableKeys
+pub mod FitLemmas
+pub mod OrderLemmas
+pub mod AdmissibleSets
+pub mod KindLemmas

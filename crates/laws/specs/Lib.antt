@@ -1,0 +1,5 @@
+pub mod PatternLaws
+pub mod OutputLaws
+pub mod StateLaws
+pub mod KindLaws
+pub mod AdmissibleLaws

@@ -1,0 +1,9 @@
+pub mod NeedLemmas
+pub mod GivenLemmas
+pub mod ListedLemmas
+pub mod FollowedLemmas
+pub mod ChangeLemmas
+pub mod UnchangedLemmas
+pub mod AskedLemmas
+pub mod OnceLemmas
+pub mod PathLemmas

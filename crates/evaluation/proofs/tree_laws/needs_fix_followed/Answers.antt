@@ -1,0 +1,5 @@
+use Rattle.evaluation.proofs.NeedLemmas.{needs_fix_followed}
+use Rattle.evaluation.proofs.tree_laws.needs_fix_followed.Goals as goal
+
+pub returns : goal.returns
+returns c = needs_fix_followed

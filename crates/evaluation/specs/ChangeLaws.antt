@@ -1,0 +1,31 @@
+-- Laws on what changes between two positions.
+use Rattle.std.specs.Prelude.{◌≡◌, ℕ, ◌<◌, ◌≤◌, ◌↔◌, take, slice_get, Contains, true}
+use Rattle.std.specs.List.Sorted.{IsStrictlySortedBy}
+use Rattle.std.specs.Option.{IsSomeAnd}
+use Rattle.semantics.specs.Texts.{Text, text_cmp, is_range, Range, within}
+use Rattle.semantics.specs.Histories.{Write, put, remove, declare, History, joins_of}
+use Rattle.semantics.specs.StateLaws.{DeclaresJoins}
+use Rattle.evaluation.specs.Changes.{changed_keys, Same, is_bare}
+
+-- the write puts or removes the key
+abbrev pub Writes : Write → Text → Type 0
+Writes (put k v) key = k ≡ key
+Writes (remove k) key = k ≡ key
+Writes (declare j) key = ⊥
+
+-- one of the entries q + 1 to p puts or removes the key; entry x + 1 stands at place x of the history
+abbrev pub IsWrittenBetween : ℕ → ℕ → History → Text → Type 0
+IsWrittenBetween q p h key = (x : ℕ) × (q ≤ x) × (x < p) × IsSomeAnd (slice_get h x) (λ e. Writes e.write key)
+
+-- the changed keys ascend, each once
+abbrev pub ChangedKeysAscend : Type 0
+ChangedKeysAscend = (q p : ℕ) (r : Range) (h : History) → IsStrictlySortedBy text_cmp (changed_keys q p r h)
+
+-- the changed keys are those keys of the range that one of the entries q + 1 to p puts or removes
+abbrev pub ChangedKeysAreWritten : Type 0
+ChangedKeysAreWritten = (q p : ℕ) (r : Range) (h : History) (key : Text) → Contains (changed_keys q p r h) key ↔ ((within r key ≡ true) × IsWrittenBetween q p h key)
+
+-- at a key of a bare range that is not among the changed ones the state is the same at all positions from q to p
+abbrev pub UnchangedIsSame : Type 0
+UnchangedIsSame = (h : History) (q p rank : ℕ) (r : Range) (key : Text) → DeclaresJoins h → is_range r.low r.high ≡ true → is_bare r (joins_of (take p h)) ≡ true →
+    within r key ≡ true → (Contains (changed_keys q p r h) key → ⊥) → Same h q p rank key

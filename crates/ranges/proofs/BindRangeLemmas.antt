@@ -1,0 +1,101 @@
+-- The slots that the keys of a range share.
+use Rattle.std.proofs.Common.{◌≡◌, ℕ, ◌==◌, Bool, true, false, List, [], ◌∷◌, ◌++◌, length, Option, Some, None, option_and_then, MatchOption, refl, sym, ap, ◌∙◌, subst, append_assoc, eq-eqb}
+use Rattle.std.specs.List.{list_all, AllByRecursion}
+use Rattle.std.specs.Option.{IsSomeAnd, IfSome}
+use Rattle.std.proofs.lemmas.Bool.{and_parts}
+use Rattle.std.proofs.lemmas.List.Elements.{recursion_from_All}
+use Rattle.semantics.specs.Texts.{Text, bar}
+use Rattle.semantics.specs.Patterns.{Segment, Pattern, Slots, no_slots, is_segment, pieces, segments, Takes, TakeAll, Fits, IsPartOf, taken, bind}
+use Rattle.semantics.specs.PatternLaws.{AreSegmentTexts}
+use Rattle.semantics.proofs.PieceLemmas.{Lacks, HasParts, parts_of, pieces_lacking, pieces_lack}
+use Rattle.semantics.proofs.PatternLemmas.{length-no_slots, no_slots_part, IsLeastTake, TakesNone, taken_least, segments_of_pattern}
+use Rattle.semantics.proofs.BindLemmas.{texts-no_slots, texts_bind, length-taken}
+use Rattle.ranges.specs.Ranges.{without_last}
+use Rattle.ranges.specs.Containing.{shared_beginning, take_first, bind_range}
+use Rattle.ranges.specs.ContainingLaws.{BindRangeIsShared, BindRangeGivesSlots}
+use Rattle.ranges.proofs.PrefixLemmas.{rest_of, without_last_push}
+use Rattle.ranges.proofs.BeginningLemmas.{shared_is_beginning, within_shared}
+
+-- ---- the pieces of a text that begins with another
+
+-- one byte more on the first text
+pieces_by : (c b : ℕ) (bs rest : Text) (x : Bool) → (b == c) ≡ x → HasParts c bs → pieces c (bs ++ c ∷ rest) ≡ pieces c bs ++ pieces c rest → pieces c (b ∷ bs ++ c ∷ rest) ≡ pieces c (b ∷ bs) ++ pieces c rest
+pieces_by c b bs rest true e h ih = rw e (ap (λ ts. [] ∷ ts) ih)
+pieces_by c b bs rest false e h ih = rw (e, ih, h.2)
+
+-- the pieces before the byte c and those after it
+pub pieces_cut : (c : ℕ) (t rest : Text) → pieces c (t ++ c ∷ rest) ≡ pieces c t ++ pieces c rest
+pieces_cut c [] rest = rw (eq-eqb c c refl)
+pieces_cut c (b ∷ bs) rest = pieces_by c b bs rest (b == c) refl (parts_of c bs) (pieces_cut c bs rest)
+
+-- ---- what the first segments take
+
+-- the slots, if any, are a part of others
+abbrev ArePart : Slots → Option Slots → Type 0
+ArePart more found = IsSomeAnd found (λ shared. IsPartOf shared more)
+
+-- the first segment and then the others
+shared_by : (s : Segment) (ss : Pattern) (t : Text) (ts : List Text) (given more : Slots) (o : Option Slots) → length given ≡ 16 → MatchOption o (TakesNone s t given) (IsLeastTake s t given)
+    → Takes s t more → IsPartOf given more → ((next : Slots) → length next ≡ 16 → IsPartOf next more → ArePart more (take_first ss ts next))
+    → ArePart more (option_and_then (λ next. take_first ss ts next) o)
+shared_by s ss t ts given more None long one takes part rest = one more takes part
+shared_by s ss t ts given more (Some next) long one takes part rest = rest next (one.long ∙ long) (one.least more takes part)
+
+-- where the segments take these texts and more, the first segments take these, and give a part
+pub take_first_shares : (p : Pattern) (ts : List Text) (u : Text) (us : List Text) (given more : Slots) → list_all is_segment p ≡ true → length given ≡ 16 → TakeAll p (ts ++ u ∷ us) more → IsPartOf given more → IsSomeAnd (take_first p ts given) (λ shared. IsPartOf shared more)
+take_first_shares [] [] u us given more ok long h part = absurd h
+take_first_shares [] (t ∷ ts) u us given more ok long h part = absurd h
+take_first_shares (s ∷ ss) [] u us given more ok long h part = part
+take_first_shares (s ∷ ss) (t ∷ ts) u us given more ok long h part =
+    let parts = and_parts (is_segment s) (list_all is_segment ss) ok in
+    shared_by s ss t ts given more (taken s t given) long (taken_least s t given parts.0 long) h.0 part (λ next l q. take_first_shares ss ts u us next more parts.1 l h.1 q)
+
+-- slots of 16 places with texts that may stand for segments
+abbrev ArePlaced : Slots → Type 0
+ArePlaced given = (length given ≡ 16) × AreSegmentTexts given
+
+-- a segment that takes a piece leaves such slots
+placed_taken : (s : Segment) (t : Text) (given more : Slots) → Lacks bar t → ArePlaced given → taken s t given ≡ Some more → ArePlaced more
+placed_taken s t given more lacks are h =
+    let one : bind (s ∷ []) t given ≡ Some more = rw (pieces_lacking bar t lacks, h) in
+    (length-taken s t given more h ∙ are.0, texts_bind (s ∷ []) t given more are.1 one)
+
+-- the first segment and then the others
+placed_by : (s : Segment) (ss : Pattern) (t : Text) (ts : List Text) (given : Slots) (o : Option Slots) → taken s t given ≡ o → Lacks bar t → ArePlaced given
+    → ((more : Slots) → ArePlaced more → IfSome (take_first ss ts more) ArePlaced) → IfSome (option_and_then (λ more. take_first ss ts more) o) ArePlaced
+placed_by s ss t ts given None e lacks are rest = tt
+placed_by s ss t ts given (Some more) e lacks are rest = rest more (placed_taken s t given more lacks are e)
+
+-- so do all that the first segments take
+pub take_first_places : (p : Pattern) (ts : List Text) (given : Slots) → AllByRecursion (Lacks bar) ts → (length given ≡ 16) × AreSegmentTexts given → IfSome (take_first p ts given) (λ found. (length found ≡ 16) × AreSegmentTexts found)
+take_first_places [] ts given lacks are = tt
+take_first_places (s ∷ ss) [] given lacks are = are
+take_first_places (s ∷ ss) (t ∷ ts) given lacks are =
+    placed_by s ss t ts given (taken s t given) refl lacks.0 are (λ more q. take_first_places ss ts more lacks.1 q)
+
+-- ---- the laws
+
+-- the texts of the shared slots may stand for segments, in 16 places
+pub bind_range_gives_slots : BindRangeGivesSlots
+unfolding bind_range
+bind_range_gives_slots output r ok =
+    let front = without_last (shared_beginning r) in
+    take_first_places output (segments front) no_slots (recursion_from_All (Lacks bar) (segments front) (pieces_lack bar front)) (length-no_slots, texts-no_slots)
+
+-- where the texts that a key begins with are the first segments
+shared_of : (output : Pattern) (front rest key : Text) (given : Slots) → list_all is_segment output ≡ true → key ≡ front ++ bar ∷ rest → Fits output key given → IsSomeAnd (take_first output (segments front) no_slots) (λ shared. IsPartOf shared given)
+shared_of output front rest key given ok e h =
+    let w = parts_of bar rest in
+    let cut : segments key ≡ segments front ++ w.0 ∷ w.1 = ap segments e ∙ pieces_cut bar front rest ∙ ap (λ us. segments front ++ us) w.2 in
+    take_first_shares output (segments front) w.0 w.1 no_slots given ok length-no_slots (subst (λ ts. TakeAll output ts given) cut h) (no_slots_part given)
+
+-- the slots that a range shares are a part of those of each key of the range that fits
+pub bind_range_is_shared : BindRangeIsShared
+unfolding bind_range
+bind_range_is_shared output r key given ok range inside h =
+    let w = shared_is_beginning r range in
+    let front = w.0.0 in
+    let follows = rest_of key (front ++ bar ∷ []) (within_shared r front key w.0.2 w.1 inside) in
+    let last : without_last (shared_beginning r) ≡ front = ap without_last w.0.2 ∙ without_last_push front bar in
+    subst (λ t. IsSomeAnd (take_first output (segments t) no_slots) (λ shared. IsPartOf shared given)) (sym last)
+    (shared_of output front follows.0 key given (segments_of_pattern output ok) (follows.1 ∙ append_assoc front (bar ∷ []) follows.0) h)

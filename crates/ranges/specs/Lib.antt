@@ -1,0 +1,4 @@
+pub mod Ranges
+pub mod Containing
+pub mod RangeLaws
+pub mod ContainingLaws

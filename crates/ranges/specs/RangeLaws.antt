@@ -1,0 +1,35 @@
+-- Laws on ranges.
+use Rattle.std.specs.Prelude.{◌≡◌, ◌&&◌, [], ◌∷◌, ◌++◌, true, nat_eq}
+use Rattle.std.specs.List.{starts_with}
+use Rattle.semantics.specs.Texts.{Text, bar, same, is_key, is_range, Range, within}
+use Rattle.ranges.specs.Ranges.{meets, common, prefix_range, just}
+
+-- the common part of two ranges that meet holds the keys that both hold
+abbrev pub CutHoldsBoth : Type 0
+CutHoldsBoth = (r s : Range) (key : Text) → meets r s ≡ true → within (common r s) key ≡ within r key && within s key
+
+-- two ranges that hold one key meet
+abbrev pub HoldersMeet : Type 0
+HoldersMeet = (r s : Range) (key : Text) → within r key ≡ true → within s key ≡ true → meets r s ≡ true
+
+-- the common part of two ranges that meet is a range
+abbrev pub CutIsRange : Type 0
+CutIsRange = (r s : Range) → is_range r.low r.high ≡ true → is_range s.low s.high ≡ true → meets r s ≡ true →
+    is_range (common r s).low (common r s).high ≡ true
+
+-- a prefix range holds the keys that begin with its text
+abbrev pub PrefixRangeHolds : Type 0
+PrefixRangeHolds = (t key : Text) → within (prefix_range (t ++ bar ∷ [])) key ≡ starts_with nat_eq key (t ++ bar ∷ [])
+
+-- the prefix range of a key that ends with `|` is a range
+abbrev pub PrefixRangeIsRange : Type 0
+PrefixRangeIsRange = (t : Text) → is_key (t ++ bar ∷ []) ≡ true →
+    is_range (prefix_range (t ++ bar ∷ [])).low (prefix_range (t ++ bar ∷ [])).high ≡ true
+
+-- the range of one key holds it alone
+abbrev pub JustHolds : Type 0
+JustHolds = (key other : Text) → within (just key) other ≡ same key other
+
+-- the range of one key is a range
+abbrev pub JustIsRange : Type 0
+JustIsRange = (key : Text) → is_key key ≡ true → is_range (just key).low (just key).high ≡ true

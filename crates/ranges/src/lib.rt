@@ -1,0 +1,9 @@
+// Ranges: what two have in common, the ranges of one key and of one beginning, and the ranges of source keys that hold
+// every key that can matter to a range of output keys.
+//
+// It stands on `semantics`. `specs/` has the definitions; the modules below have no code: each public function has an
+// empty body, and its contract is a law on the definitions.
+#![tactic(auto)]
+
+pub mod containing_laws;
+pub mod range_laws;

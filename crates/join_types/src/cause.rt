@@ -25,6 +25,14 @@ impl Positions {
         Positions { list }
     }
 
+    /// The list, which is given back.
+    pub fn into_list(self) -> Vec<u64>
+        ensures { result.items ≡ self }
+    {
+        let Positions { list } = self;
+        list
+    }
+
     /// The positions in order.
     pub fn as_slice(&self) -> &[u64]
         ensures { result.now ≡ self.now }

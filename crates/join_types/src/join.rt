@@ -1,5 +1,7 @@
 // Joins.
 ghost use Rattle.std.specs.Prelude.{◌≡◌, IfOk, map, string_bytes};
+ghost use Rattle.semantics.specs.Joins.{is_check, is_aggregate};
+ghost use Rattle.join_types.specs.Plain.{plain_op};
 
 use key_pattern::Pattern;
 use memory::OutOfMemory;
@@ -9,25 +11,57 @@ use std::marker::Model;
 /// An operator of a source: `Check` asks for a pair, the others make values.
 #[derive(Clone, Copy, Debug, PartialEq, Eq)]
 pub enum Op {
+    /// Asks for a pair, whatever its value.
     Check,
+    /// Gives the value of the pair.
     Copy,
+    /// Counts the pairs.
     Count,
+    /// Adds the values that are canonical decimals.
     Sum,
+    /// Takes the least of them.
     Min,
+    /// Takes the greatest of them.
     Max,
+}
+
+impl Op {
+    /// Whether it is `Check`.
+    pub fn is_check(self) -> bool
+        ensures { result ≡ is_check (plain_op self) }
+    {
+        match self {
+            Op::Check => true,
+            Op::Copy | Op::Count | Op::Sum | Op::Min | Op::Max => false,
+        }
+    }
+
+    /// Whether it makes one value of many pairs: it is neither `Check` nor `Copy`.
+    pub fn is_aggregate(self) -> bool
+        ensures { result ≡ is_aggregate (plain_op self) }
+    {
+        match self {
+            Op::Check | Op::Copy => false,
+            Op::Count | Op::Sum | Op::Min | Op::Max => true,
+        }
+    }
 }
 
 /// Whether a join's output is kept up to date or made when it is asked for. It changes no answer.
 #[derive(Clone, Copy, Debug, PartialEq, Eq)]
 pub enum Kind {
+    /// Kept up to date.
     Push,
+    /// Made when it is asked for.
     Pull,
 }
 
 /// A source of a join.
 #[derive(Debug, Drop)]
 pub struct JoinSource {
+    /// What it takes of the pairs that fit.
     pub op: Op,
+    /// The keys that it reads.
     pub pattern: Pattern,
 }
 
@@ -44,9 +78,13 @@ impl Model for JoinSource {
 /// a name for each place; the name of place i is `names[i]`, in order of first occurrence in the text.
 #[derive(Debug, Drop)]
 pub struct Join {
+    /// The keys that it computes.
     pub output: Pattern,
+    /// When the output is made.
     pub kind: Kind,
+    /// What it reads, one source or more.
     pub sources: Vec<JoinSource>,
+    /// The names of its slots, by place.
     pub names: Vec<String>,
 }
 

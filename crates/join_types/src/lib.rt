@@ -1,7 +1,7 @@
 // Joins, writes, entries and pairs as values.
 //
-// It stands on `key_pattern` and `key_space` and, for its definitions, on `semantics`. The layers above may use all that
-// is public here: contracts see each type as the plain data of the definitions.
+// It stands on `memory`, `key_space`, `key_pattern` and, for its definitions, on `semantics`. The layers above may use
+// all that is public here: contracts see each type as the plain data of the definitions.
 #![tactic(auto)]
 
 pub mod cause;

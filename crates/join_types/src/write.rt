@@ -22,7 +22,9 @@ pub enum Write {
 /// An entry of the history: the number of the client that wrote it, and the write.
 #[derive(Debug, Drop)]
 pub struct Entry {
+    /// The client's number.
     pub client: u32,
+    /// What the client changed.
     pub write: Write,
 }
 
@@ -38,7 +40,9 @@ impl Model for Entry {
 /// A key with its value.
 #[derive(Debug, Drop)]
 pub struct Pair {
+    /// Where the value stands.
     pub key: Key,
+    /// What stands there.
     pub value: Value,
 }
 

@@ -1,5 +1,7 @@
 pub mod CutLemmas
 pub mod FillLemmas
-pub mod JoinLemmas
+pub mod FixedLemmas
+pub mod JoinedTexts
 pub mod PlaceLemmas
+pub mod SharedLemmas
 pub mod WalkLemmas

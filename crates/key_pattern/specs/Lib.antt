@@ -1,3 +1,5 @@
 pub mod Plain
 pub mod Places
 pub mod Pieces
+pub mod Shared
+pub mod Fixed

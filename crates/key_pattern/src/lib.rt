@@ -1,11 +1,14 @@
-// Patterns of keys: which keys fit, what slots they give, and which key slots fill.
+// Patterns of keys: which keys fit, what slots they give, which key slots fill, what slots a range of keys shares, and
+// which range holds the keys that fit under slots.
 //
-// It stands on `memory`, `key_space` and, for its definitions, on `semantics`. The layers above may use all that is
-// public here: contracts see a pattern as the list of its plain segments and slots as a list of 16 options of texts.
+// It stands on `memory`, `key_space` and, for its definitions, on `semantics` and `ranges`. The layers above may use all
+// that is public here: contracts see a pattern as the list of its plain segments and slots as a list of 16 options of
+// texts.
 #![tactic(auto)]
 
 mod matching;
 pub mod pattern;
+mod ranging;
 pub mod segment;
 pub mod slots;
 

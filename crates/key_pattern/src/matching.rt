@@ -23,7 +23,7 @@ pub fn first_segment(text: &str) -> (&str, Option<&str>)
 }
 
 /// Whether a slot of the width takes the text: it is not empty, and has the width where that is not 0.
-pub fn takes_width(width: u8, text: &str) -> bool
+fn takes_width(width: u8, text: &str) -> bool
     ensures { result ≡ takes_width width text.now }
 {
     1 <= text.len() && (width == 0 || text.len() == usize::from(width))
@@ -72,7 +72,11 @@ fn push_segment(text: &mut String, segment: &Segment, slots: &Slots<'_>) -> Resu
 }
 
 /// The texts of the segments under the slots, with `|` between each two. Linear in the text.
-pub fn join(alloc: Global, segments: &[Segment], slots: &Slots<'_>) -> Result<String, OutOfMemory>
+pub fn join_texts(
+    alloc: Global,
+    segments: &[Segment],
+    slots: &Slots<'_>,
+) -> Result<String, OutOfMemory>
     requires { CanFill (plain_segments segments.now) slots.now }
     ensures { IfOk result (λ text. Joins (plain_segments segments.now) slots.now (string_bytes text)) }
 {

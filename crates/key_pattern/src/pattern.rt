@@ -1,20 +1,18 @@
 // Patterns.
 ghost use Rattle.std.specs.Prelude.{◌≡◌, IfOk, IfErr, true, false};
 ghost use Rattle.std.specs.List.{list_all};
-ghost use Rattle.semantics.specs.Patterns.{is_segment, is_pattern, begins_with_table, bind, fill, overlaps};
+ghost use Rattle.semantics.specs.Patterns.{is_segment, is_pattern, begins_with_table, bind, fits, fill, overlaps};
 ghost use Rattle.key_pattern.specs.Plain.{plain_segments};
 ghost use Rattle.key_pattern.specs.Places.{AreSlots, CanFill};
 
-use crate::matching::{first_segment, join, take};
+use crate::matching::{first_segment, join_texts, take};
 use crate::segment::Segment;
 use crate::slots::Slots;
+use key_space::table::MOST_TABLE_BYTES;
 use key_space::{Key, KeyFault};
 use memory::OutOfMemory;
 use std::alloc::Global;
 use std::marker::Model;
-
-/// The most bytes of a table's name.
-pub const MOST_TABLE_BYTES: usize = 64;
 
 /// The most segments of a pattern.
 pub const MOST_SEGMENTS: usize = 16;
@@ -86,7 +84,7 @@ impl Pattern {
         self.segments.as_slice()
     }
 
-    /// An equal pattern, whose texts are copied.
+    /// An equal pattern, whose texts are copied. Linear in the texts.
     pub fn copy(&self, alloc: Global) -> Result<Pattern, OutOfMemory>
         ensures { IfOk result (λ copy. copy ≡ self.now) }
     {
@@ -117,13 +115,20 @@ impl Pattern {
         }
     }
 
+    /// Whether the key fits the pattern under some slots. Linear in the key.
+    pub fn fits(&self, key: &Key) -> bool
+        ensures { result ≡ fits self.now key.now }
+    {
+        self.matches(key, &Slots::none()).is_some()
+    }
+
     /// The key that fits the pattern under the slots, which give each slot of the pattern a text of its width. None
     /// exactly where it would have more than 512 bytes. Linear in the key.
     pub fn fill(&self, alloc: Global, slots: &Slots<'_>) -> Result<Option<Key>, OutOfMemory>
         requires { CanFill self.now slots.now }
         ensures { IfOk result (λ key. key ≡ fill self.now slots.now) }
     {
-        let text = join(alloc, self.segments.as_slice(), slots)?;
+        let text = join_texts(alloc, self.segments.as_slice(), slots)?;
         match Key::read(alloc, text.as_str()) {
             Ok(key) => Ok(Some(key)),
             Err(KeyFault::BadKey) => Ok(None),
@@ -132,7 +137,7 @@ impl Pattern {
     }
 
     /// Whether the patterns overlap: they have as many segments, and those of each place meet. A key that fits both
-    /// implies it.
+    /// implies it. Linear in the patterns.
     pub fn overlaps(&self, other: &Pattern) -> bool
         ensures { result ≡ overlaps self.now other.now }
     {

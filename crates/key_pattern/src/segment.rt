@@ -18,13 +18,13 @@ pub const MOST_WIDTH: u8 = 64;
 pub enum Segment {
     /// It stands for itself.
     Literal(String),
-    /// It stands for any text that is not empty and has no `|`, of `width` bytes where that is not 0. The text is that
-    /// of the place.
+    /// It stands for any text that is not empty and has no `|`, of `width` bytes where that is not 0. Slots of one place
+    /// stand for one text.
     Slot { place: u8, width: u8 },
 }
 
 impl Segment {
-    /// An equal segment, whose text is copied.
+    /// An equal segment, whose text is copied. Linear in the text.
     pub fn copy(&self, alloc: Global) -> Result<Segment, OutOfMemory>
         ensures { IfOk result (λ copy. plain_segment copy ≡ plain_segment self.now) }
     {
@@ -52,7 +52,7 @@ impl Segment {
     }
 
     /// Whether some text may be both segments, as far as literals and widths tell: they are no two unequal literals, no
-    /// two unequal given widths, and no literal whose length is not the other's given width.
+    /// two unequal given widths, and no literal whose length is not the other's given width. Linear in the literals.
     pub fn meets(&self, other: &Segment) -> bool
         ensures { result ≡ segments_meet (plain_segment self.now) (plain_segment other.now) }
     {
@@ -73,7 +73,7 @@ impl Segment {
 
 /// Whether a text may be a literal: it has a byte or more, and none of `|`, `<`, `>`, the space and the characters below
 /// U+0020. Linear in the text.
-fn is_literal(text: &str) -> bool
+pub fn is_literal(text: &str) -> bool
     ensures { result ≡ is_literal text.now }
 {
     !text.is_empty() && has_literal_bytes(text)

@@ -1,10 +1,14 @@
 // Texts for the slots of patterns, by place.
-ghost use Rattle.std.specs.Prelude.{◌≡◌, IfOk, Some, ◌<◌, slice_set, option_map};
+ghost use Rattle.std.specs.Prelude.{◌≡◌, IfOk, Some, ◌<◌, slice_set, option_map, true};
 ghost use Rattle.std.specs.Option.{option_copied};
 ghost use Rattle.std.specs.String.{string_bytes};
-ghost use Rattle.semantics.specs.Patterns.{no_slots, text_at};
+ghost use Rattle.semantics.specs.Patterns.{no_slots, text_at, is_segment};
+ghost use Rattle.ranges.specs.Containing.{with_slot, only};
+ghost use Rattle.key_pattern.specs.Plain.{plain_segment};
 ghost use Rattle.key_pattern.specs.Places.{AreSlots, IsSegmentText};
 
+use crate::pattern::Pattern;
+use crate::segment::Segment;
 use memory::OutOfMemory;
 use std::alloc::Global;
 use std::marker::Model;
@@ -47,7 +51,7 @@ impl<'a> Slots<'a> {
         }
     }
 
-    /// Equal slots, whose texts are lent by the same owners.
+    /// Equal slots, whose texts are lent by the same owners. It takes constant time.
     pub fn copy(&self) -> Slots<'a>
         ensures copy { result ≡ self.now }
         ensures slots { AreSlots self.now }
@@ -64,6 +68,32 @@ impl<'a> Slots<'a> {
         let mut texts = self.texts;
         texts[usize::from(place)] = Some(text);
         Slots { texts }
+    }
+
+    /// The texts at the places of the slots of `out`, and no text at any other place. Linear in the segments of `out`,
+    /// and nothing is copied.
+    pub fn only(&self, out: &Pattern) -> Slots<'a>
+        ensures { result ≡ only out.now self.now }
+    {
+        let mut kept = Slots::none();
+        for segment in out.segments() {
+            kept = self.keep(segment, &kept);
+        }
+        kept
+    }
+
+    /// The kept slots and, where the segment is a slot, the text at its place.
+    fn keep(&self, segment: &Segment, kept: &Slots<'a>) -> Slots<'a>
+        requires { is_segment (plain_segment segment.now) ≡ true }
+        ensures { result ≡ with_slot self.now kept.now (plain_segment segment.now) }
+    {
+        match segment {
+            Segment::Literal(_) => kept.copy(),
+            Segment::Slot { place, .. } => match self.at(*place) {
+                None => kept.copy(),
+                Some(text) => kept.with(*place, text),
+            },
+        }
     }
 }
 
@@ -85,7 +115,7 @@ impl Model for SlotTexts {
 }
 
 impl SlotTexts {
-    /// The texts of the slots, which are copied once.
+    /// The texts of the slots, which are copied once. Linear in the texts.
     pub fn of(alloc: Global, slots: &Slots<'_>) -> Result<SlotTexts, OutOfMemory>
         ensures { IfOk result (λ texts. texts ≡ slots.now) }
     {
@@ -96,7 +126,7 @@ impl SlotTexts {
         Ok(SlotTexts { texts })
     }
 
-    /// The slots, whose texts are lent.
+    /// The slots, whose texts are lent. It takes constant time.
     pub fn lend(&self) -> Slots<'_>
         ensures lent { result ≡ self.now }
         ensures slots { AreSlots self.now }
@@ -108,7 +138,7 @@ impl SlotTexts {
         Slots { texts }
     }
 
-    /// Equal slots, whose texts are copied.
+    /// Equal slots, whose texts are copied. Linear in the texts.
     pub fn copy(&self, alloc: Global) -> Result<SlotTexts, OutOfMemory>
         ensures { IfOk result (λ copy. copy ≡ self.now) }
     {

@@ -2,6 +2,8 @@ ghost use Rattle.std.specs.Prelude.{◌≡◌, IfOk, [], ◌∷◌};
 ghost use Rattle.semantics.specs.Patterns.{literal, slot};
 ghost use Rattle.key_pattern.specs.Plain.{plain_segments};
 
+mod ranging;
+
 use super::*;
 use key_space::Key;
 use memory::OutOfMemory;
@@ -267,7 +269,7 @@ fn is_shared<T: Send + Sync>(_: &T) -> bool {
 }
 
 #[test]
-fn shared(rt: HostRuntime) -> Result<(), Fail> {
+fn threads_may_share_patterns_and_slots(rt: HostRuntime) -> Result<(), Fail> {
     let alloc = rt.alloc();
     let slots = Slots::none();
     assert!(rt; is_shared(&read_pattern(&rt, alloc, "t|<0")?) && is_shared(&slots));

@@ -1,9 +1,10 @@
 // Keys.
-ghost use Rattle.std.specs.Prelude.{◌≡◌, ◌↔◌, IfOk, true, false, Some, nat_eq, refl};
+ghost use Rattle.std.specs.Prelude.{◌≡◌, ◌≤◌, ◌↔◌, IfOk, length, true, false, Some, nat_eq, refl};
 ghost use Rattle.std.specs.Cmp.{partial_equiv_from_equiv};
 ghost use Rattle.std.specs.Cmp.Lexicographic.{nat_list_eq_equiv, nat_list_cmp_total, texts_ties, texts_po};
 ghost use Rattle.semantics.specs.Texts.{is_key, table_of, text_cmp, same};
 
+use crate::place::Place;
 use crate::table::{find_table, names_table};
 use memory::OutOfMemory;
 use std::alloc::Global;
@@ -18,19 +19,18 @@ pub const MOST_KEY_BYTES: usize = 512;
 /// order. A copy shares the text.
 #[derive(Debug, Drop)]
 pub struct Key {
-    text: ArcStr,
+    place: Place,
 }
 
 impl Model for Key {
     ghost use Rattle.std.specs.Prelude.{◌≡◌, List, ℕ, true};
-    ghost use Rattle.std.specs.Arc.{arc_str_bytes};
     ghost use Rattle.semantics.specs.Texts.{is_key};
 
     ghost Value = { List ℕ };
 
-    ghost view = { λ k. arc_str_bytes k.text };
+    ghost view = { λ k. k.place };
 
-    ghost invariant = { λ k. is_key (arc_str_bytes k.text) ≡ true };
+    ghost invariant = { λ k. is_key k.place ≡ true };
 }
 
 /// Why a text was not taken as a key.
@@ -55,7 +55,9 @@ impl Key {
             return Err(KeyFault::BadKey);
         }
         match ArcStr::from_str(alloc, text) {
-            Ok(text) => Ok(Key { text }),
+            Ok(text) => Ok(Key {
+                place: Place::of(text),
+            }),
             Err(_) => Err(KeyFault::OutOfMemory),
         }
     }
@@ -65,12 +67,30 @@ impl Key {
         ensures text { result.now ≡ self.now }
         ensures is_key { is_key self.now ≡ true }
     {
-        self.text.as_str()
+        self.place.text()
+    }
+
+    /// The place of the key.
+    pub fn place(&self) -> &Place
+        ensures place { result.now ≡ self.now }
+        ensures is_key { is_key self.now ≡ true }
+    {
+        &self.place
+    }
+
+    /// The key at a place, of which the text is one. The text is shared, and it takes constant time.
+    pub fn at(place: &Place) -> Result<Key, OutOfMemory>
+        requires { is_key place.now ≡ true }
+        ensures { IfOk result (λ key. key ≡ place.now) }
+    {
+        let place = place.copy()?;
+        Ok(Key { place })
     }
 
     /// The name of the key's table: what stands before its first `|`. Linear in the name.
     pub fn table(&self) -> &str
-        ensures { result.now ≡ table_of self.now }
+        ensures table { result.now ≡ table_of self.now }
+        ensures short { length result.now ≤ 64 }
     {
         match find_table(self.text()) {
             Some(table) => table,
@@ -82,8 +102,8 @@ impl Key {
     pub fn copy(&self) -> Result<Key, OutOfMemory>
         ensures { IfOk result (λ copy. copy ≡ self.now) }
     {
-        let text = self.text.clone()?;
-        Ok(Key { text })
+        let place = self.place.copy()?;
+        Ok(Key { place })
     }
 }
 

@@ -1,9 +1,12 @@
 // Ranges of keys.
-ghost use Rattle.std.specs.Prelude.{◌≡◌, ◌↔◌, IfOk, true, false};
-ghost use Rattle.semantics.specs.Texts.{Range as Bounds, is_range, within};
+ghost use Rattle.std.specs.Prelude.{◌≡◌, ◌≤◌, ◌↔◌, ◌<◌, IfOk, length, true, false, [], ◌∷◌, ◌++◌, nat_eq};
+ghost use Rattle.std.specs.List.{ends_with};
+ghost use Rattle.semantics.specs.Texts.{Range as Bounds, bar, is_key, is_range, table_of, within};
+ghost use Rattle.ranges.specs.Ranges.{meets, cut, later, earlier, prefix_range, just};
 ghost use Rattle.key_space.specs.Parts.{ends_table};
 
 use crate::key::Key;
+use crate::place::Place;
 use crate::table::{find_table, is_table_name};
 use memory::OutOfMemory;
 use std::alloc::Global;
@@ -17,20 +20,19 @@ pub const MOST_BOUND_BYTES: usize = 513;
 /// and the last begins with `T|` or is `T}`; neither has more than 513 bytes. A copy shares both texts.
 #[derive(Debug, Drop)]
 pub struct Range {
-    low: ArcStr,
-    high: ArcStr,
+    low: Place,
+    high: Place,
 }
 
 impl Model for Range {
     ghost use Rattle.std.specs.Prelude.{◌≡◌, true};
-    ghost use Rattle.std.specs.Arc.{arc_str_bytes};
     ghost use Rattle.semantics.specs.Texts.{Range as Bounds, is_range};
 
     ghost Value = { Bounds };
 
-    ghost view = { λ r. record { low = arc_str_bytes r.low; high = arc_str_bytes r.high } };
+    ghost view = { λ r. record { low = r.low; high = r.high } };
 
-    ghost invariant = { λ r. is_range (arc_str_bytes r.low) (arc_str_bytes r.high) ≡ true };
+    ghost invariant = { λ r. is_range r.low r.high ≡ true };
 }
 
 /// Why two bounds were not taken as a range.
@@ -68,6 +70,39 @@ fn is_range(low: &str, high: &str) -> bool
     }
 }
 
+/// The later of two places. Linear in the shorter text.
+fn later(first: &Place, second: &Place) -> Result<Place, OutOfMemory>
+    ensures { IfOk result (λ place. place ≡ later first.now second.now) }
+{
+    if first < second {
+        second.copy()
+    } else {
+        first.copy()
+    }
+}
+
+/// The earlier of two places. Linear in the shorter text.
+fn earlier(first: &Place, second: &Place) -> Result<Place, OutOfMemory>
+    ensures { IfOk result (λ place. place ≡ earlier first.now second.now) }
+{
+    if second < first {
+        second.copy()
+    } else {
+        first.copy()
+    }
+}
+
+/// The place of a text with an ASCII character behind it. Linear in the text.
+fn followed(alloc: Global, text: &str, end: char) -> Result<Place, OutOfMemory>
+    requires { end < 128 }
+    ensures { IfOk result (λ place. place ≡ text.now ++ end ∷ []) }
+{
+    let mut whole = String::with_capacity(alloc, text.len() + 1)?;
+    whole.push_str(text)?;
+    whole.push(end)?;
+    Ok(Place::of(ArcStr::from_string(whole)?))
+}
+
 impl Range {
     /// The range between two bounds, which are copied once. Linear in their lengths.
     ///
@@ -80,23 +115,54 @@ impl Range {
             return Err(RangeFault::BadRange);
         }
         match (ArcStr::from_str(alloc, low), ArcStr::from_str(alloc, high)) {
-            (Ok(low), Ok(high)) => Ok(Range { low, high }),
+            (Ok(low), Ok(high)) => Ok(Range {
+                low: Place::of(low),
+                high: Place::of(high),
+            }),
             _ => Err(RangeFault::OutOfMemory),
         }
     }
 
     /// The first bound.
     pub fn lo(&self) -> &str
-        ensures { result.now ≡ self.now.low }
+        ensures text { result.now ≡ self.now.low }
+        ensures is_range { is_range self.now.low self.now.high ≡ true }
     {
-        self.low.as_str()
+        self.low.text()
     }
 
     /// The last bound, which no key of the range reaches.
     pub fn hi(&self) -> &str
         ensures { result.now ≡ self.now.high }
     {
-        self.high.as_str()
+        self.high.text()
+    }
+
+    /// The name of the range's table: what stands before the first `|` of its first bound. Linear in the name.
+    pub fn table(&self) -> &str
+        ensures table { result.now ≡ table_of self.now.low }
+        ensures short { length result.now ≤ 64 }
+        ensures is_range { is_range self.now.low self.now.high ≡ true }
+    {
+        match find_table(self.low.text()) {
+            Some(table) => table,
+            None => unreachable!(),
+        }
+    }
+
+    /// The place of the first bound, which shares the text. It takes constant time.
+    pub fn first_place(&self) -> Result<Place, OutOfMemory>
+        ensures place { IfOk result (λ place. place ≡ self.now.low) }
+        ensures is_range { is_range self.now.low self.now.high ≡ true }
+    {
+        self.low.copy()
+    }
+
+    /// The place of the last bound, which shares the text. It takes constant time.
+    pub fn last_place(&self) -> Result<Place, OutOfMemory>
+        ensures { IfOk result (λ place. place ≡ self.now.high) }
+    {
+        self.high.copy()
     }
 
     /// Whether the key lies in the range. Linear in the shorter texts.
@@ -110,8 +176,59 @@ impl Range {
     pub fn copy(&self) -> Result<Range, OutOfMemory>
         ensures { IfOk result (λ copy. copy ≡ self.now) }
     {
-        let low = self.low.clone()?;
-        let high = self.high.clone()?;
+        let low = self.low.copy()?;
+        let high = self.high.copy()?;
+        Ok(Range { low, high })
+    }
+
+    /// Whether the two ranges meet: neither is empty, and each first bound is below the other's last. Linear in the
+    /// bounds.
+    pub fn meets(&self, other: &Range) -> bool
+        ensures { result ≡ meets self.now other.now }
+    {
+        self.lo() < self.hi()
+            && other.lo() < other.hi()
+            && self.lo() < other.hi()
+            && other.lo() < self.hi()
+    }
+
+    /// The common part of the two ranges, from the greater first bound to the lesser last one, which shares both; none
+    /// exactly where they do not meet. Linear in the bounds.
+    pub fn cut(&self, other: &Range) -> Result<Option<Range>, OutOfMemory>
+        ensures { IfOk result (λ part. part ≡ cut self.now other.now) }
+    {
+        if !self.meets(other) {
+            return Ok(None);
+        }
+        let low = later(&self.low, &other.low)?;
+        let high = earlier(&self.high, &other.high)?;
+        Ok(Some(Range { low, high }))
+    }
+
+    /// The range of all texts that begin with the prefix, a key that ends with `|`: its last bound is the prefix with
+    /// `}` in the place of the last byte. Linear in the prefix.
+    pub fn prefix_range(alloc: Global, prefix: &str) -> Result<Range, OutOfMemory>
+        requires key { is_key prefix.now ≡ true }
+        requires ends { ends_with nat_eq prefix.now (bar ∷ []) ≡ true }
+        ensures { IfOk result (λ range. range ≡ prefix_range prefix.now) }
+    {
+        match prefix.strip_suffix('|') {
+            Some(front) => {
+                let low = Place::of(ArcStr::from_str(alloc, prefix)?);
+                let high = followed(alloc, front, '}')?;
+                Ok(Range { low, high })
+            }
+            None => unreachable!(),
+        }
+    }
+
+    /// The range of the key alone, from it to the key followed by byte 0. Its first bound shares the key's text. Linear
+    /// in the key.
+    pub fn just(alloc: Global, key: &Key) -> Result<Range, OutOfMemory>
+        ensures { IfOk result (λ range. range ≡ just key.now) }
+    {
+        let low = key.place().copy()?;
+        let high = followed(alloc, key.text(), '\0')?;
         Ok(Range { low, high })
     }
 }

@@ -1,4 +1,5 @@
 use super::*;
+use memory::OutOfMemory;
 use std::alloc::{AllocError, Global};
 use std::collections::BTreeMap;
 use std::process::Abort;
@@ -14,7 +15,7 @@ fn followed(alloc: Global, text: &str, count: usize) -> Result<String, AllocErro
 }
 
 #[test]
-fn keys(rt: HostRuntime) -> Result<(), Fail> {
+fn keys_begin_with_a_table_and_have_512_bytes(rt: HostRuntime) -> Result<(), Fail> {
     let alloc = rt.alloc();
     let rows = [
         ("k|", 510, true),
@@ -36,7 +37,7 @@ fn keys(rt: HostRuntime) -> Result<(), Fail> {
 }
 
 #[test]
-fn tables(rt: HostRuntime) -> Result<(), Fail> {
+fn the_table_stands_before_the_first_bar(rt: HostRuntime) -> Result<(), Fail> {
     let alloc = rt.alloc();
     for (count, ok) in [(1, true), (64, true), (65, false)] {
         let name = followed(alloc, "", count)?;
@@ -50,7 +51,7 @@ fn tables(rt: HostRuntime) -> Result<(), Fail> {
 }
 
 #[test]
-fn values(rt: HostRuntime) -> Result<(), Fail> {
+fn values_have_65536_bytes(rt: HostRuntime) -> Result<(), Fail> {
     let alloc = rt.alloc();
     for (count, ok) in [(0, true), (65_536, true), (65_537, false)] {
         let text = followed(alloc, "", count)?;
@@ -63,7 +64,7 @@ fn values(rt: HostRuntime) -> Result<(), Fail> {
 }
 
 #[test]
-fn ranges(rt: HostRuntime) -> Result<(), Fail> {
+fn bounds_of_ranges_are_of_one_table(rt: HostRuntime) -> Result<(), Fail> {
     let alloc = rt.alloc();
     let longest = followed(alloc, "k|", 511)?;
     let too_long = followed(alloc, "k|", 512)?;
@@ -94,7 +95,7 @@ fn ranges(rt: HostRuntime) -> Result<(), Fail> {
 }
 
 #[test]
-fn bounds(rt: HostRuntime) -> Result<(), Fail> {
+fn a_range_holds_its_first_bound_and_not_its_last(rt: HostRuntime) -> Result<(), Fail> {
     let alloc = rt.alloc();
     let range = read_range(&rt, alloc, "k|b", "k|d").copy()?;
     for (text, inside) in [
@@ -110,7 +111,88 @@ fn bounds(rt: HostRuntime) -> Result<(), Fail> {
 }
 
 #[test]
-fn keys_of_a_map(rt: HostRuntime) -> Result<(), Fail> {
+fn ranges_that_meet_have_a_common_part(rt: HostRuntime) -> Result<(), Fail> {
+    let alloc = rt.alloc();
+    let rows = [
+        ("k|a", "k|c", "k|b", "k|d", Some(("k|b", "k|c"))),
+        ("k|", "k}", "k|b", "k|c", Some(("k|b", "k|c"))),
+        ("k|a", "k|b", "k|a", "k|b", Some(("k|a", "k|b"))),
+        ("k|a", "k|b", "k|b", "k|c", None),
+        ("k|a", "k|b", "k|c", "k|d", None),
+        ("k|a", "k}", "k|b", "k|b", None),
+        ("k|", "k}", "k~|", "k~}", None),
+    ];
+    for (low, high, other_low, other_high, part) in rows {
+        let first = read_range(&rt, alloc, low, high);
+        let second = read_range(&rt, alloc, other_low, other_high);
+        check_common(&rt, alloc, &first, &second, part)?;
+        check_common(&rt, alloc, &second, &first, part)?;
+    }
+    Ok(())
+}
+
+/// Whether the two ranges meet and what they have in common, where the bounds of that are given.
+fn check_common(
+    rt: &impl Abort,
+    alloc: Global,
+    first: &Range,
+    second: &Range,
+    part: Option<(&str, &str)>,
+) -> Result<(), OutOfMemory> {
+    assert!(rt; first.meets(second) == part.is_some());
+    match (first.cut(second)?, part) {
+        (None, None) => {}
+        (Some(range), Some((low, high))) => assert!(rt; range.lo() == low && range.hi() == high),
+        _ => panic!(rt; "one has a part and the other has none"),
+    }
+    Ok(())
+}
+
+#[test]
+fn a_prefix_range_ends_with_a_brace(rt: HostRuntime) -> Result<(), Fail> {
+    let alloc = rt.alloc();
+    for (prefix, high) in [("t|", "t}"), ("t|ann|", "t|ann}"), ("t|é||", "t|é|}")] {
+        let range = Range::prefix_range(alloc, prefix)?;
+        assert!(rt; range.lo() == prefix && range.hi() == high);
+    }
+    Ok(())
+}
+
+#[test]
+fn the_range_of_one_key_holds_it(rt: HostRuntime) -> Result<(), Fail> {
+    let alloc = rt.alloc();
+    let longest = followed(alloc, "t|", 510)?;
+    for text in ["t|", "t|ann|", longest.as_str()] {
+        let key = read_key(&rt, alloc, text);
+        let range = Range::just(alloc, &key)?;
+        let after = format!(in alloc; "{text}\0")?;
+        assert!(rt; range.lo() == text && range.hi() == after.as_str());
+        assert!(rt; range.contains(&key));
+    }
+    Ok(())
+}
+
+#[test]
+fn positive_decimals_have_no_leading_zero(rt: HostRuntime) {
+    for (text, digits, positive) in [
+        ("", true, false),
+        ("0", true, false),
+        ("1", true, true),
+        ("9876543210", true, true),
+        ("07", true, false),
+        ("+7", false, false),
+        ("7:", false, false),
+        ("7/", false, false),
+        (":", false, false),
+        ("é", false, false),
+    ] {
+        assert_eq!(rt; decimal::are_digits(text.as_bytes()), digits, "{text}");
+        assert_eq!(rt; decimal::is_positive(text.as_bytes()), positive, "{text}");
+    }
+}
+
+#[test]
+fn a_map_has_its_keys_in_byte_order(rt: HostRuntime) -> Result<(), Fail> {
     let alloc = rt.alloc();
     let mut map = BTreeMap::new(alloc);
     for (key, value) in [("k|b", "2"), ("k|a|b", "1"), ("k~|a", "3")] {
@@ -146,7 +228,7 @@ fn is_shared<T: Send + Sync>(_: &T) -> bool {
 }
 
 #[test]
-fn shared(rt: HostRuntime) -> Result<(), Fail> {
+fn threads_may_share_keys_values_and_ranges(rt: HostRuntime) -> Result<(), Fail> {
     let alloc = rt.alloc();
     assert!(rt; is_shared(&read_key(&rt, alloc, "k|a")) && is_shared(&read_value(&rt, alloc, "v")));
     assert!(rt; is_shared(&read_range(&rt, alloc, "k|a", "k|b")));

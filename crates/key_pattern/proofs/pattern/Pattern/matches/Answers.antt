@@ -1,11 +1,9 @@
-use Rattle.std.proofs.Common.{◌≡◌, ◌<◌, ◌≤◌, true, length, drop, sym, ap, ◌∙◌, arith}
-use Rattle.std.specs.List.{list_all}
+use Rattle.std.proofs.Common.{◌<◌, ◌≤◌, length, drop, sym, ap, ◌∙◌, arith}
 use Rattle.std.proofs.lemmas.List.{length-map}
-use Rattle.semantics.specs.Patterns.{Pattern, is_segment, bind, take_all}
-use Rattle.semantics.proofs.PatternLemmas.{segments_of_pattern}
+use Rattle.semantics.specs.Patterns.{Pattern, bind, take_all}
 use Rattle.key_pattern.specs.Plain.{plain_segment, plain_segments}
 use Rattle.key_pattern.specs.Pieces.{segments_left}
-use Rattle.key_pattern.proofs.WalkLemmas.{seen_at, passes_at, walk_short, walk_stop, walk_more, walk_long}
+use Rattle.key_pattern.proofs.WalkLemmas.{seen_at, segment_at, walk_short, walk_stop, walk_more, walk_long}
 use Rattle.key_pattern.proofs.pattern.Pattern.matches.Goals as goal
 
 pub returns-in_err-left-clause-binds : goal.returns-in_err-left-clause-binds
@@ -22,13 +20,8 @@ returns-in_err-left-clause-binds c =
 
 pub take-requires-clause-segment : goal.take-requires-clause-segment
 take-requires-clause-segment c =
-    let items = c.deref-segment-items.result.now in
-    let i = c.loop-segment.segment-index in
-    let within : i < length (plain_segments items) = omega (arith, c.loop-segment-test.true, length-map items plain_segment) in
-    let fine : list_all is_segment (plain_segments items) ≡ true =
-    ap (λ v. list_all is_segment (plain_segments v)) c.deref-segment-items.ensures.value ∙ segments_of_pattern (plain_segments c.self.inside.segments.items) c.self.invariant in
-    passes_at is_segment (plain_segments items) i (plain_segment c.segment-item.result) fine within
-    (seen_at plain_segment items i c.segment-item.result c.loop-segment-test.true c.segment-item.is)
+    segment_at c.deref-segment-items.result.now (plain_segments c.self.inside.segments.items) c.loop-segment.segment-index c.segment-item.result
+    (ap plain_segments c.deref-segment-items.ensures.value) c.self.invariant c.loop-segment-test.true c.segment-item.is
 
 pub returns-in_err-found-clause-binds : goal.returns-in_err-found-clause-binds
 returns-in_err-found-clause-binds c =

@@ -4,9 +4,9 @@ use Rattle.std.proofs.lemmas.List.{length-map}
 use Rattle.semantics.specs.Patterns.{segment_texts}
 use Rattle.key_pattern.specs.Plain.{plain_segment, plain_segments}
 use Rattle.key_pattern.specs.Pieces.{AddsSegment}
-use Rattle.key_pattern.proofs.JoinLemmas.{joined_after, join_none, join_more, set_at}
+use Rattle.key_pattern.proofs.JoinedTexts.{joined_after, join_none, join_more, set_at}
 use Rattle.key_pattern.proofs.WalkLemmas.{seen_at}
-use Rattle.key_pattern.proofs.matching.join.Goals as goal
+use Rattle.key_pattern.proofs.matching.join_texts.Goals as goal
 use lib.Utf8.{encode}
 
 pub loop-segment-init : goal.loop-segment-init

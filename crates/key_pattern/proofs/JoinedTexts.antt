@@ -17,7 +17,8 @@ joined_bar : (t : Text) (ts : List Text) → joined_after (bar ∷ []) (t ∷ ts
 joined_bar t [] = ap (λ s. bar ∷ s) (append-nil t)
 joined_bar t (u ∷ us) = ap (λ s. bar ∷ (t ++ s)) (joined_bar u us)
 
-joined_nothing : (ts : List Text) → joined_after [] ts ≡ join_with_byte bar ts
+-- the texts, joined with `|` between each two
+pub joined_nothing : (ts : List Text) → joined_after [] ts ≡ join_with_byte bar ts
 joined_nothing [] = refl
 joined_nothing (t ∷ []) = append-nil t
 joined_nothing (t ∷ u ∷ us) = ap (λ s. t ++ s) (joined_bar u us)

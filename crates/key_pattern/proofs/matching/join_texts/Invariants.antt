@@ -6,8 +6,8 @@ use Rattle.semantics.specs.Patterns.{segment_texts}
 use denote.Shadow.{shadow}
 use denote.Text.{Utf8}
 use Rattle.key_pattern.specs.Plain.{plain_segments}
-use Rattle.key_pattern.proofs.JoinLemmas.{joined_after}
-use Rattle.key_pattern.proofs.matching.join.Given as goal
+use Rattle.key_pattern.proofs.JoinedTexts.{joined_after}
+use Rattle.key_pattern.proofs.matching.join_texts.Given as goal
 
 abbrev pub invariant-loop-segment : goal.invariant-loop-segment
 invariant-loop-segment l =

@@ -1,0 +1,64 @@
+use Rattle.std.proofs.Common.{◌<◌, length, sym, ap, ◌∙◌, arith, rules}
+use Rattle.std.proofs.lemmas.List.{length-map}
+use Rattle.semantics.specs.Patterns.{Pattern}
+use Rattle.ranges.specs.Containing.{bind_range}
+use Rattle.ranges.proofs.RangeLemmas.{bounds_of}
+use Rattle.key_pattern.specs.Plain.{plain_segment, plain_segments}
+use Rattle.key_pattern.specs.Shared.{shared_segments}
+use Rattle.key_pattern.proofs.SharedLemmas.{first-shared}
+use Rattle.key_pattern.proofs.WalkLemmas.{seen_at, segment_at, first_more, first_stop, first_end}
+use Rattle.key_pattern.proofs.pattern.Pattern.bind_range.Goals as goal
+
+pub loop-segment-init : goal.loop-segment-init
+loop-segment-init c =
+    let ascend = (bounds_of c.args.range.now.low c.args.range.now.high c.lo-low.ensures.is_range).ascend in
+    record {
+      low_text = search rules;
+      high_text = search rules;
+      ascend = rw (c.lo-low.ensures.text, c.hi-high.ensures) ascend;
+      bound = first-shared (plain_segments c.segments-segment-items.result.now) c.args.range.now c.lo-low.result.now c.hi-high.result.now c.none-found.result
+          c.lo-low.ensures.is_range c.lo-low.ensures.text c.hi-high.ensures c.none-found.ensures;
+    }
+
+pub returns-in-None-clause-binds : goal.returns-in-None-clause-binds
+returns-in-None-clause-binds c =
+    let items = c.segments-segment-items.result.now in
+    let p : Pattern = plain_segments items in
+    let i = c.loop-segment.segment-index in
+    let within : i < length p = omega (arith, c.loop-segment-test.true, length-map items plain_segment) in
+    sym (first_end p i (plain_segment c.segment-item.result) (shared_segments c.loop-segment.low.now c.loop-segment.high.now) c.loop-segment.found within
+    (seen_at plain_segment items i c.segment-item.result c.loop-segment-test.true c.segment-item.is) c.in-None.ensures)
+    ∙ c.loop-segment.invariant.bound ∙ ap (λ q. bind_range q c.args.range.now) c.segments-segment-items.ensures.segments
+
+pub take-requires-clause-segment : goal.take-requires-clause-segment
+take-requires-clause-segment c =
+    segment_at c.segments-segment-items.result.now c.args.self.now c.loop-segment.segment-index c.segment-item.result
+    c.segments-segment-items.ensures.segments c.segments-segment-items.ensures.is_pattern c.loop-segment-test.true c.segment-item.is
+
+pub returns-in_err-found-in-Some-clause-binds : goal.returns-in_err-found-in-Some-clause-binds
+returns-in_err-found-in-Some-clause-binds c =
+    let items = c.segments-segment-items.result.now in
+    let p : Pattern = plain_segments items in
+    let i = c.loop-segment.segment-index in
+    let within : i < length p = omega (arith, c.loop-segment-test.true, length-map items plain_segment) in
+    c.from_residual.ensures
+    ∙ sym (first_stop p i (plain_segment c.segment-item.result) c.in-Some.shared.text.now (shared_segments c.in-Some.shared.low.now c.in-Some.shared.high.now)
+    (shared_segments c.loop-segment.low.now c.loop-segment.high.now) c.loop-segment.found within
+    (seen_at plain_segment items i c.segment-item.result c.loop-segment-test.true c.segment-item.is) c.in-Some.ensures.segments (sym c.in_err-found-in-Some.ensures))
+    ∙ c.loop-segment.invariant.bound ∙ ap (λ q. bind_range q c.args.range.now) c.segments-segment-items.ensures.segments
+
+pub loop-segment-preserved : goal.loop-segment-preserved
+loop-segment-preserved c =
+    let items = c.segments-segment-items.result.now in
+    let p : Pattern = plain_segments items in
+    let i = c.loop-segment.segment-index in
+    let within : i < length p = omega (arith, c.loop-segment-test.true, length-map items plain_segment) in
+    record {
+      low_text = search rules;
+      high_text = search rules;
+      ascend = c.in-Some.ensures.ascend;
+      bound = first_more p i (plain_segment c.segment-item.result) c.in-Some.shared.text.now (shared_segments c.in-Some.shared.low.now c.in-Some.shared.high.now)
+          (shared_segments c.loop-segment.low.now c.loop-segment.high.now) c.loop-segment.found c.in_ok-found-in-Some.found within
+          (seen_at plain_segment items i c.segment-item.result c.loop-segment-test.true c.segment-item.is) c.in-Some.ensures.segments (sym c.in_ok-found-in-Some.ensures)
+          ∙ c.loop-segment.invariant.bound;
+    }

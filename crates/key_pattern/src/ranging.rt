@@ -1,0 +1,183 @@
+// Slots that the keys of a range share, and the range that holds every key which fits a pattern under slots.
+ghost use Rattle.std.specs.Prelude.{◌≡◌, IfOk, option_map, true, [], ◌∷◌, ◌++◌};
+ghost use Rattle.std.specs.Ordering.{is_le};
+ghost use Rattle.std.specs.String.{string_bytes};
+ghost use Rattle.semantics.specs.Texts.{Text, bar, names_table, text_cmp};
+ghost use Rattle.semantics.specs.Patterns as plain;
+ghost use Rattle.semantics.specs.Patterns.{is_pattern, short};
+ghost use Rattle.ranges.specs.Ranges.{just, prefix_range};
+ghost use Rattle.ranges.specs.Containing.{bind_range, containing};
+ghost use Rattle.ranges.specs.ContainingLaws.{HoldsFitting};
+ghost use Rattle.key_pattern.specs.Plain.{plain_segment, plain_segments};
+ghost use Rattle.key_pattern.specs.Shared.{Shares};
+ghost use Rattle.key_pattern.specs.Fixed.{fixed_text, AddsFixed, JoinsFixed};
+
+use crate::matching::take;
+use crate::pattern::Pattern;
+use crate::segment::Segment;
+use crate::slots::Slots;
+use key_space::key::MOST_KEY_BYTES;
+use key_space::{Key, KeyFault, Range};
+use memory::OutOfMemory;
+use std::alloc::Global;
+
+/// A segment that two bounds share, and what is left of each behind it.
+#[derive(Clone, Copy)]
+struct SharedSegment<'a> {
+    text: &'a str,
+    low: &'a str,
+    high: &'a str,
+}
+
+/// The first segment of two bounds, where both have `|` behind it; or where the last bound has `}` behind it and ends,
+/// which leaves nothing. Linear in the segment.
+fn shared_segment<'a>(low: &'a str, high: &'a str) -> Option<SharedSegment<'a>>
+    requires ascend { is_le (text_cmp low.now high.now) ≡ true }
+    ensures { Shares low.now high.now result }
+{
+    let (text, low) = low.split_once('|')?;
+    let rest = high.strip_prefix(text)?;
+    match rest.strip_prefix('|') {
+        Some(high) => Some(SharedSegment { text, low, high }),
+        None => if rest == "}" {
+            Some(SharedSegment {
+                text,
+                low: "",
+                high: "",
+            })
+        } else {
+            None
+        },
+    }
+}
+
+/// The joined texts of the longest beginning of some segments in which each has a text, and whether that is all of them.
+#[derive(Drop)]
+struct FixedText {
+    text: String,
+    is_whole: bool,
+}
+
+/// Puts the separator and the text that the segment has under the slots at the end, and says whether it has one: a
+/// literal has its own, and a slot that of its place, if there is one. Want of memory leaves the text at any length.
+fn push_fixed(
+    text: &mut String,
+    separator: &str,
+    segment: &Segment,
+    slots: &Slots<'_>,
+) -> Result<bool, OutOfMemory>
+    ensures { IfOk result (λ had. AddsFixed (fixed_text (plain_segment segment.now) slots.now) separator.now (string_bytes text.old) (string_bytes text.new) had) }
+{
+    match segment {
+        Segment::Literal(literal) => {
+            text.push_str(separator)?;
+            text.push_str(literal.as_str())?;
+            Ok(true)
+        }
+        Segment::Slot { place, .. } => match slots.at(*place) {
+            None => Ok(false),
+            Some(part) => {
+                text.push_str(separator)?;
+                text.push_str(part)?;
+                Ok(true)
+            }
+        },
+    }
+}
+
+/// The texts of the longest beginning in which each segment has one, with `|` between each two. Linear in the text.
+fn join_fixed(
+    alloc: Global,
+    segments: &[Segment],
+    slots: &Slots<'_>,
+) -> Result<FixedText, OutOfMemory>
+    ensures { IfOk result (λ fixed. JoinsFixed (plain_segments segments.now) slots.now fixed) }
+{
+    let mut text = String::new(alloc);
+    let mut separator = "";
+    for segment in segments {
+        if !push_fixed(&mut text, separator, segment, slots)? {
+            return Ok(FixedText {
+                text,
+                is_whole: false,
+            });
+        }
+        separator = "|";
+    }
+    Ok(FixedText {
+        text,
+        is_whole: true,
+    })
+}
+
+/// The range of the key of this text alone; none where it has more than 512 bytes. Linear in the text.
+fn key_range(alloc: Global, text: &str) -> Result<Option<Range>, OutOfMemory>
+    requires { names_table text.now ≡ true }
+    ensures { IfOk result (λ range. range ≡ option_map just (short text.now)) }
+{
+    match Key::read(alloc, text) {
+        Ok(key) => Ok(Some(Range::just(alloc, &key)?)),
+        Err(KeyFault::BadKey) => Ok(None),
+        Err(KeyFault::OutOfMemory) => Err(OutOfMemory),
+    }
+}
+
+/// The range of all texts that begin with this one and `|`; none where that has more than 512 bytes. Linear in the
+/// text.
+fn beginning_range(alloc: Global, mut text: String) -> Result<Option<Range>, OutOfMemory>
+    requires { names_table (string_bytes text ++ bar ∷ []) ≡ true }
+    ensures { IfOk result (λ range. range ≡ option_map prefix_range (short (string_bytes text ++ bar ∷ []))) }
+{
+    text.push('|')?;
+    if text.len() > MOST_KEY_BYTES {
+        return Ok(None);
+    }
+    Ok(Some(Range::prefix_range(alloc, text.as_str())?))
+}
+
+impl Pattern {
+    /// The slots that all keys of the range share which fit the pattern: those of the segments with which both bounds
+    /// begin. None only where no key of the range fits. Linear in the bounds, and nothing is copied.
+    pub fn bind_range<'a>(&self, range: &'a Range) -> Option<Slots<'a>>
+        ensures binds { result ≡ bind_range self.now range.now }
+        ensures is_pattern { is_pattern self.now ≡ true }
+    {
+        let mut low = range.lo();
+        let mut high = range.hi();
+        let mut found = Slots::none();
+        for segment in self.segments() {
+            match shared_segment(low, high) {
+                None => return Some(found),
+                Some(shared) => {
+                    found = take(segment, shared.text, &found)?;
+                    low = shared.low;
+                    high = shared.high;
+                }
+            }
+        }
+        None
+    }
+
+    /// The range that holds every key which fits the pattern under the slots, or under more: that of the one key where
+    /// each segment is a literal or a set slot, and otherwise that of all keys that begin with the texts of the longest
+    /// beginning of such segments. None only where each such key has more than 512 bytes. Linear in the texts.
+    ///
+    /// Today the answer does not depend on the pattern of the output and the range of it that is asked for.
+    pub fn containing(
+        &self,
+        alloc: Global,
+        slots: &Slots<'_>,
+        _out: &Pattern,
+        _range: &Range,
+    ) -> Result<Option<Range>, OutOfMemory>
+        ensures exact { IfOk result (λ found. found ≡ containing self.now slots.now) }
+        ensures holds { IfOk result (λ found. (more : plain.Slots) (key : Text) → HoldsFitting self.now slots.now found more key) }
+    {
+        let fixed = join_fixed(alloc, self.segments(), slots)?;
+        if fixed.is_whole {
+            key_range(alloc, fixed.text.as_str())
+        } else {
+            beginning_range(alloc, fixed.text)
+        }
+    }
+}

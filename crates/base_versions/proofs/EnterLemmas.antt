@@ -1,0 +1,246 @@
+-- What is kept of a history, through one entry more.
+use Rattle.std.proofs.Common.{◌≡◌, ℕ, ◌+◌, List, [], ◌∷◌, ◌++◌, length, length-append, take, Bool, true, false, cond, ◌==◌, Option, Some, None, refl, sym, ap, ◌∙◌, subst, arith, Result, Ok, Err, OnOk, OnErr, IfOk, is_eq}
+use Rattle.std.specs.Bool.{MatchBool}
+use Rattle.std.specs.Map.{lookup}
+use Rattle.std.specs.Option.{unwrap_or}
+use Rattle.std.specs.BTreeMap.{BTreeMap, is_at, get_by_text, UpdatesBy}
+use Rattle.std.specs.Cmp.Lexicographic.{slice_cmp}
+use Rattle.std.specs.Ordering.{nat_cmp}
+use Rattle.std.specs.String.{string_bytes, string_cmp}
+use Rattle.std.specs.declared.string.String.{String}
+use Rattle.std.proofs.lemmas.Bool.{false≢true, false_from_ne_true}
+use Rattle.std.proofs.lemmas.List.{append-nil}
+use Rattle.std.proofs.lemmas.Map.Text.{btree_map_updates_text}
+use Rattle.semantics.specs.Texts.{Text, same, text_cmp, table_of}
+use Rattle.semantics.specs.Histories.{Write, put, remove, declare, Entry, History}
+use Rattle.semantics.proofs.PieceLemmas.{equal_by_same, same_by_equal}
+use Rattle.base_versions.specs.declared.versions.Version.{Version}
+use Rattle.base_versions.specs.declared.changes.Change.{Change}
+use Rattle.base_versions.specs.Versions.{Tracks, version_by, versions_at, versions_of, AddsVersion, KeepsVersions}
+use Rattle.base_versions.specs.Changes.{change_by, changes_of}
+use Rattle.base_versions.specs.Kept.{TableKept, Tables, Kept, empty_table, named, table_among, table_in, shard_of, has_table, IsEntered, IsKept, IsChanged, StandsFor}
+use Rattle.base_versions.proofs.VersionLemmas.{versions_of-push}
+use Rattle.base_versions.proofs.ChangeLemmas.{changes_of-push}
+
+-- ---- tables in a map
+
+-- a look-up by text finds the table of the name
+lookup_named : {A : Type 0} (q : Text) (es : List (String A × TableKept)) → lookup (is_at (text_cmp q)) (named es) ≡ lookup (is_at (λ k. slice_cmp nat_cmp q (string_bytes k))) es
+lookup_named q [] = refl
+lookup_named q (e ∷ es) = ap (cond (is_eq (slice_cmp nat_cmp q (string_bytes e.0))) (Some e.1)) (lookup_named q es)
+
+-- what a look-up finds is the table of the name, or there is none
+pub among_found : {A : Type 0} (name table : Text) (es : List (String A × TableKept)) (o : Option TableKept) → name ≡ table →
+    o ≡ lookup (is_at (λ k. slice_cmp nat_cmp name (string_bytes k))) es → table_among table (named es) ≡ unwrap_or o empty_table
+among_found name table es o same_name e = ap (λ x. table_among x (named es)) (sym same_name) ∙ ap (λ x. unwrap_or x empty_table) (lookup_named name es ∙ sym e)
+
+-- what a look-up finds is what is kept of the table, or nothing is
+pub table_found : {A : Type 0} (kept : Kept) (view : Kept) (name table : Text) (es : List (String A × TableKept)) (o : Option TableKept) → view ≡ kept → view.tables ≡ named es → name ≡ table →
+    o ≡ lookup (is_at (λ k. slice_cmp nat_cmp name (string_bytes k))) es → table_in table kept ≡ unwrap_or o empty_table
+table_found kept view name table es o is all same_name e =
+    ap (λ k. table_in table k) (sym is) ∙ ap (table_among table) all ∙ among_found name table es o same_name e
+
+-- the new tables have this one at the name, and at every other name what was there
+abbrev pub IsSetTable : Text → TableKept → Tables → Tables → Type 0
+IsSetTable name table old new = (q : Text) → table_among q new ≡ cond (same name q) table (table_among q old)
+
+found_either : (b : Bool) (table : TableKept) (o : Option TableKept) → unwrap_or (cond b (Some table) o) empty_table ≡ cond b table (unwrap_or o empty_table)
+found_either true table o = refl
+found_either false table o = refl
+
+-- a map that is changed at one name
+pub set-from_updates : {A : Type 0} (name : Text) (table : TableKept) (m n : BTreeMap (String A) TableKept) → UpdatesBy string_cmp (λ k. slice_cmp nat_cmp name (string_bytes k)) m n (Some table) → IsSetTable name table (named m.entries) (named n.entries)
+set-from_updates name table m n u = λ q.
+    ap (λ x. unwrap_or x empty_table) (lookup_named q n.entries ∙ btree_map_updates_text name m n (Some table) u q)
+    ∙ found_either (same name q) table (get_by_text m q)
+    ∙ ap (λ x. cond (same name q) table (unwrap_or x empty_table)) (sym (lookup_named q m.entries))
+
+here : (name : Text) (table : TableKept) (old new : Tables) → IsSetTable name table old new → table_among name new ≡ table
+here name table old new set = set name ∙ ap (λ b. cond b table (table_among name old)) (same_by_equal name name refl)
+
+elsewhere : (name q : Text) (table : TableKept) (old new : Tables) → IsSetTable name table old new → same name q ≡ false → table_among q new ≡ table_among q old
+elsewhere name q table old new set e = set q ∙ ap (λ b. cond b table (table_among q old)) e
+
+-- the key's table has one version and one change more
+pub entered-from_set : (position : ℕ) (key : Text) (value : Option Text) (before table : TableKept) (old new : Tables) → IsSetTable (table_of key) table old new → before ≡ table_among (table_of key) old →
+    AddsVersion key (record { position = position; value = value }) before.tracks table.tracks → table.changes ≡ before.changes ++ record { position = position; key = key } ∷ [] → IsEntered position key value old new
+entered-from_set position key value before table old new set was versions changes =
+    let is = sym (here (table_of key) table old new set) in
+    record {
+      versions = subst (λ (t : TableKept). AddsVersion key (record { position = position; value = value }) t.tracks (table_among (table_of key) new).tracks) was
+          (subst (λ (t : TableKept). AddsVersion key (record { position = position; value = value }) before.tracks t.tracks) is versions);
+      changes = ap (λ (t : TableKept). t.changes) (sym is) ∙ changes ∙ ap (λ (t : TableKept). t.changes ++ record { position = position; key = key } ∷ []) was;
+      others = λ q e. elsewhere (table_of key) q table old new set e;
+    }
+
+kept_by : (name q : Text) (before table : TableKept) (old : Tables) (b : Bool) → same name q ≡ b → before ≡ table_among name old → KeepsVersions before.tracks table.tracks → table.changes ≡ before.changes →
+    KeepsVersions (table_among q old).tracks (cond b table (table_among q old)).tracks × ((cond b table (table_among q old)).changes ≡ (table_among q old).changes)
+kept_by name q before table old true e was versions changes =
+    let is : before ≡ table_among q old = was ∙ ap (λ n. table_among n old) (equal_by_same name q e) in
+    (subst (λ (t : TableKept). KeepsVersions t.tracks table.tracks) is versions, changes ∙ ap (λ (t : TableKept). t.changes) is)
+kept_by name q before table old false e was versions changes = ((λ k. refl), refl)
+
+-- each table has the same versions and changes
+pub kept-from_set : (name : Text) (before table : TableKept) (old new : Tables) → IsSetTable name table old new → before ≡ table_among name old → KeepsVersions before.tracks table.tracks → table.changes ≡ before.changes → IsKept old new
+kept-from_set name before table old new set was versions changes =
+    record {
+      versions = λ q. subst (λ (t : TableKept). KeepsVersions (table_among q old).tracks t.tracks) (sym (set q)) (kept_by name q before table old (same name q) refl was versions changes).0;
+      changes = λ q. ap (λ (t : TableKept). t.changes) (set q) ∙ (kept_by name q before table old (same name q) refl was versions changes).1;
+    }
+
+-- what holds where both facts do
+pub on_ok_both : {X E P Q R : Type 0} (r : Result X E) → (P → Q → R) → OnOk r P → OnOk r Q → OnOk r R
+on_ok_both (Ok x) f p q = f p q
+on_ok_both (Err e) f p q = tt
+
+pub on_err_both : {X E P Q R : Type 0} (r : Result X E) → (P → Q → R) → OnErr r P → OnErr r Q → OnErr r R
+on_err_both (Ok x) f p q = tt
+on_err_both (Err e) f p q = f p q
+
+-- what holds at any error
+pub on_err_always : {X E P : Type 0} (r : Result X E) → P → OnErr r P
+on_err_always (Ok x) p = tt
+on_err_always (Err e) p = p
+
+-- what holds of a value for each of several
+pub if_ok_all : {X E H : Type 0} (r : Result X E) (S : H → Type 0) (P : H → X → Type 0) → ((h : H) → S h → IfOk r (P h)) → IfOk r (λ x. (h : H) → S h → P h x)
+if_ok_all (Ok x) S P f = f
+if_ok_all (Err e) S P f = tt
+
+-- what holds of a value where something holds with it
+pub if_ok_given : {X E S : Type 0} (r : Result X E) (P : X → Type 0) → OnOk r S → (S → IfOk r P) → IfOk r P
+if_ok_given (Ok x) P s f = f s
+if_ok_given (Err e) P s f = tt
+
+-- ---- the history
+
+-- no entries
+pub stands-nil : (kept : Kept) → kept.position ≡ 0 → kept.tables ≡ [] → StandsFor kept []
+unfolding versions_of changes_of
+stands-nil kept position tables =
+    record {
+      same_length = position;
+      same_versions = λ key own. ap (λ ts. versions_at key (table_among (table_of key) ts).tracks) tables;
+      same_changes = λ table own. ap (λ ts. (table_among table ts).changes) tables;
+    }
+
+-- a table of the one shard is of the other
+same_shard : (old new : Kept) (table : Text) → new.shard ≡ old.shard → new.shards ≡ old.shards → has_table new table ≡ true → has_table old table ≡ true
+same_shard old new table shard shards own =
+    ap (λ n. shard_of n table == old.shard) (sym shards) ∙ ap (λ n. shard_of new.shards table == n) (sym shard) ∙ own
+
+-- the same versions and changes stand for the same histories
+pub stands-kept : (old new : Kept) (h : History) → new.position ≡ old.position → new.shard ≡ old.shard → new.shards ≡ old.shards → IsKept old.tables new.tables → StandsFor old h → StandsFor new h
+stands-kept old new h position shard shards kept s =
+    record {
+      same_length = position ∙ s.same_length;
+      same_versions = λ key own. kept.versions (table_of key) key ∙ s.same_versions key (same_shard old new (table_of key) shard shards own);
+      same_changes = λ table own. kept.changes table ∙ s.same_changes table (same_shard old new table shard shards own);
+    }
+
+same_by : (t u : Text) (b c : Bool) → same t u ≡ b → same u t ≡ c → b ≡ c
+same_by t u true true h g = refl
+same_by t u true false h g = absurd (false≢true (sym g ∙ same_by_equal u t (sym (equal_by_same t u h))))
+same_by t u false true h g = absurd (false≢true (sym h ∙ same_by_equal t u (sym (equal_by_same u t g))))
+same_by t u false false h g = refl
+
+-- it does not matter which text is first
+same_either_way : (t u : Text) → same t u ≡ same u t
+same_either_way t u = same_by t u (same t u) (same u t) refl refl
+
+pushed : {A : Type 0} (b : Bool) (xs : List A) (x : A) → cond b (xs ++ x ∷ []) xs ≡ xs ++ cond b (x ∷ []) []
+pushed true xs x = refl
+pushed false xs x = sym (append-nil xs)
+
+-- nothing more, where the test fails
+nothing : {A : Type 0} (b : Bool) (xs ys : List A) (x : A) → b ≡ false → ys ≡ xs → ys ≡ xs ++ cond b (x ∷ []) []
+nothing b xs ys x e h = h ∙ sym (append-nil xs) ∙ ap (λ c. xs ++ cond c (x ∷ []) []) (sym e)
+
+-- keys of two tables are two keys
+other_key : (key q : Text) → same (table_of key) (table_of q) ≡ false → same q key ≡ false
+other_key key q e = false_from_ne_true (same q key) (λ h. false≢true (sym e ∙ same_by_equal (table_of key) (table_of q) (sym (ap table_of (equal_by_same q key h)))))
+
+-- a table of the shard is not that of a key that is not of the shard
+other_shard : (old : Kept) (key table : Text) → has_table old (table_of key) ≡ false → has_table old table ≡ true → same (table_of key) table ≡ false
+other_shard old key table e own = false_from_ne_true (same (table_of key) table) (λ h. false≢true (sym e ∙ ap (has_table old) (equal_by_same (table_of key) table h) ∙ own))
+
+versions_in_table : (key : Text) (version : Version) (old new : Tables) (q : Text) (b : Bool) → same (table_of key) (table_of q) ≡ b →
+    AddsVersion key version (table_among (table_of key) old).tracks (table_among (table_of key) new).tracks → ((table : Text) → same (table_of key) table ≡ false → table_among table new ≡ table_among table old) →
+    versions_at q (table_among (table_of q) new).tracks ≡ versions_at q (table_among (table_of q) old).tracks ++ cond (same q key) (version ∷ []) []
+versions_in_table key version old new q true e versions others =
+    let name = equal_by_same (table_of key) (table_of q) e in
+    subst (λ (t : Text). versions_at q (table_among t new).tracks ≡ versions_at q (table_among t old).tracks ++ cond (same q key) (version ∷ []) []) name
+    (versions q ∙ pushed (same key q) (versions_at q (table_among (table_of key) old).tracks) version
+    ∙ ap (λ b. versions_at q (table_among (table_of key) old).tracks ++ cond b (version ∷ []) []) (same_either_way key q))
+versions_in_table key version old new q false e versions others =
+    nothing (same q key) (versions_at q (table_among (table_of q) old).tracks) (versions_at q (table_among (table_of q) new).tracks) version (other_key key q e)
+    (ap (λ (t : TableKept). versions_at q t.tracks) (others (table_of q) e))
+
+-- each key of the shard has the version that the change gives it
+more_versions : (position : ℕ) (key : Text) (value : Option Text) (old new : Kept) (q : Text) (b : Bool) → has_table old (table_of key) ≡ b → MatchBool b (IsEntered position key value old.tables new.tables) (IsKept old.tables new.tables) →
+    has_table old (table_of q) ≡ true → versions_at q (table_in (table_of q) new).tracks ≡ versions_at q (table_in (table_of q) old).tracks ++ cond (same q key) (record { position = position; value = value } ∷ []) []
+more_versions position key value old new q true e change own =
+    versions_in_table key (record { position = position; value = value }) old.tables new.tables q (same (table_of key) (table_of q)) refl change.versions change.others
+more_versions position key value old new q false e change own =
+    nothing (same q key) (versions_at q (table_in (table_of q) old).tracks) (versions_at q (table_in (table_of q) new).tracks) (record { position = position; value = value }) (other_key key q (other_shard old key (table_of q) e own))
+    (change.versions (table_of q) q)
+
+changes_in_table : (position : ℕ) (key : Text) (old new : Tables) (table : Text) (b : Bool) → same (table_of key) table ≡ b →
+    (table_among (table_of key) new).changes ≡ (table_among (table_of key) old).changes ++ record { position = position; key = key } ∷ [] → ((q : Text) → same (table_of key) q ≡ false → table_among q new ≡ table_among q old) →
+    (table_among table new).changes ≡ (table_among table old).changes ++ cond b (record { position = position; key = key } ∷ []) []
+changes_in_table position key old new table true e changes others =
+    subst (λ (t : Text). (table_among t new).changes ≡ (table_among t old).changes ++ record { position = position; key = key } ∷ []) (equal_by_same (table_of key) table e) changes
+changes_in_table position key old new table false e changes others =
+    ap (λ (t : TableKept). t.changes) (others table e) ∙ sym (append-nil (table_among table old).changes)
+
+-- each table of the shard has the change
+more_changes : (position : ℕ) (key : Text) (value : Option Text) (old new : Kept) (table : Text) (b : Bool) → has_table old (table_of key) ≡ b → MatchBool b (IsEntered position key value old.tables new.tables) (IsKept old.tables new.tables) →
+    has_table old table ≡ true → (table_in table new).changes ≡ (table_in table old).changes ++ cond (same (table_of key) table) (record { position = position; key = key } ∷ []) []
+more_changes position key value old new table true e change own =
+    changes_in_table position key old.tables new.tables table (same (table_of key) table) refl change.changes change.others
+more_changes position key value old new table false e change own =
+    nothing (same (table_of key) table) (table_in table old).changes (table_in table new).changes (record { position = position; key = key }) (other_shard old key table e own) (change.changes table)
+
+-- one position further
+abbrev pub raised : Kept → Kept
+raised kept = record { shard = kept.shard; shards = kept.shards; position = kept.position + 1; tables = kept.tables }
+
+-- a write that gives a key a value, or none
+abbrev pub Gives : Write → Text → Option Text → Type 0
+Gives write key value =
+    ((position : ℕ) (q : Text) → version_by position q write ≡ cond (same q key) (record { position = position; value = value } ∷ []) [])
+    × ((position : ℕ) (table : Text) → change_by position table write ≡ cond (same (table_of key) table) (record { position = position; key = key } ∷ []) [])
+
+-- what is kept after one change more
+pub stands-change : (old new : Kept) (h : History) (e : Entry) (key : Text) (value : Option Text) → Gives e.write key value → IsChanged (old.position + 1) key value old new →
+    new.position ≡ old.position → new.shard ≡ old.shard → new.shards ≡ old.shards → StandsFor old h → StandsFor (raised new) (h ++ e ∷ [])
+stands-change old new h e key value gives change position shard shards s =
+    record {
+      same_length = ap (λ n. n + 1) (position ∙ s.same_length) ∙ sym (length-append h (e ∷ []));
+      same_versions = λ q own.
+          let mine = same_shard old new (table_of q) shard shards own in
+          more_versions (old.position + 1) key value old new q (has_table old (table_of key)) refl change mine
+          ∙ ap (λ vs. versions_at q (table_in (table_of q) old).tracks ++ vs) (sym (gives.0 (old.position + 1) q))
+          ∙ ap (λ vs. vs ++ version_by (old.position + 1) q e.write) (s.same_versions q mine)
+          ∙ ap (λ n. versions_of q h ++ version_by (n + 1) q e.write) s.same_length
+          ∙ sym (versions_of-push q h e);
+      same_changes = λ table own.
+          let mine = same_shard old new table shard shards own in
+          more_changes (old.position + 1) key value old new table (has_table old (table_of key)) refl change mine
+          ∙ ap (λ cs. (table_in table old).changes ++ cs) (sym (gives.1 (old.position + 1) table))
+          ∙ ap (λ cs. cs ++ change_by (old.position + 1) table e.write) (s.same_changes table mine)
+          ∙ ap (λ n. changes_of table h ++ change_by (n + 1) table e.write) s.same_length
+          ∙ sym (changes_of-push table h e);
+    }
+
+-- what is kept after a declaration
+pub stands-declared : (old : Kept) (h : History) (e : Entry) → ((position : ℕ) (q : Text) → version_by position q e.write ≡ []) → ((position : ℕ) (table : Text) → change_by position table e.write ≡ []) →
+    StandsFor old h → StandsFor (raised old) (h ++ e ∷ [])
+stands-declared old h e versions changes s =
+    record {
+      same_length = ap (λ n. n + 1) s.same_length ∙ sym (length-append h (e ∷ []));
+      same_versions = λ q own.
+          s.same_versions q own ∙ sym (append-nil (versions_of q h)) ∙ ap (λ vs. versions_of q h ++ vs) (sym (versions (length h + 1) q)) ∙ sym (versions_of-push q h e);
+      same_changes = λ table own.
+          s.same_changes table own ∙ sym (append-nil (changes_of table h)) ∙ ap (λ cs. changes_of table h ++ cs) (sym (changes (length h + 1) table)) ∙ sym (changes_of-push table h e);
+    }

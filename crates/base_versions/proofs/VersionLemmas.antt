@@ -1,0 +1,158 @@
+-- The versions of a key, and the base pair at it.
+use Rattle.std.proofs.Common.{◌≡◌, ℕ, zero, suc, ◌+◌, ◌-◌, ◌<◌, ◌≤◌, List, [], ◌∷◌, ◌++◌, length, take, fold, nat_le, Bool, true, false, cond, not, slice_get, option_and_then, Option, Some, None, refl, sym, ap, ◌∙◌, ◌⊎◌, ⊎_elim, inl, inr, arith, subst, append_assoc}
+use Rattle.std.proofs.Math.Seq.{take-nil}
+use Rattle.std.proofs.lemmas.Bool.{cases_lt, false_from_ne_true, le-leb, leb-true}
+use Rattle.std.proofs.lemmas.List.{append-nil}
+use Rattle.std.proofs.lemmas.List.Sums.{fold-append}
+use Rattle.semantics.specs.Texts.{Text, same, Table, value_at, with_pair, without_key}
+use Rattle.semantics.specs.Histories.{Write, put, remove, declare, Entry, History, base_after, base_of}
+use Rattle.semantics.proofs.TableLemmas.{value_at-with_pair, value_at-pairs_where}
+use Rattle.base_versions.specs.declared.versions.Version.{Version}
+use Rattle.base_versions.proofs.PositionLemmas.{ascend_from_less, IsCut, cut_none, cut_some}
+use Rattle.base_versions.specs.Versions.{version_by, versions_from, versions_of, value_in, AscendFrom}
+
+-- what a version makes of the value before it, where its position is at most p
+abbrev pub taken : ℕ → Option Text → Version → Option Text
+taken p value v = cond (nat_le v.position p) v.value value
+
+-- ---- the last version of a position at most p
+
+late_test : (position p : ℕ) → p < position → nat_le position p ≡ false
+late_test position p h = false_from_ne_true (nat_le position p) (λ e. let g = leb-true position p e in omega arith)
+
+-- a version after p leaves the value
+late_one : (p : ℕ) (b : Bool) (v : Version) (value : Option Text) → p < v.position → fold (taken p) value (cond b (v ∷ []) []) ≡ value
+late_one p true v value h = ap (λ t. cond t v.value value) (late_test v.position p h)
+late_one p false v value h = refl
+
+-- a write after p leaves the value
+late_write : (p position : ℕ) (key : Text) (write : Write) (value : Option Text) → p < position → fold (taken p) value (version_by position key write) ≡ value
+late_write p position key (put k v) value h = late_one p (same key k) (record { position = position; value = Some v }) value h
+late_write p position key (remove k) value h = late_one p (same key k) (record { position = position; value = None }) value h
+late_write p position key (declare j) value h = refl
+
+-- entries after p leave the value
+late_entries : (p position : ℕ) (key : Text) (h : History) (value : Option Text) → p < position → fold (taken p) value (versions_from position key h) ≡ value
+late_entries p position key [] value late = refl
+late_entries p position key (e ∷ es) value late =
+    fold-append (taken p) value (version_by position key e.write) (versions_from (position + 1) key es)
+    ∙ ap (λ x. fold (taken p) x (versions_from (position + 1) key es)) (late_write p position key e.write value late)
+    ∙ late_entries p (position + 1) key es value (omega arith)
+
+-- a version up to p is taken
+early_one : (p : ℕ) (b : Bool) (v : Version) (value : Option Text) → v.position ≤ p → fold (taken p) value (cond b (v ∷ []) []) ≡ cond b v.value value
+early_one p true v value h = ap (λ t. cond t v.value value) (le-leb v.position p h)
+early_one p false v value h = refl
+
+without : (b : Bool) (value : Option Text) → cond b None value ≡ cond (not b) value None
+without true value = refl
+without false value = refl
+
+-- a write up to p makes of the value what it makes of the base pair
+early_write : (p position : ℕ) (key : Text) (write : Write) (table : Table) → position ≤ p →
+    fold (taken p) (value_at key table) (version_by position key write) ≡ value_at key (base_after write table)
+early_write p position key (put k v) table h =
+    early_one p (same key k) (record { position = position; value = Some v }) (value_at key table) h ∙ sym (value_at-with_pair key k v table)
+early_write p position key (remove k) table h =
+    early_one p (same key k) (record { position = position; value = None }) (value_at key table) h
+    ∙ without (same key k) (value_at key table) ∙ sym (value_at-pairs_where (λ x. not (same x k)) key table)
+early_write p position key (declare j) table h = refl
+
+-- the base pairs after entries
+abbrev base_from : Table → History → Table
+base_from table h = fold (λ (t : Table) (e : Entry). base_after e.write t) table h
+
+-- the first entry of those that are taken
+take_first : (p position : ℕ) (e : Entry) (es : History) → position ≤ p → take (p + 1 - position) (e ∷ es) ≡ e ∷ take (p + 1 - (position + 1)) es
+take_first p position e es h = let n : p + 1 - position ≡ suc (p + 1 - (position + 1)) = omega arith in rw n refl
+
+-- the value of a key's last version up to p is its base pair
+value_from : (p position : ℕ) (key : Text) (h : History) (table : Table) →
+    fold (taken p) (value_at key table) (versions_from position key h) ≡ value_at key (base_from table (take (p + 1 - position) h))
+value_from p position key [] table = ap (λ es. value_at key (base_from table es)) (sym (take-nil (p + 1 - position)))
+value_from p position key (e ∷ es) table =
+    ⊎_elim
+    (λ (late : p < position).
+    late_entries p position key (e ∷ es) (value_at key table) late
+    ∙ ap (λ n. value_at key (base_from table (take n (e ∷ es)))) (let n : 0 ≡ p + 1 - position = omega arith in n))
+    (λ (early : position ≤ p).
+    fold-append (taken p) (value_at key table) (version_by position key e.write) (versions_from (position + 1) key es)
+    ∙ ap (λ x. fold (taken p) x (versions_from (position + 1) key es)) (early_write p position key e.write table early)
+    ∙ value_from p (position + 1) key es (base_after e.write table)
+    ∙ ap (λ entries. value_at key (base_from table entries)) (sym (take_first p position e es early)))
+    (cases_lt p position)
+
+-- what stands at a key after p entries is its base pair after p entries
+pub value_in-versions_of : (h : History) (key : Text) (p : ℕ) → value_in p (versions_of key h) ≡ value_at key (base_of (take p h))
+unfolding versions_of
+value_in-versions_of h key p =
+    value_from p 1 key h [] ∙ ap (λ n. value_at key (base_of (take n h))) (let n : p + 1 - 1 ≡ p = omega arith in n)
+
+-- ---- the positions ascend
+
+abbrev of_version : Version → ℕ
+of_version v = v.position
+
+-- a version before later ones, or none
+ascend_onto : (b : Bool) (v : Version) (vs : List Version) (position : ℕ) → v.position ≡ position → AscendFrom (position + 1) vs → AscendFrom position (cond b (v ∷ []) [] ++ vs)
+ascend_onto true v vs position e a = (omega arith, subst (λ n. AscendFrom (n + 1) vs) (sym e) a)
+ascend_onto false v vs position e a = ascend_from_less of_version (position + 1) position vs (omega arith) a
+
+-- a write's version before later ones
+ascend_write : (position : ℕ) (key : Text) (write : Write) (vs : List Version) → AscendFrom (position + 1) vs → AscendFrom position (version_by position key write ++ vs)
+ascend_write position key (put k v) vs a = ascend_onto (same key k) (record { position = position; value = Some v }) vs position refl a
+ascend_write position key (remove k) vs a = ascend_onto (same key k) (record { position = position; value = None }) vs position refl a
+ascend_write position key (declare j) vs a = ascend_from_less of_version (position + 1) position vs (omega arith) a
+
+ascend_entries : (position : ℕ) (key : Text) (h : History) → AscendFrom position (versions_from position key h)
+ascend_entries position key [] = tt
+ascend_entries position key (e ∷ es) = ascend_write position key e.write (versions_from (position + 1) key es) (ascend_entries (position + 1) key es)
+
+-- the versions of a key ascend
+pub ascend-versions_of : (key : Text) (h : History) → AscendFrom 0 (versions_of key h)
+unfolding versions_of
+ascend-versions_of key h = ascend_from_less of_version 1 0 (versions_from 1 key h) (omega arith) (ascend_entries 1 key h)
+
+-- ---- one entry more
+
+versions_from-push : (position : ℕ) (key : Text) (h : History) (e : Entry) →
+    versions_from position key (h ++ e ∷ []) ≡ versions_from position key h ++ version_by (position + length h) key e.write
+versions_from-push position key [] e = append-nil (version_by position key e.write) ∙ ap (λ n. version_by n key e.write) (omega arith)
+versions_from-push position key (first ∷ h) e =
+    ap (λ vs. version_by position key first.write ++ vs) (versions_from-push (position + 1) key h e)
+    ∙ ap (λ n. version_by position key first.write ++ (versions_from (position + 1) key h ++ version_by n key e.write)) (omega arith)
+    ∙ sym (append_assoc (version_by position key first.write) (versions_from (position + 1) key h) (version_by (position + length (first ∷ h)) key e.write))
+
+-- the versions of a key after one entry more
+pub versions_of-push : (key : Text) (h : History) (e : Entry) → versions_of key (h ++ e ∷ []) ≡ versions_of key h ++ version_by (length h + 1) key e.write
+unfolding versions_of
+versions_of-push key h e = versions_from-push 1 key h e ∙ ap (λ n. versions_from 1 key h ++ version_by n key e.write) (omega arith)
+
+-- ---- the last of the versions before a cut
+
+-- the value of the last version, or the one before all
+abbrev pub last_value : Option Text → List Version → Option Text
+last_value value [] = value
+last_value value (v ∷ vs) = last_value v.value vs
+
+-- the last version before the cut is the one that is taken
+taken_last : (p : ℕ) (value : Option Text) (vs : List Version) (n : ℕ) → IsCut (λ v. nat_le v.position p) vs n → fold (taken p) value vs ≡ last_value value (take n vs)
+taken_last p value [] n c = ap (last_value value) (sym (take-nil n))
+taken_last p value (v ∷ vs) zero c =
+    let w = cut_none (λ v. nat_le v.position p) v vs c in
+    ap (λ b. fold (taken p) (cond b v.value value) vs) w.0 ∙ taken_last p value vs zero w.1
+taken_last p value (v ∷ vs) (suc n) c =
+    let w = cut_some (λ v. nat_le v.position p) v vs n c in
+    ap (λ b. fold (taken p) (cond b v.value value) vs) w.0 ∙ taken_last p v.value vs n w.1
+
+-- the last value, by its place
+last_by_place : (vs : List Version) → last_value None vs ≡ option_and_then (λ v. v.value) (slice_get vs (length vs - 1))
+last_by_place [] = refl
+last_by_place (v ∷ []) = refl
+last_by_place (v ∷ w ∷ vs) =
+    let n : length (v ∷ w ∷ vs) - 1 ≡ suc (length (w ∷ vs) - 1) = omega arith in
+    last_by_place (w ∷ vs) ∙ ap (λ k. option_and_then (λ (x : Version). x.value) (slice_get (v ∷ w ∷ vs) k)) (sym n)
+
+-- what stands at a key after p entries is the last value before the cut
+pub value_in-cut : (p : ℕ) (vs : List Version) (n : ℕ) → IsCut (λ v. nat_le v.position p) vs n → value_in p vs ≡ option_and_then (λ v. v.value) (slice_get (take n vs) (length (take n vs) - 1))
+value_in-cut p vs n c = taken_last p None vs n c ∙ last_by_place (take n vs)

@@ -1,0 +1,13 @@
+use Rattle.std.proofs.Common.{◌≡◌, ◌+◌, ◌++◌, take}
+use Rattle.semantics.specs.Histories.{History}
+use Rattle.base_versions.specs.Kept.{StandsFor}
+use Rattle.base_versions.proofs.base.BaseVersions.advance.Given as goal
+
+abbrev pub invariant-loop-entry : goal.invariant-loop-entry
+invariant-loop-entry l =
+    record {
+      position : l.self.position ≡ l.fn.self.position + l.entry-index;
+      shard : l.self.shard ≡ l.fn.self.shard;
+      shards : l.self.shards ≡ l.fn.self.shards;
+      history : (h : History) → StandsFor l.fn.self h → StandsFor l.self (h ++ take l.entry-index l.entries);
+    }

@@ -1,0 +1,81 @@
+-- What is kept of a history, and which histories it stands for.
+use Rattle.std.specs.Prelude.{◌≡◌, ℕ, ◌+◌, ◌<◌, ◌%◌, ◌==◌, List, [], ◌∷◌, ◌++◌, length, map, sum, take, string_bytes, Bool, true, false, Option}
+use Rattle.std.specs.declared.string.String.{String}
+use Rattle.std.specs.Bool.{MatchBool}
+use Rattle.std.specs.BTreeMap.{is_at}
+use Rattle.std.specs.Map.{lookup}
+use Rattle.std.specs.Option.{unwrap_or}
+use Rattle.semantics.specs.Texts.{Text, same, table_of, text_cmp}
+use Rattle.semantics.specs.Histories.{History}
+use Rattle.base_versions.specs.declared.changes.Change.{Change}
+use Rattle.base_versions.specs.Versions.{Tracks, versions_at, versions_of, AddsVersion, KeepsVersions}
+use Rattle.base_versions.specs.Changes.{changes_of}
+
+-- of one table: the versions of its keys, and its changes in order
+pub record TableKept : Type 0 where
+  pub tracks : Tracks
+  pub changes : List Change
+
+-- of several tables, in the order of their names
+abbrev pub Tables : Type 0
+Tables = List (Text × TableKept)
+
+-- the tables of a map, whose names are texts
+abbrev pub named : {A : Type 0} → List (String A × TableKept) → Tables
+named ts = map (λ t. (string_bytes t.0, t.1)) ts
+
+-- of the tables of one shard: which shard, of how many, the number of entries, and what is kept of each table
+pub record Kept : Type 0 where
+  pub shard : ℕ
+  pub shards : ℕ
+  pub position : ℕ
+  pub tables : Tables
+
+-- of a table of which nothing is known
+abbrev pub empty_table : TableKept
+empty_table = record { tracks = []; changes = [] }
+
+-- what is kept of a table among several
+abbrev pub table_among : Text → Tables → TableKept
+table_among table tables = unwrap_or (lookup (is_at (text_cmp table)) tables) empty_table
+
+-- what is kept of a table
+abbrev pub table_in : Text → Kept → TableKept
+table_in table kept = table_among table kept.tables
+
+-- the key is given a value at a position, or none: its table has one version and one change more, and the others are as they were
+pub record IsEntered (position : ℕ) (key : Text) (value : Option Text) (old new : Tables) : Type 0 where
+  pub versions : AddsVersion key (record { position = position; value = value }) (table_among (table_of key) old).tracks (table_among (table_of key) new).tracks
+  pub changes : (table_among (table_of key) new).changes ≡ (table_among (table_of key) old).changes ++ record { position = position; key = key } ∷ []
+  pub others : (table : Text) → same (table_of key) table ≡ false → table_among table new ≡ table_among table old
+
+-- each table has the same versions and changes
+pub record IsKept (old new : Tables) : Type 0 where
+  pub versions : (table : Text) → KeepsVersions (table_among table old).tracks (table_among table new).tracks
+  pub changes : (table : Text) → (table_among table new).changes ≡ (table_among table old).changes
+
+-- of which of so many shards a table is: the sum of its name's bytes says it
+abbrev pub shard_of : ℕ → Text → ℕ
+shard_of shards table = sum table % shards
+
+-- whether a table is of the shard that is kept
+abbrev pub has_table : Kept → Text → Bool
+has_table kept table = shard_of kept.shards table == kept.shard
+
+-- the key is given a value at a position, or none, where its table is of the shard; otherwise nothing changes
+abbrev pub IsChanged : ℕ → Text → Option Text → Kept → Kept → Type 0
+IsChanged position key value old new =
+    MatchBool (has_table old (table_of key)) (IsEntered position key value old.tables new.tables) (IsKept old.tables new.tables)
+
+-- what is kept says this of the history: its length, the versions of each key of the shard, and the changes of each table of the shard
+pub record StandsFor (kept : Kept) (h : History) : Type 0 where
+  pub same_length : kept.position ≡ length h
+  pub same_versions : (key : Text) → has_table kept (table_of key) ≡ true → versions_at key (table_in (table_of key) kept).tracks ≡ versions_of key h
+  pub same_changes : (table : Text) → has_table kept table ≡ true → (table_in table kept).changes ≡ changes_of table h
+
+-- some first entries have entered, and not all
+pub record HasEnteredInPart (old : Kept) (entries : History) (new : Kept) : Type 0 where
+  pub count : ℕ
+  pub some : count < length entries
+  pub position : new.position ≡ old.position + count
+  pub history : (h : History) → StandsFor old h → StandsFor new (h ++ take count entries)

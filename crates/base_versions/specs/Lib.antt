@@ -1,0 +1,5 @@
+pub mod Positions
+pub mod Versions
+pub mod Changes
+pub mod Kept
+pub mod Laws

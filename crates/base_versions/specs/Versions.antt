@@ -1,0 +1,61 @@
+-- The versions of a key: what it was given, and at which positions.
+use Rattle.std.specs.Prelude.{◌≡◌, ℕ, ◌+◌, List, [], ◌∷◌, ◌++◌, filter_map, fold, nat_le, if◌then◌else◌, Option, Some, None, option_map}
+use Rattle.std.specs.List.{AllByRecursion}
+use Rattle.std.specs.BTreeMap.{is_at}
+use Rattle.std.specs.Map.{lookup}
+use Rattle.std.specs.Option.{unwrap_or}
+use Rattle.semantics.specs.Texts.{Text, same, text_cmp, Table}
+use Rattle.semantics.specs.Histories.{Write, put, remove, declare, Entry, History}
+use Rattle.base_versions.specs.Positions.{AscendBy}
+use Rattle.base_versions.specs.declared.versions.Version.{Version}
+
+-- the version that a key has from a write at a position, where the write changes the key
+abbrev pub version_by : ℕ → Text → Write → List Version
+version_by position key (put k v) = if same key k then record { position = position; value = Some v } ∷ [] else []
+version_by position key (remove k) = if same key k then record { position = position; value = None } ∷ [] else []
+version_by position key (declare j) = []
+
+-- the versions that a key has from entries that begin at a position
+abbrev pub versions_from : ℕ → Text → History → List Version
+versions_from position key [] = []
+versions_from position key (e ∷ es) = version_by position key e.write ++ versions_from (position + 1) key es
+
+-- the versions that a key has from a history
+unfoldable pub versions_of : Text → History → List Version
+versions_of key h = versions_from 1 key h
+
+-- what stands at a key after p entries: the value of its last version whose position is at most p
+abbrev pub value_in : ℕ → List Version → Option Text
+value_in p versions = fold (λ value v. if nat_le v.position p then v.value else value) None versions
+
+-- the versions' positions are from a number on, and each is above the one before
+abbrev pub AscendFrom : ℕ → List Version → Type 0
+AscendFrom low versions = AscendBy (λ v. v.position) low versions
+
+-- the versions of several keys, in the order of the keys
+abbrev pub Tracks : Type 0
+Tracks = List (Text × List Version)
+
+-- the versions of a key among those of several
+abbrev pub versions_at : Text → Tracks → List Version
+versions_at key tracks = unwrap_or (lookup (is_at (text_cmp key)) tracks) []
+
+-- the versions of each key ascend
+abbrev pub AllAscend : Tracks → Type 0
+AllAscend = AllByRecursion (λ track. AscendFrom 0 track.1)
+
+-- the key and its value after p entries, where it has one
+abbrev pub pair_in : ℕ → Text × List Version → Option (Text × Text)
+pair_in p track = option_map (λ value. (track.0, value)) (value_in p track.1)
+
+-- the pairs after p entries
+abbrev pub pairs_in : ℕ → Tracks → Table
+pairs_in p tracks = filter_map (pair_in p) tracks
+
+-- the new versions are the old ones with one more at the key
+abbrev pub AddsVersion : Text → Version → Tracks → Tracks → Type 0
+AddsVersion key version old new = (q : Text) → versions_at q new ≡ (if same key q then versions_at q old ++ version ∷ [] else versions_at q old)
+
+-- each key has the same versions
+abbrev pub KeepsVersions : Tracks → Tracks → Type 0
+KeepsVersions old new = (q : Text) → versions_at q new ≡ versions_at q old

@@ -1,0 +1,156 @@
+// The versions and the changes of one table.
+ghost use Rattle.std.specs.Prelude.{◌≡◌, [], ◌∷◌, ◌++◌, IfOk, OnOk, OnErr, filter, option_copied, true};
+ghost use Rattle.std.specs.List.{AllByRecursion};
+ghost use Rattle.std.specs.List.Sorted.{IsStrictlySortedBy};
+ghost use Rattle.std.specs.Map.{keys_of};
+ghost use Rattle.semantics.specs.Texts.{is_key, text_cmp, within};
+ghost use Rattle.base_versions.specs.Versions.{AddsVersion, AllAscend, AscendFrom, KeepsVersions, pairs_in, value_in, versions_at};
+ghost use Rattle.base_versions.specs.Changes.{Ascend, changed_in};
+ghost use Rattle.base_versions.specs.Kept.{empty_table};
+
+use crate::changes::{Change, between, keys_in_order};
+use crate::versions::{Version, Versions};
+use join_types::Pair;
+use key_space::{Key, Place, Range, Value};
+use memory::OutOfMemory;
+use std::alloc::Global;
+use std::collections::{BTreeMap, btree_map};
+use std::marker::Model;
+use std::ops::Bound;
+
+/// The versions of each key of one table, and the table's changes in order of position.
+#[derive(Debug, Drop)]
+pub struct TableVersions {
+    tracks: BTreeMap<Place, Versions>,
+    changes: Vec<Change>,
+}
+
+impl Model for TableVersions {
+    ghost use Rattle.std.specs.Prelude.{◌≡◌, true};
+    ghost use Rattle.std.specs.List.{AllByRecursion};
+    ghost use Rattle.semantics.specs.Texts.{is_key};
+    ghost use Rattle.base_versions.specs.Kept.{TableKept};
+
+    ghost Value = { TableKept };
+
+    ghost view = { λ t. record { tracks = t.tracks.entries; changes = t.changes.items } };
+
+    ghost invariant = { λ t. AllByRecursion (λ track. is_key track.0 ≡ true) t.tracks.entries };
+}
+
+impl TableVersions {
+    /// The table of which nothing is known. Nothing is allocated.
+    pub fn new(alloc: Global) -> TableVersions
+        ensures { result ≡ empty_table }
+    {
+        TableVersions {
+            tracks: BTreeMap::new(alloc),
+            changes: Vec::new(alloc),
+        }
+    }
+
+    /// The key is given a value at a position, or none. Logarithmic in the keys. On `OutOfMemory` each key has the
+    /// versions that it had.
+    pub fn enter(
+        &mut self,
+        alloc: Global,
+        position: u64,
+        key: &Key,
+        value: Option<Value>,
+    ) -> Result<(), OutOfMemory>
+        ensures versions { OnOk result (AddsVersion key.now (record { position = position; value = value }) self.old.tracks self.new.tracks) }
+        ensures changes { OnOk result (self.new.changes ≡ self.old.changes ++ record { position = position; key = key.now } ∷ []) }
+        ensures no_version { OnErr result (KeepsVersions self.old.tracks self.new.tracks) }
+        ensures no_change { OnErr result (self.new.changes ≡ self.old.changes) }
+    {
+        let change = Change {
+            position,
+            key: key.copy()?,
+        };
+        self.changes.push(change)?;
+        let added = add_version(alloc, &mut self.tracks, key, Version { position, value });
+        if added.is_err() {
+            self.changes.pop();
+        }
+        added
+    }
+
+    /// What stands at the key after p entries. Logarithmic in the keys and in the key's versions.
+    pub fn value_at(&self, p: u64, key: &Key) -> Option<&Value>
+        ensures { AscendFrom 0 (versions_at key.now self.now.tracks) → option_copied result ≡ value_in p (versions_at key.now self.now.tracks) }
+    {
+        match self.tracks.get(key.place()) {
+            None => None,
+            Some(versions) => versions.value_at(p),
+        }
+    }
+
+    /// The pairs of the range after p entries, in order. It takes as long as to find the range and to look at each of
+    /// its keys that ever had a version.
+    pub fn pairs_at(&self, alloc: Global, p: u64, range: &Range) -> Result<Vec<Pair>, OutOfMemory>
+        ensures ordered { OnOk result (IsStrictlySortedBy text_cmp (keys_of self.now.tracks)) }
+        ensures pairs { AllAscend (filter (λ track. within range.now track.0) self.now.tracks) → IfOk result (λ pairs. pairs.items ≡ pairs_in p (filter (λ track. within range.now track.0) self.now.tracks)) }
+    {
+        let bounds = (
+            Bound::Included(range.first_place()?),
+            Bound::Excluded(range.last_place()?),
+        );
+        listed(alloc, p, self.tracks.range(bounds))
+    }
+
+    /// The keys of the range that changes after the first q entries, up to the p-th, speak of: in order, each once. It
+    /// takes as long as to find these changes and to sort their keys.
+    pub fn changed(
+        &self,
+        alloc: Global,
+        q: u64,
+        p: u64,
+        range: &Range,
+    ) -> Result<Vec<Key>, OutOfMemory>
+        ensures { Ascend 0 self.now.changes → IfOk result (λ keys. keys.items ≡ changed_in q p range.now self.now.changes) }
+    {
+        keys_in_order(alloc, between(self.changes.as_slice(), q, p), range)
+    }
+}
+
+/// The pairs after p entries of the keys that are walked, in order.
+fn listed(
+    alloc: Global,
+    p: u64,
+    tracks: btree_map::Range<'_, Place, Versions>,
+) -> Result<Vec<Pair>, OutOfMemory>
+    requires { AllByRecursion (λ track. is_key track.0 ≡ true) tracks }
+    ensures { AllAscend tracks.entry → IfOk result (λ pairs. pairs.items ≡ pairs_in p tracks.entry) }
+{
+    let mut pairs = Vec::new(alloc);
+    for (place, versions) in tracks {
+        if let Some(value) = versions.value_at(p) {
+            let key = Key::at(place)?;
+            let value = value.copy()?;
+            pairs.push(Pair { key, value })?;
+        }
+    }
+    Ok(pairs)
+}
+
+/// The key has one version more, the last. On `OutOfMemory` it has none more.
+fn add_version(
+    alloc: Global,
+    tracks: &mut BTreeMap<Place, Versions>,
+    key: &Key,
+    version: Version,
+) -> Result<(), OutOfMemory>
+    ensures ok { OnOk result (AddsVersion key.now version tracks.old.entries tracks.new.entries) }
+    ensures err { OnErr result (KeepsVersions tracks.old.entries tracks.new.entries) }
+    ensures keys { AllByRecursion (λ track. is_key track.0 ≡ true) tracks.old.entries → AllByRecursion (λ track. is_key track.0 ≡ true) tracks.new.entries }
+{
+    match tracks.get_mut(key.place()) {
+        Some(versions) => versions.push(version),
+        None => {
+            let mut versions = Versions::new(alloc);
+            versions.push(version)?;
+            tracks.insert(key.place().copy()?, versions)?;
+            Ok(())
+        }
+    }
+}

@@ -1,0 +1,2 @@
+mod NeedLemmas
+mod PlacedLemmas

@@ -8,8 +8,7 @@ use Rattle.std.proofs.lemmas.List.{take-append-drop}
 use Rattle.std.proofs.lemmas.List.Sums.{fold-append}
 use Rattle.protocol.specs.JoinText.{width_of}
 use Rattle.semantics.specs.Texts.{Text}
-use Rattle.semantics.specs.Outputs.{is_positive, digits_value}
-use Rattle.join_lang.specs.Readings.{is_digit}
+use Rattle.semantics.specs.Outputs.{is_digit, is_positive, digits_value}
 
 -- a digit is a byte from 48 to 57
 digit_within : (b : ℕ) → is_digit b ≡ true → (48 ≤ b) × (b ≤ 57)

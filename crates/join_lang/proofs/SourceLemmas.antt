@@ -1,5 +1,5 @@
 -- Sources that are read one after another.
-use Rattle.std.proofs.Common.{◌≡◌, ℕ, List, [], ◌∷◌, ◌++◌, length, Option, Some, None, Result, Ok, Err, is_ok, refl, sym, ap, ◌∙◌, append_assoc, arith, suc}
+use Rattle.std.proofs.Common.{◌≡◌, ℕ, List, [], ◌∷◌, ◌++◌, length, Option, Some, None, Result, Ok, Err, is_ok, MatchOption, refl, sym, ap, ap₂, ◌∙◌, append_assoc, arith, suc}
 use Rattle.std.proofs.lemmas.Bool.{false≢true}
 use Rattle.semantics.specs.Texts.{Text}
 use Rattle.semantics.specs.Patterns.{Pattern}
@@ -7,7 +7,9 @@ use Rattle.semantics.specs.Joins.{Operator, Source}
 use Rattle.protocol.specs.JoinText.{Token, operator_of, read_pattern, onto_sources, read_sources, read_some_sources, accept}
 use Rattle.join_lang.specs.declared.fault.ParseFault.{ParseFault}
 use Rattle.join_lang.specs.declared.fault.ParseFault.TheVariants.{Syntax, OutOfMemory}
+use Rattle.join_lang.specs.declared.tokens.Word.{Word}
 use Rattle.join_lang.specs.Faults.{IsFaultOf}
+use Rattle.join_lang.specs.Words.{plain_word, tokens_of}
 
 -- what is read behind sources that were read before
 abbrev pub behind_sources : List Source → Result (List Source × List Text) ℕ → Result (List Source × List Text) ℕ
@@ -18,6 +20,22 @@ behind_sources before (Ok read) = Ok (before ++ read.0, read.1)
 pub behind_sources-onto : (before : List Source) (s : Source) (r : Result (List Source × List Text) ℕ) → behind_sources before (onto_sources s r) ≡ behind_sources (before ++ s ∷ []) r
 behind_sources-onto before s (Err at) = refl
 behind_sources-onto before s (Ok read) = ap (λ ss. Ok (ss, read.1)) (sym (append_assoc before (s ∷ []) read.0))
+
+-- the tokens are the word that was taken from them, if there was one, and those that are left
+pub tokens_taken : (taken : Option Word) (ts left : List Token) → MatchOption taken ((ts ≡ []) × (left ≡ [])) (λ word. ts ≡ plain_word word ∷ left) → ts ≡ tokens_of taken left
+tokens_taken None ts left h = h.0
+tokens_taken (Some word) ts left h = h
+
+-- a source that was read from a word on goes to those before, and the next word is read after it
+pub source_goes_on : (given : Result (List Source × List Text) ℕ) (end : ℕ) (names more : List Text) (next later : Option Word) (word : Word) (ts others left : List Token) (before after : List Source) (s : Source)
+    → given ≡ behind_sources before (read_sources end names (tokens_of next ts)) → next ≡ Some word
+    → read_sources end names (plain_word word ∷ ts) ≡ onto_sources s (read_sources end more others) → others ≡ tokens_of later left → after ≡ before ++ s ∷ []
+    → given ≡ behind_sources after (read_sources end more (tokens_of later left))
+source_goes_on given end names more next later word ts others left before after s g n r o a =
+    g ∙ ap (λ w. behind_sources before (read_sources end names (tokens_of w ts))) n
+    ∙ ap (behind_sources before) r
+    ∙ behind_sources-onto before s (read_sources end more others)
+    ∙ ap₂ (λ ss us. behind_sources ss (read_sources end more us)) (sym a) o
 
 -- an operator and a pattern are a source
 pub source_read : (end : ℕ) (names more : List Text) (o p : Token) (ts : List Token) (operator : Operator) (pattern : Pattern) → operator_of o.text ≡ Some operator → read_pattern names p.text ≡ Some (pattern, more)

@@ -1,5 +1,5 @@
 -- What a call says that reads a part of a join's text.
-use Rattle.std.specs.Prelude.{◌≡◌, ℕ, ◌&&◌, Bool, List, [], ◌∷◌, length, filter, nat_le, Option, Some, None}
+use Rattle.std.specs.Prelude.{◌≡◌, ℕ, List, [], ◌∷◌, length, filter, nat_le, Option, Some, None}
 use Rattle.semantics.specs.Texts.{Text}
 use Rattle.semantics.specs.Patterns.{pieces}
 use Rattle.protocol.specs.JoinText.{Token, placed}
@@ -12,10 +12,6 @@ tokens_from at rest = filter (λ token. nat_le 1 (length token.text)) (placed at
 abbrev pub with_word : ℕ → Text → List Token → List Token
 with_word at [] ts = ts
 with_word at (b ∷ bs) ts = record { at = at; text = b ∷ bs } ∷ ts
-
--- whether a byte is a digit
-abbrev pub is_digit : ℕ → Bool
-is_digit b = nat_le 48 b && nat_le b 57
 
 -- what is found, and the names after it, are what the definition gives; none is found where it gives none
 abbrev pub Finds : {A : Type 0} → Option (A × List Text) → Option A → List Text → Type 0

@@ -3,7 +3,7 @@ ghost use Rattle.std.specs.Prelude.{◌≡◌, ◌≤◌, [], ◌∷◌, length,
 ghost use Rattle.protocol.specs.JoinText.{operator_of, read_kind, read_sources, read_some_sources, onto_sources, join_of_tokens, read_join};
 ghost use Rattle.join_types.specs.Plain.{plain_op, plain_kind};
 ghost use Rattle.join_lang.specs.Faults.{IsFaultOf};
-ghost use Rattle.join_lang.specs.Words.{plain_word};
+ghost use Rattle.join_lang.specs.Words.{plain_word, tokens_of};
 ghost use Rattle.join_lang.specs.Steps.{join_of_output};
 
 use crate::fault::ParseFault;
@@ -29,24 +29,19 @@ fn operator_of(word: &str) -> Option<Op>
     }
 }
 
-/// Takes `push` or `pull`, where it comes next.
-fn read_kind(tokens: &mut Tokens<'_>) -> Kind
-    ensures kind { plain_kind result ≡ (read_kind tokens.old).0 }
-    ensures rest { tokens.new ≡ (read_kind tokens.old).1 }
+/// The kind, with `push` or `pull` where one comes next, and the word behind it, which is taken too.
+fn read_kind<'a>(tokens: &mut Tokens<'a>) -> (Kind, Option<Word<'a>>)
+    ensures kind { plain_kind result.0 ≡ (read_kind tokens.old).0 }
+    ensures rest { tokens_of result.1 tokens.new ≡ (read_kind tokens.old).1 }
 {
-    let mut ahead = tokens.again();
-    let Some(word) = ahead.next() else {
-        return Kind::Push;
+    let Some(word) = tokens.next() else {
+        return (Kind::Push, None);
     };
-    if word.text == "push" {
-        *tokens = ahead;
-        return Kind::Push;
+    match word.text {
+        "push" => (Kind::Push, tokens.next()),
+        "pull" => (Kind::Pull, tokens.next()),
+        _ => (Kind::Push, Some(word)),
     }
-    if word.text == "pull" {
-        *tokens = ahead;
-        return Kind::Pull;
-    }
-    Kind::Push
 }
 
 /// The source that begins with this word.
@@ -73,19 +68,22 @@ fn read_source(
     }
 }
 
-/// The sources to the end of the text, of which one is wanted at least.
-fn read_sources(
+/// The sources from this word to the end of the text, of which one is wanted at least.
+fn read_sources<'a>(
     alloc: Global,
     end: usize,
     names: &mut Names,
-    tokens: &mut Tokens<'_>,
+    first: Option<Word<'a>>,
+    tokens: &mut Tokens<'a>,
 ) -> Result<Vec<JoinSource>, ParseFault>
-    ensures ok { IfOk result (λ sources. read_some_sources end names.old tokens.old ≡ Ok (sources.items, names.new)) }
-    ensures fault { IfErr result (IsFaultOf (read_some_sources end names.old tokens.old)) }
+    ensures ok { IfOk result (λ sources. read_some_sources end names.old (tokens_of first.entry tokens.old) ≡ Ok (sources.items, names.new)) }
+    ensures fault { IfErr result (IsFaultOf (read_some_sources end names.old (tokens_of first.entry tokens.old))) }
 {
     let mut sources = Vec::new(alloc);
-    while let Some(word) = tokens.next() {
+    let mut next = first;
+    while let Some(word) = next {
         sources.push(read_source(alloc, end, names, word, tokens)?)?;
+        next = tokens.next();
     }
     if sources.is_empty() {
         return Err(ParseFault::Syntax { at: end });
@@ -126,8 +124,8 @@ fn read_tokens(alloc: Global, end: usize, mut tokens: Tokens<'_>) -> Result<Join
 {
     let mut names = Names::new(alloc);
     let output = read_output(alloc, end, &mut names, &mut tokens)?;
-    let kind = read_kind(&mut tokens);
-    let sources = read_sources(alloc, end, &mut names, &mut tokens)?;
+    let (kind, first) = read_kind(&mut tokens);
+    let sources = read_sources(alloc, end, &mut names, first, &mut tokens)?;
     let names = names.into_list();
     Ok(Join {
         output,
@@ -137,10 +135,12 @@ fn read_tokens(alloc: Global, end: usize, mut tokens: Tokens<'_>) -> Result<Join
     })
 }
 
-/// The join that a text is. One walk over the text, linear in it, with the names for each slot.
+/// The join that a text is. One walk over the text, which takes each token once; linear in it, with the names for each
+/// slot.
 ///
 /// `Syntax` comes exactly where the text is no join: `at` is the offset of the first byte of the first token that is not
 /// accepted in its place, the text's length where a token is wanted at its end, and 4,096 where the text has more bytes.
+/// `OutOfMemory` comes only where none is found for what the join holds.
 pub fn parse(alloc: Global, text: &str) -> Result<Join, ParseFault>
     ensures ok { IfOk result (λ join. read_join text.now ≡ Ok join) }
     ensures fault { IfErr result (IsFaultOf (read_join text.now)) }

@@ -1,7 +1,6 @@
 // Pattern tokens.
 ghost use Rattle.std.specs.Prelude.{◌≡◌, ◌-◌, length, take, drop, true, false, IfOk, option_map, MatchOption};
-ghost use Rattle.std.specs.List.{list_all};
-ghost use Rattle.semantics.specs.Patterns.{is_literal_byte, is_literal, segments};
+ghost use Rattle.semantics.specs.Patterns.{segments};
 ghost use Rattle.protocol.specs.JoinText.{is_bracketed, read_segment, read_segments, read_pattern};
 ghost use Rattle.key_pattern.specs.Plain.{plain_segment, plain_segments};
 ghost use Rattle.join_lang.specs.Readings.{Finds};
@@ -9,26 +8,13 @@ ghost use Rattle.join_lang.specs.Readings.{Finds};
 use crate::cut::cut_at;
 use crate::names::Names;
 use crate::slots::read_slot;
+use key_pattern::segment::is_literal;
 use key_pattern::{Pattern, Segment};
 use memory::OutOfMemory;
 use std::alloc::Global;
 
 /// The most bytes of a pattern token.
 pub const MOST_PATTERN_BYTES: usize = 512;
-
-/// Whether each byte may stand in a literal.
-fn are_literal_bytes(bytes: &[u8]) -> bool
-    ensures { result ≡ list_all is_literal_byte bytes.now }
-{
-    bytes.iter().all(|byte| *byte > b' ' && *byte != b'<' && *byte != b'>' && *byte != b'|')
-}
-
-/// Whether a text is a literal: of one byte or more, none of which is `|`, `<`, `>`, the space or below U+0020.
-fn is_literal(text: &str) -> bool
-    ensures { result ≡ is_literal text.now }
-{
-    1 <= text.len() && are_literal_bytes(text.as_bytes())
-}
 
 /// What stands between `<` and `>`, where the text begins and ends with them.
 fn body_of(text: &str) -> Option<&str>
@@ -83,6 +69,8 @@ fn read_segments(
 
 /// The pattern that a token is, if it is one of at most 512 bytes. Names that it brings are added. Linear in the token,
 /// with the names for each slot.
+///
+/// `OutOfMemory` comes only where none is found for the pattern or a new name.
 pub fn read_pattern(
     alloc: Global,
     names: &mut Names,

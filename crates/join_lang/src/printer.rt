@@ -1,5 +1,5 @@
 // A join, printed as its canonical text.
-ghost use Rattle.std.specs.Prelude.{◌≡◌, ◌++◌, ◌∷◌, map, string_bytes, IfOk, OnOk};
+ghost use Rattle.std.specs.Prelude.{◌≡◌, ◌++◌, map, string_bytes, IfOk, OnOk};
 ghost use Rattle.protocol.specs.JoinText.{segment_print, pattern_print, operator_word, canonical_text};
 ghost use Rattle.key_pattern.specs.Plain.{plain_segment, plain_segments};
 ghost use Rattle.join_types.specs.Plain.{plain_op, plain_kind};
@@ -98,6 +98,8 @@ fn push_sources(
 }
 
 /// The canonical text of a join: one space between tokens, none before or after, and no `push`. Linear in the text.
+///
+/// `OutOfMemory` comes only where none is found for the text.
 pub fn print(alloc: Global, join: &Join) -> Result<String, OutOfMemory>
     ensures { IfOk result (λ text. string_bytes text ≡ canonical_text join.now) }
 {

@@ -1,8 +1,6 @@
 // The slots of a pattern token.
-ghost use Rattle.std.specs.Prelude.{◌≡◌, ◌≤◌, IfOk, option_map};
+ghost use Rattle.std.specs.Prelude.{◌≡◌, IfOk, option_map};
 ghost use Rattle.std.specs.List.{list_all};
-ghost use Rattle.semantics.specs.Outputs.{is_positive};
-ghost use Rattle.join_lang.specs.Readings.{is_digit};
 ghost use Rattle.protocol.specs.JoinText.{is_name_byte, is_name, width_of, slot_named, slot_of_body};
 ghost use Rattle.key_pattern.specs.Plain.{plain_segment};
 ghost use Rattle.join_lang.specs.Readings.{Finds};
@@ -11,6 +9,7 @@ use crate::cut::cut_at;
 use crate::names::Names;
 use key_pattern::Segment;
 use key_pattern::segment::MOST_WIDTH;
+use key_space::decimal::is_positive;
 use memory::OutOfMemory;
 
 /// The most characters of a slot's name.
@@ -40,23 +39,6 @@ fn is_name(text: &str) -> bool
     1 <= text.len() && text.len() <= MOST_NAME_BYTES && are_name_bytes(text.as_bytes())
 }
 
-/// Whether each byte is a digit.
-fn are_digits(bytes: &[u8]) -> bool
-    ensures { result ≡ list_all is_digit bytes.now }
-{
-    bytes.iter().all(|byte| b'0' <= *byte && *byte <= b'9')
-}
-
-/// Whether bytes are the decimal, without leading zeros, of a number above 0.
-fn is_positive(bytes: &[u8]) -> bool
-    ensures { result ≡ is_positive bytes.now }
-{
-    match bytes.split_first() {
-        Some((first, others)) => b'1' <= *first && *first <= b'9' && are_digits(others),
-        None => false,
-    }
-}
-
 /// The width that a text writes, a decimal without leading zeros from 1 to 64. Linear in the text.
 fn width_of(text: &str) -> Option<u8>
     ensures { result ≡ width_of text.now }
@@ -75,7 +57,7 @@ fn width_of(text: &str) -> Option<u8>
     Some(width as u8)
 }
 
-/// The slot of this name and width, where the name is one and has a place.
+/// The slot of this name and width, where the name is one and has a place. Linear in the name and in the names.
 fn slot_named(names: &mut Names, name: &str, width: u8) -> Result<Option<Segment>, OutOfMemory>
     ensures { IfOk result (λ found. Finds (slot_named names.old name.now width) (option_map plain_segment found) names.new) }
 {
@@ -89,6 +71,8 @@ fn slot_named(names: &mut Names, name: &str, width: u8) -> Result<Option<Segment
 }
 
 /// The slot of which this stands between `<` and `>`, if it is one. Linear in the text and in the names.
+///
+/// `OutOfMemory` comes only where none is found for a new name.
 pub fn read_slot(names: &mut Names, body: &str) -> Result<Option<Segment>, OutOfMemory>
     ensures { IfOk result (λ found. Finds (slot_of_body names.old body.now) (option_map plain_segment found) names.new) }
 {

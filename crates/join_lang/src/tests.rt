@@ -3,7 +3,6 @@ use crate::fault::ParseFault;
 use crate::parser::parse;
 use crate::printer::print;
 use std::alloc::Global;
-use std::process::Abort;
 use std::test::Fail;
 
 /// The byte at which a text is refused; none where it is read.
@@ -24,73 +23,75 @@ fn padded(alloc: Global, text: &str, more: &str, times: usize) -> Result<String,
     Ok(whole)
 }
 
+/// Texts that are no joins, each with the byte at which it stops being one.
+const REFUSED: [(&str, usize); 46] = [
+    ("", 0),
+    ("   ", 3),
+    ("t|<a>", 5),
+    ("t|<a> =", 7),
+    ("t|<a> = ", 8),
+    ("t|<a> = pull", 12),
+    ("t|<a> = push", 12),
+    ("t|<a> = copy", 12),
+    ("t|<a> = copy p|<a> copy", 23),
+    ("t|<a> =\tcopy p|<a>", 6),
+    ("t|<a>\t= copy p|<a>", 0),
+    ("t|<a>\n= copy p|<a>", 0),
+    ("t|<> = copy p|<a>", 0),
+    ("t|<a:0> = copy p|<a>", 0),
+    ("t|<a:65> = copy p|<a>", 0),
+    ("t|<a:07> = copy p|<a>", 0),
+    ("t|<a:640> = copy p|<a>", 0),
+    ("t|<a:> = copy p|<a>", 0),
+    ("t|<:3> = copy p|<a>", 0),
+    ("t|<a:3:4> = copy p|<a>", 0),
+    ("t|<a:+3> = copy p|<a>", 0),
+    ("t|<a-b> = copy p|<a>", 0),
+    ("t|<a b> = copy p|<a>", 0),
+    ("t|a|<x>y = copy p|<x>", 0),
+    ("t|y<x> = copy p|<x>", 0),
+    ("t|> = copy p|<a>", 0),
+    ("t = copy p|<a>", 0),
+    ("<a>|t = copy p|<a>", 0),
+    ("|<a> = copy p|<a>", 0),
+    ("t|| = copy p|<a>", 0),
+    ("t|x\u{1f}y|<a> = copy p|<a>", 0),
+    ("t|<a> = = copy p|<a>", 8),
+    ("t|<a> == copy p|<a>", 6),
+    ("t|<a>= copy p|<a>", 0),
+    ("t|<a> = push push copy p|<a>", 13),
+    ("t|<a> = push pull copy p|<a>", 13),
+    ("t|<a> = copy copy", 13),
+    ("t|<a> = p|<a> copy", 8),
+    ("t|<a> = copy p|<a> q|<a>", 19),
+    ("t|<a> = COPY p|<a>", 8),
+    ("t|<a> = copy p", 13),
+    ("t|<a> = check s|<a> copy p|<a:0>", 25),
+    ("  t|<a> copy", 8),
+    (
+        "t|<a>|<b>|<c>|<d>|<e>|<f>|<g>|<h>|<i>|<j>|<k>|<l>|<m>|<n>|<o> = copy p|<p> check q|<q>",
+        81,
+    ),
+    (
+        "t|<a>|<b>|<c>|<d>|<e>|<f>|<g>|<h>|<i>|<j>|<k>|<l>|<m>|<n>|<o> = copy p|<p>|<q>",
+        69,
+    ),
+    (
+        "t|<a>|<b>|<c>|<d>|<e>|<f>|<g>|<h>|<i>|<j>|<k>|<l>|<m>|<n>|<o>|<p> = copy p|<a>",
+        0,
+    ),
+];
+
 #[test]
-fn refused_texts(rt: HostRuntime) -> Result<(), Fail> {
-    let table = [
-        ("", 0),
-        ("   ", 3),
-        ("t|<a>", 5),
-        ("t|<a> =", 7),
-        ("t|<a> = ", 8),
-        ("t|<a> = pull", 12),
-        ("t|<a> = push", 12),
-        ("t|<a> = copy", 12),
-        ("t|<a> = copy p|<a> copy", 23),
-        ("t|<a> =\tcopy p|<a>", 6),
-        ("t|<a>\t= copy p|<a>", 0),
-        ("t|<a>\n= copy p|<a>", 0),
-        ("t|<> = copy p|<a>", 0),
-        ("t|<a:0> = copy p|<a>", 0),
-        ("t|<a:65> = copy p|<a>", 0),
-        ("t|<a:07> = copy p|<a>", 0),
-        ("t|<a:640> = copy p|<a>", 0),
-        ("t|<a:> = copy p|<a>", 0),
-        ("t|<:3> = copy p|<a>", 0),
-        ("t|<a:3:4> = copy p|<a>", 0),
-        ("t|<a:+3> = copy p|<a>", 0),
-        ("t|<a-b> = copy p|<a>", 0),
-        ("t|<a b> = copy p|<a>", 0),
-        ("t|a|<x>y = copy p|<x>", 0),
-        ("t|y<x> = copy p|<x>", 0),
-        ("t|> = copy p|<a>", 0),
-        ("t = copy p|<a>", 0),
-        ("<a>|t = copy p|<a>", 0),
-        ("|<a> = copy p|<a>", 0),
-        ("t|| = copy p|<a>", 0),
-        ("t|x\u{1f}y|<a> = copy p|<a>", 0),
-        ("t|<a> = = copy p|<a>", 8),
-        ("t|<a> == copy p|<a>", 6),
-        ("t|<a>= copy p|<a>", 0),
-        ("t|<a> = push push copy p|<a>", 13),
-        ("t|<a> = push pull copy p|<a>", 13),
-        ("t|<a> = copy copy", 13),
-        ("t|<a> = p|<a> copy", 8),
-        ("t|<a> = copy p|<a> q|<a>", 19),
-        ("t|<a> = COPY p|<a>", 8),
-        ("t|<a> = copy p", 13),
-        ("t|<a> = check s|<a> copy p|<a:0>", 25),
-        ("  t|<a> copy", 8),
-        (
-            "t|<a>|<b>|<c>|<d>|<e>|<f>|<g>|<h>|<i>|<j>|<k>|<l>|<m>|<n>|<o> = copy p|<p> check q|<q>",
-            81,
-        ),
-        (
-            "t|<a>|<b>|<c>|<d>|<e>|<f>|<g>|<h>|<i>|<j>|<k>|<l>|<m>|<n>|<o> = copy p|<p>|<q>",
-            69,
-        ),
-        (
-            "t|<a>|<b>|<c>|<d>|<e>|<f>|<g>|<h>|<i>|<j>|<k>|<l>|<m>|<n>|<o>|<p> = copy p|<a>",
-            0,
-        ),
-    ];
-    for (text, at) in table {
+fn a_text_is_refused_at_its_first_wrong_token(rt: HostRuntime) -> Result<(), Fail> {
+    for (text, at) in REFUSED {
         assert_eq!(rt; refusal(rt.alloc(), text)?, Some(at), "{text}");
     }
     Ok(())
 }
 
 #[test]
-fn texts_that_are_read(rt: HostRuntime) -> Result<(), Fail> {
+fn texts_of_joins_are_read(rt: HostRuntime) -> Result<(), Fail> {
     let table = [
         "t|<a> = copy p|<a>",
         "  t|<a>  =  copy  p|<a>  ",
@@ -115,7 +116,7 @@ fn texts_that_are_read(rt: HostRuntime) -> Result<(), Fail> {
 }
 
 #[test]
-fn longest_texts(rt: HostRuntime) -> Result<(), Fail> {
+fn each_limit_is_the_last_length_that_is_read(rt: HostRuntime) -> Result<(), Fail> {
     // Before, what is repeated, how often, behind, and the byte at which it is refused.
     let table = [
         ("t|", "x", 510, " = copy p|<a>", None),
@@ -145,38 +146,55 @@ fn longest_texts(rt: HostRuntime) -> Result<(), Fail> {
     Ok(())
 }
 
+/// Texts of joins, each with its canonical text.
+const CANONICAL: [(&str, &str); 8] = [
+    (
+        "t|<user>|<time>|<poster> = check s|<user>|<poster> copy p|<poster>|<time>",
+        "t|<user>|<time>|<poster> = check s|<user>|<poster> copy p|<poster>|<time>",
+    ),
+    (
+        "f|<user>|<post> = check m|<user>|<group> check g|<group>|<post> copy p|<post>",
+        "f|<user>|<post> = check m|<user>|<group> check g|<group>|<post> copy p|<post>",
+    ),
+    ("t|<u> = check s|<u>", "t|<u> = check s|<u>"),
+    ("t|<u> = copy p|<w>", "t|<u> = copy p|<w>"),
+    ("t|<u:3> = copy p|<u>", "t|<u:3> = copy p|<u>"),
+    (
+        "page|<a>|<id>|k = check art|<a>|<id>  copy karma|<a>",
+        "page|<a>|<id>|k = check art|<a>|<id> copy karma|<a>",
+    ),
+    (
+        "karma|<a> = push count vote|<a>|<id>|<voter>",
+        "karma|<a> = count vote|<a>|<id>|<voter>",
+    ),
+    (
+        "  t|<a:64>  =  pull min n|<a:64>|é ",
+        "t|<a:64> = pull min n|<a:64>|é",
+    ),
+];
+
 #[test]
-fn printed_texts(rt: HostRuntime) -> Result<(), Fail> {
-    let table = [
-        (
-            "t|<user>|<time>|<poster> = check s|<user>|<poster> copy p|<poster>|<time>",
-            "t|<user>|<time>|<poster> = check s|<user>|<poster> copy p|<poster>|<time>",
-        ),
-        (
-            "f|<user>|<post> = check m|<user>|<group> check g|<group>|<post> copy p|<post>",
-            "f|<user>|<post> = check m|<user>|<group> check g|<group>|<post> copy p|<post>",
-        ),
-        ("t|<u> = check s|<u>", "t|<u> = check s|<u>"),
-        ("t|<u> = copy p|<w>", "t|<u> = copy p|<w>"),
-        ("t|<u:3> = copy p|<u>", "t|<u:3> = copy p|<u>"),
-        (
-            "page|<a>|<id>|k = check art|<a>|<id>  copy karma|<a>",
-            "page|<a>|<id>|k = check art|<a>|<id> copy karma|<a>",
-        ),
-        (
-            "karma|<a> = push count vote|<a>|<id>|<voter>",
-            "karma|<a> = count vote|<a>|<id>|<voter>",
-        ),
-        (
-            "  t|<a:64>  =  pull min n|<a:64>|é ",
-            "t|<a:64> = pull min n|<a:64>|é",
-        ),
-    ];
-    for (given, printed) in table {
+fn a_printed_join_is_read_back(rt: HostRuntime) -> Result<(), Fail> {
+    for (given, printed) in CANONICAL {
         let once = print(rt.alloc(), &parse(rt.alloc(), given)?)?;
         assert_eq!(rt; once.as_str(), printed);
         let twice = print(rt.alloc(), &parse(rt.alloc(), once.as_str())?)?;
         assert_eq!(rt; twice.as_str(), printed);
+    }
+    Ok(())
+}
+
+#[test]
+fn a_fault_says_the_byte_or_the_want_of_memory(rt: HostRuntime) -> Result<(), Fail> {
+    for (fault, words) in [
+        (
+            ParseFault::Syntax { at: 12 },
+            "the text is no join: byte 12 is not accepted",
+        ),
+        (ParseFault::OutOfMemory, "out of memory"),
+    ] {
+        let told = format!(in rt.alloc(); "{fault}")?;
+        assert_eq!(rt; told.as_str(), words);
     }
     Ok(())
 }

@@ -53,16 +53,6 @@ impl<'a> Tokens<'a> {
         Tokens { rest: text, at: 0 }
     }
 
-    /// These tokens once more.
-    pub fn again(&self) -> Tokens<'a>
-        ensures { result ≡ self.now }
-    {
-        Tokens {
-            rest: self.rest,
-            at: self.at,
-        }
-    }
-
     /// Takes the next token, if there is one. Linear in the bytes up to its end.
     pub fn next(&mut self) -> Option<Word<'a>>
         ensures { MatchOption result ((self.old ≡ []) × (self.new ≡ [])) (λ word. self.old ≡ plain_word word ∷ self.new) }

@@ -31,7 +31,7 @@ pub fn state(alloc: Global, entries: &[Entry]) -> Result<Table, OutOfMemory>
     hide_computed(&mut table, joins);
     for rank in 0..RANKS {
         let outputs = rank_outputs(alloc, joins, rank, &table)?;
-        table.merge(outputs)?;
+        table = table.merge(outputs)?;
     }
     Ok(table)
 }

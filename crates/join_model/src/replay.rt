@@ -42,7 +42,7 @@ pub fn replay(alloc: Global, entries: &[Entry]) -> Result<Left, OutOfMemory>
     let mut standing = Standing::new(alloc);
     let mut base = Table::new(alloc);
     for entry in entries {
-        standing.enter(alloc, &entry.write)?;
+        standing.enter(&entry.write)?;
         apply(&mut base, &entry.write)?;
     }
     Ok(Left { standing, base })

@@ -1,4 +1,2 @@
-pub mod Numbers
-pub mod Merging
 pub mod Groups
 pub mod Evaluation

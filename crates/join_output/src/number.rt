@@ -1,33 +1,15 @@
 // Canonical decimals: the number that a value writes, and the value that writes a number.
 ghost use Rattle.std.specs.Prelude.{◌≡◌, ◌^◌, ◌≤◌, IfOk, SomeIff};
 ghost use Rattle.std.specs.Fmt.{signed_decimal};
-ghost use Rattle.std.specs.List.{list_all};
-ghost use Rattle.semantics.specs.Outputs.{whole, is_digit, is_positive, digits_value};
-ghost use Rattle.join_output.specs.Numbers.{unsigned_whole, negative_whole};
+ghost use Rattle.semantics.specs.Outputs.{whole, unsigned_whole, negative_whole, digits_value};
 
+use key_space::decimal::is_positive;
 use key_space::{Value, ValueFault};
 use memory::OutOfMemory;
 use std::alloc::Global;
 
 /// 2^63, the first number above those within 64 bits with a sign.
 const FIRST_ABOVE: u64 = 1 << 63;
-
-/// Whether the bytes are digits.
-fn are_digits(bytes: &[u8]) -> bool
-    ensures { result ≡ list_all is_digit bytes.now }
-{
-    bytes.iter().all(|b| b'0' <= *b && *b <= b'9')
-}
-
-/// Whether the bytes are a digit 1 to 9 and further digits.
-fn is_positive(bytes: &[u8]) -> bool
-    ensures { result ≡ is_positive bytes.now }
-{
-    match bytes.split_first() {
-        None => false,
-        Some((first, rest)) => b'1' <= *first && *first <= b'9' && are_digits(rest),
-    }
-}
 
 /// The number that the digits write; none where it is above 2^63.
 fn digits_value(digits: &[u8]) -> Option<u64>

@@ -246,16 +246,20 @@ fn tables(rt: HostRuntime) -> Result<(), Fail> {
     let mut table = read_table(&rt, alloc, "o|1|a=A o|10|a=B o|10|a=C")?;
     assert_eq!(rt; shown(alloc, &table)?.as_str(), "o|10|a=C o|1|a=A");
     let rows = [
-        ("o|", "o}", 2),
-        ("o|1|", "o}", 1),
-        ("o|1", "o|1|", 1),
-        ("o|2", "o}", 0),
+        ("o|", "o}", "o|10|a=C o|1|a=A "),
+        ("o|1|", "o}", "o|1|a=A "),
+        ("o|1", "o|1|", "o|10|a=C "),
+        ("o|2", "o}", ""),
     ];
     for (low, high, wanted) in rows {
         let range = Range::read(alloc, low, high).expect(&rt, "a range");
-        assert_eq!(rt; table.within(alloc, &range)?.len(), wanted, "from {low}");
+        let mut text = String::new(alloc);
+        for pair in table.within(alloc, &range)? {
+            write!(&mut text, "{}={} ", pair.key.text(), pair.value.text())?;
+        }
+        assert_eq!(rt; text.as_str(), wanted, "from {low}");
     }
-    table.merge(read_table(&rt, alloc, "p|1=D o|1|a=E")?)?;
+    let mut table = table.merge(read_table(&rt, alloc, "p|1=D o|1|a=E")?)?;
     table.remove(&read_key(&rt, alloc, "o|10|a"));
     assert_eq!(rt; shown(alloc, &table)?.as_str(), "o|1|a=E p|1=D");
     table.hide(&slot_at(&rt, alloc, "p", 0)?);

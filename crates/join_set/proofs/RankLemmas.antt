@@ -9,14 +9,14 @@ use Rattle.semantics.specs.Joins.{Join}
 use Rattle.semantics.specs.Histories.{Standing}
 use Rattle.semantics.specs.Graphs.{Edges, AreVertices, IsAcyclic, IsShownCycle, rank, ranks}
 use Rattle.semantics.specs.States.{reading, ranks_of, IsAdmissible}
-use Rattle.semantics.specs.Verdicts.{cycle, cycle_cause, join_cause, joined}
+use Rattle.semantics.specs.Verdicts.{cycle, cycle_cause, join_cause, joined, position_at}
 use Rattle.semantics.proofs.Members.{IsIn-from_get_or, AllByRecursion-at, Contains-from_IsIn}
 use Rattle.semantics.proofs.GraphCycles.{LeadsTo-below}
 use Rattle.semantics.proofs.GraphShown.{shown_cycle-from_IsShownCycle, shown_cycle-from_HasNoCycle}
 use Rattle.semantics.proofs.JoinReadings.{AreVertices-reading}
 use Rattle.semantics.proofs.AdmissibleSets.{length-joined, last-from_cycle, IsAdmissible-nil, joined_is_admissible_lem}
 use Rattle.rank_order.specs.Answers.{EachCycleMeets}
-use Rattle.join_set.specs.Sets.{position_at, IsRanked, IsRankedWith}
+use Rattle.join_set.specs.Sets.{IsRanked, IsRankedWith}
 
 -- a set has a rank for each join
 pub length-ranks : (joins : List Standing) (found : List ℕ) → IsRanked joins found → length found ≡ length joins

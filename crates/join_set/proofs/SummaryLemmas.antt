@@ -4,11 +4,11 @@ use Rattle.std.specs.List.{list_any}
 use Rattle.std.proofs.Math.Bool.{or-false}
 use Rattle.std.proofs.lemmas.List.Folds.{list_any-append}
 use Rattle.semantics.specs.Histories.{Write, put, remove, declare, Entry, History, joins_of, joins_after}
-use Rattle.semantics.specs.Verdicts.{Cause, full, late, first_cause, computed_cause, join_cause, write_cause, verdict}
+use Rattle.semantics.specs.Verdicts.{Cause, full, late, is_change, first_cause, computed_cause, join_cause, write_cause, verdict}
 use Rattle.semantics.specs.Joins.{Join}
 use Rattle.semantics.proofs.BaseLemmas.{joins_of-push}
 use Rattle.semantics.proofs.JoinSets.{first_cause-None, test-from_None}
-use Rattle.join_set.specs.Summaries.{Summary, changes, StandsFor, own_cause, cause_over, summary_after}
+use Rattle.join_set.specs.Summaries.{Summary, StandsFor, own_cause, cause_over, summary_after}
 
 -- the cause against a write, once there is room
 own_cause-StandsFor : (summary : Summary) (h : History) (write : Write) → StandsFor summary h → own_cause summary write ≡ write_cause write h
@@ -16,8 +16,8 @@ own_cause-StandsFor summary h (put k v) s = ap (λ joins. computed_cause k joins
 own_cause-StandsFor summary h (remove k) s = ap (λ joins. computed_cause k joins) s.same_joins
 own_cause-StandsFor summary h (declare j) s =
     ap (λ changed. first_cause ((if changed then Some late else None) ∷ join_cause summary.joins (summary.length + 1) j ∷ [])) s.same_changed
-    ∙ ap (λ joins. first_cause ((if list_any (λ e. changes e.write) h then Some late else None) ∷ join_cause joins (summary.length + 1) j ∷ [])) s.same_joins
-    ∙ ap (λ n. first_cause ((if list_any (λ e. changes e.write) h then Some late else None) ∷ join_cause (joins_of h) (n + 1) j ∷ [])) s.same_length
+    ∙ ap (λ joins. first_cause ((if list_any (λ e. is_change e.write) h then Some late else None) ∷ join_cause joins (summary.length + 1) j ∷ [])) s.same_joins
+    ∙ ap (λ n. first_cause ((if list_any (λ e. is_change e.write) h then Some late else None) ∷ join_cause (joins_of h) (n + 1) j ∷ [])) s.same_length
 
 -- the verdict is the same after each history that a summary stands for
 pub cause_over-StandsFor : (summary : Summary) (h : History) (write : Write) → StandsFor summary h → cause_over summary write ≡ verdict write h
@@ -38,9 +38,9 @@ StandsFor-push summary h client write s =
     record {
       same_joins = ap (λ joins. joins_after (summary.length + 1) write joins) s.same_joins ∙ ap (λ n. joins_after (n + 1) write (joins_of h)) s.same_length ∙ sym (joins_of-push h e);
       same_length = ap (λ n. n + 1) s.same_length ∙ sym (length-append h (e ∷ []));
-      same_changed = ap (λ b. b || changes write) s.same_changed
-          ∙ ap (λ b. list_any (λ f. changes f.write) h || b) (sym (or-false (changes write)))
-          ∙ sym (list_any-append (λ (f : Entry). changes f.write) h (e ∷ []));
+      same_changed = ap (λ b. b || is_change write) s.same_changed
+          ∙ ap (λ b. list_any (λ f. is_change f.write) h || b) (sym (or-false (is_change write)))
+          ∙ sym (list_any-append (λ (f : Entry). is_change f.write) h (e ∷ []));
     }
 
 -- ---- the cause from the summary

@@ -1,5 +1,5 @@
 -- Sets of joins: whose output a key fits, and where positions stand.
-use Rattle.std.specs.Prelude.{◌≡◌, ℕ, ◌<◌, List, length, find, slice_get, Option, None, option_map, unwrap_or}
+use Rattle.std.specs.Prelude.{◌≡◌, ℕ, ◌<◌, List, length, find, Option, None, option_map}
 use Rattle.std.specs.List.{All}
 use Rattle.semantics.specs.Texts.{Text}
 use Rattle.semantics.specs.Patterns.{fits}
@@ -11,10 +11,6 @@ use Rattle.semantics.specs.Verdicts.{cycle_cause, joined}
 -- the position of the join whose output the key fits
 abbrev pub owner_of : Text → List Standing → Option ℕ
 owner_of key joins = option_map (λ s. s.position) (find (λ s. fits s.join.output key) joins)
-
--- the position of the join with a number
-abbrev pub position_at : List Standing → ℕ → ℕ
-position_at joins number = unwrap_or (option_map (λ s. s.position) (slice_get joins number)) 0
 
 -- each position of the set is below the bound
 abbrev pub AreBelow : ℕ → List Standing → Type 0

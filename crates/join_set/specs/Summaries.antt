@@ -1,8 +1,8 @@
 -- What is kept of a history, which histories it stands for, and the verdict from it alone.
-use Rattle.std.specs.Prelude.{◌≡◌, ℕ, ◌+◌, ◌-◌, ◌^◌, List, [], ◌∷◌, length, nat_le, Bool, true, false, ◌||◌, if◌then◌else◌, Option, Some, None}
+use Rattle.std.specs.Prelude.{◌≡◌, ℕ, ◌+◌, ◌-◌, ◌^◌, List, [], ◌∷◌, length, nat_le, Bool, ◌||◌, if◌then◌else◌, Option, Some, None}
 use Rattle.std.specs.List.{list_any}
 use Rattle.semantics.specs.Histories.{Write, put, remove, declare, History, Standing, joins_of, joins_after}
-use Rattle.semantics.specs.Verdicts.{Cause, full, late, first_cause, computed_cause, join_cause}
+use Rattle.semantics.specs.Verdicts.{Cause, full, late, is_change, first_cause, computed_cause, join_cause}
 
 -- the joins that stand, the number of entries, and whether a put or remove has entered
 pub record Summary : Type 0 where
@@ -10,17 +10,11 @@ pub record Summary : Type 0 where
   pub length : ℕ
   pub changed : Bool
 
--- whether a write is a put or a remove
-abbrev pub changes : Write → Bool
-changes (put k v) = true
-changes (remove k) = true
-changes (declare j) = false
-
 -- the summary keeps this of the history
 pub record StandsFor (summary : Summary) (h : History) : Type 0 where
   pub same_joins : summary.joins ≡ joins_of h
   pub same_length : summary.length ≡ length h
-  pub same_changed : summary.changed ≡ list_any (λ e. changes e.write) h
+  pub same_changed : summary.changed ≡ list_any (λ e. is_change e.write) h
 
 -- why the write may not enter, once the history has room
 abbrev pub own_cause : Summary → Write → Option Cause
@@ -37,5 +31,5 @@ abbrev pub summary_after : Summary → Write → Summary
 summary_after summary write = record {
   joins = joins_after (summary.length + 1) write summary.joins;
   length = summary.length + 1;
-  changed = summary.changed || changes write;
+  changed = summary.changed || is_change write;
 }

@@ -99,35 +99,35 @@ impl JoinSet {
         owner(self.joins.as_slice(), key)
     }
 
-    /// An equal set, whose joins are copied.
-    pub fn copy(&self, alloc: Global) -> Result<JoinSet, OutOfMemory>
+    /// An equal set, whose joins are copied, with the same allocator. Linear in the joins.
+    pub fn copy(&self) -> Result<JoinSet, OutOfMemory>
         ensures { IfOk result (λ copy. copy ≡ self.now) }
     {
-        let joins = copy_all(alloc, self.joins.as_slice())?;
-        let ranks = Vec::from_slice(alloc, self.ranks.as_slice())?;
+        let joins = copy_all(self.alloc, self.joins.as_slice())?;
+        let ranks = Vec::from_slice(self.alloc, self.ranks.as_slice())?;
         Ok(JoinSet {
-            alloc,
+            alloc: self.alloc,
             joins,
             ranks,
         })
     }
 
     /// The ranks of the set with the join, or why it may not be added.
-    fn weigh(&self, alloc: Global, at: u64, join: &Join) -> Result<Vec<u64>, AddFault>
+    fn weigh(&self, at: u64, join: &Join) -> Result<Vec<u64>, AddFault>
         ensures ok { IfOk result (λ ranks. ranks.items ≡ ranks_of (joined self.now at join.now)) }
         ensures free { IfOk result (λ ranks. join_cause self.now at join.now ≡ None) }
         ensures err { IfErr result (λ fault. IsFaultOf fault (join_cause self.now at join.now)) }
     {
-        weigh(alloc, self.joins.as_slice(), at, join)
+        weigh(self.alloc, self.joins.as_slice(), at, join)
     }
 
     /// Why the join may not be added at a position, tried in the order of `AddFault`'s variants, or nothing. Each join is
     /// held against each.
-    pub fn refuses(&self, alloc: Global, at: u64, join: &Join) -> Result<(), AddFault>
+    pub fn refuses(&self, at: u64, join: &Join) -> Result<(), AddFault>
         ensures ok { OnOk result (join_cause self.now at join.now ≡ None) }
         ensures err { IfErr result (λ fault. IsFaultOf fault (join_cause self.now at join.now)) }
     {
-        let _ranks = self.weigh(alloc, at, join)?;
+        let _ranks = self.weigh(at, join)?;
         Ok(())
     }
 
@@ -145,7 +145,7 @@ impl JoinSet {
         ensures refused { IfErr result (λ fault. IsFaultOf fault (join_cause self.old at join)) }
         ensures unchanged { OnErr result (self.new ≡ self.old) }
     {
-        let ranks = self.weigh(self.alloc, at, &join)?;
+        let ranks = self.weigh(at, &join)?;
         let stands = Stands { position: at, join };
         self.joins.push(stands)?;
         self.ranks = ranks;

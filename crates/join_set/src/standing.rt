@@ -22,6 +22,7 @@ pub const FULL: u64 = (1 << 48) - 1;
 /// What is kept of a history: the joins that stand, the number of entries, and whether a put or remove has entered.
 #[derive(Debug, Drop)]
 pub struct Standing {
+    alloc: Global,
     joins: JoinSet,
     entries: u64,
     changed: bool,
@@ -45,6 +46,7 @@ impl Standing {
         ensures { StandsFor result [] }
     {
         Standing {
+            alloc,
             joins: JoinSet::new(alloc),
             entries: 0,
             changed: false,
@@ -69,49 +71,47 @@ impl Standing {
 
     /// The verdict of the write after the history: why it may not enter, or nothing. A put or remove costs a look at the
     /// key for each join, and a declaration holds each join against each.
-    pub fn judge(&self, alloc: Global, write: &Write) -> Result<Option<Cause>, OutOfMemory>
+    pub fn judge(&self, write: &Write) -> Result<Option<Cause>, OutOfMemory>
         ensures exact { IfOk result (λ found. option_map plain_cause found ≡ cause_over self.now (plain_write write.now)) }
         ensures verdict { IfOk result (λ found. (h : History) → StandsFor self.now h → option_map plain_cause found ≡ verdict (plain_write write.now) h) }
     {
-        self.cause(alloc, write)
+        self.cause(write)
     }
 
     /// Why the write may not enter.
-    fn cause(&self, alloc: Global, write: &Write) -> Result<Option<Cause>, OutOfMemory>
+    fn cause(&self, write: &Write) -> Result<Option<Cause>, OutOfMemory>
         ensures { IfOk result (λ found. option_map plain_cause found ≡ cause_over self.now (plain_write write.now)) }
     {
         if self.entries >= FULL {
             return Ok(Some(Cause::Full));
         }
-        self.own_cause(alloc, write)
+        self.own_cause(write)
     }
 
     /// Why the write may not enter, once the history has room.
-    fn own_cause(&self, alloc: Global, write: &Write) -> Result<Option<Cause>, OutOfMemory>
+    fn own_cause(&self, write: &Write) -> Result<Option<Cause>, OutOfMemory>
         ensures { IfOk result (λ found. option_map plain_cause found ≡ own_cause self.now (plain_write write.now)) }
     {
         match write {
             Write::Put(key, _) => Ok(judge_key(&self.joins, key)),
             Write::Remove(key) => Ok(judge_key(&self.joins, key)),
-            Write::Declare(join) => {
-                judge_join(alloc, &self.joins, self.changed, self.entries + 1, join)
-            }
+            Write::Declare(join) => judge_join(&self.joins, self.changed, self.entries + 1, join),
         }
     }
 
     /// The write enters, which has no cause against it. On `OutOfMemory` nothing has entered. A put or remove takes
-    /// constant time, and a declaration holds each join against each and copies the join.
-    pub fn enter(&mut self, alloc: Global, write: &Write) -> Result<(), OutOfMemory>
+    /// constant time. A declaration copies the join and holds each join against each, as `judge` has done before.
+    pub fn enter(&mut self, write: &Write) -> Result<(), OutOfMemory>
         requires { cause_over self.old (plain_write write.now) ≡ None }
         ensures exact { OnOk result (self.new ≡ summary_after self.old (plain_write write.now)) }
         ensures history { OnOk result ((h : History) (client : ℕ) → StandsFor self.old h → StandsFor self.new (h ++ record { client = client; write = plain_write write.now } ∷ [])) }
         ensures unchanged { OnErr result (self.new ≡ self.old) }
     {
-        self.take(alloc, write)
+        self.take(write)
     }
 
     /// The write enters.
-    fn take(&mut self, alloc: Global, write: &Write) -> Result<(), OutOfMemory>
+    fn take(&mut self, write: &Write) -> Result<(), OutOfMemory>
         requires { cause_over self.old (plain_write write.now) ≡ None }
         ensures ok { OnOk result (self.new ≡ summary_after self.old (plain_write write.now)) }
         ensures err { OnErr result (self.new ≡ self.old) }
@@ -125,7 +125,7 @@ impl Standing {
                 self.take_change();
                 Ok(())
             }
-            Write::Declare(join) => self.take_join(alloc, join),
+            Write::Declare(join) => self.take_join(join),
         }
     }
 
@@ -139,13 +139,13 @@ impl Standing {
     }
 
     /// A declaration enters.
-    fn take_join(&mut self, alloc: Global, join: &Join) -> Result<(), OutOfMemory>
+    fn take_join(&mut self, join: &Join) -> Result<(), OutOfMemory>
         requires room { self.old.length < 2 ^ 48 - 1 }
         requires free { join_cause self.old.joins (self.old.length + 1) join.now ≡ None }
         ensures ok { OnOk result (self.new ≡ record { joins = joined self.old.joins (self.old.length + 1) join.now; length = self.old.length + 1; changed = self.old.changed }) }
         ensures err { OnErr result (self.new ≡ self.old) }
     {
-        let join = join.copy(alloc)?;
+        let join = join.copy(self.alloc)?;
         add(&mut self.joins, self.entries + 1, join)?;
         self.entries += 1;
         Ok(())
@@ -164,7 +164,6 @@ fn judge_key(joins: &JoinSet, key: &Key) -> Option<Cause>
 
 /// Why the join may not be declared at the position.
 fn judge_join(
-    alloc: Global,
     joins: &JoinSet,
     changed: bool,
     at: u64,
@@ -175,7 +174,7 @@ fn judge_join(
     if changed {
         return Ok(Some(Cause::Late));
     }
-    match joins.refuses(alloc, at, join) {
+    match joins.refuses(at, join) {
         Ok(()) => Ok(None),
         Err(fault) => Ok(Some(cause_of(fault)?)),
     }
@@ -205,6 +204,7 @@ fn add(joins: &mut JoinSet, at: u64, join: Join) -> Result<(), OutOfMemory>
 {
     match joins.add(at, join) {
         Ok(()) => Ok(()),
-        Err(_) => Err(OutOfMemory),
+        Err(AddFault::OutOfMemory) => Err(OutOfMemory),
+        Err(_) => unreachable!(),
     }
 }

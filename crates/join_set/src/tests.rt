@@ -84,10 +84,10 @@ fn count_of(
 }
 
 /// The verdict of the write, which enters where there is none.
-fn offer(alloc: Global, standing: &mut Standing, write: &Write) -> Result<Option<Cause>, Fail> {
-    match standing.judge(alloc, write)? {
+fn offer(standing: &mut Standing, write: &Write) -> Result<Option<Cause>, Fail> {
+    match standing.judge(write)? {
         None => {
-            standing.enter(alloc, write)?;
+            standing.enter(write)?;
             Ok(None)
         }
         Some(cause) => Ok(Some(cause)),
@@ -105,7 +105,7 @@ fn expect_last(
     let mut last = String::new(alloc);
     for (output, source) in joins {
         let join = join_of(rt, alloc, Op::Copy, *output, *source)?;
-        let found = offer(alloc, &mut standing, &Write::Declare(join))?;
+        let found = offer(&mut standing, &Write::Declare(join))?;
         last = format!(in alloc; "{found:?}")?;
     }
     assert_eq!(rt; last.as_str(), wanted);
@@ -148,7 +148,7 @@ fn chains_of_eight_and_nine(rt: HostRuntime) -> Result<(), Fail> {
     let mut source = "z";
     for table in tables {
         let join = join_of(&rt, alloc, Op::Copy, (table, 0), (source, 0))?;
-        let found = offer(alloc, &mut standing, &Write::Declare(join))?;
+        let found = offer(&mut standing, &Write::Declare(join))?;
         let text = format!(in alloc; "{found:?}")?;
         match table {
             "i" => assert_eq!(rt; text.as_str(), "Some(Deep)"),
@@ -178,14 +178,14 @@ fn sixty_four_joins_stand(rt: HostRuntime) -> Result<(), Fail> {
     for number in 0..65u8 {
         let table = format!(in alloc; "t{number}")?;
         let join = join_of(&rt, alloc, Op::Sum, (table.as_str(), 0), ("s", 0))?;
-        let found = offer(alloc, &mut standing, &Write::Declare(join))?;
+        let found = offer(&mut standing, &Write::Declare(join))?;
         let text = format!(in alloc; "{found:?}")?;
         let wanted = if number == 64 { "Some(Many)" } else { "None" };
         assert_eq!(rt; text.as_str(), wanted, "of {number}");
     }
     assert_eq!(rt; standing.joins().len(), 64);
     let deep = join_of(&rt, alloc, Op::Check, ("x", 0), ("s", 0))?;
-    let found = offer(alloc, &mut standing, &Write::Declare(deep))?;
+    let found = offer(&mut standing, &Write::Declare(deep))?;
     let text = format!(in alloc; "{found:?}")?;
     assert_eq!(rt; text.as_str(), "Some(Sources)");
     Ok(())
@@ -199,7 +199,7 @@ fn expect(
     write: &Write,
     wanted: &str,
 ) -> Result<(), Fail> {
-    let found = offer(alloc, standing, write)?;
+    let found = offer(standing, write)?;
     let text = format!(in alloc; "{found:?}")?;
     assert_eq!(rt; text.as_str(), wanted);
     Ok(())
@@ -262,9 +262,20 @@ fn a_set_grows_and_is_copied(rt: HostRuntime) -> Result<(), Fail> {
     let mut set = JoinSet::new(alloc);
     assert!(rt; set.is_empty());
     let first = join_of(&rt, alloc, Op::Copy, ("b", 0), ("a", 0))?;
-    set.refuses(alloc, 4, &first)?;
+    set.refuses(4, &first)?;
     set.add(4, first)?;
-    let copy = set.copy(alloc)?;
+    let same = join_of(&rt, alloc, Op::Copy, ("b", 0), ("c", 0))?;
+    let refused = set.refuses(5, &same).err();
+    assert_eq!(rt;
+        format!(in alloc; "{refused:?}")?.as_str(),
+        "Some(Clash(4))"
+    );
+    let refused = set.add(5, same).err();
+    assert_eq!(rt;
+        format!(in alloc; "{refused:?}")?.as_str(),
+        "Some(Clash(4))"
+    );
+    let copy = set.copy()?;
     assert_eq!(rt; copy.len(), 1);
     let key = Key::read(alloc, "b|x").expect(&rt, "a key");
     assert_eq!(rt; copy.owner(&key), Some(4));

@@ -3,9 +3,9 @@ ghost use Rattle.std.specs.Prelude.{◌≡◌, ◌≤◌, IfOk, IfErr, None, len
 ghost use Rattle.std.specs.List.{All, list_any};
 ghost use Rattle.semantics.specs.Joins.{Join as PlainJoin};
 ghost use Rattle.semantics.specs.States.{IsAdmissible, ranks_of};
-ghost use Rattle.semantics.specs.Verdicts.{cycle_cause, join_cause, joined};
+ghost use Rattle.semantics.specs.Verdicts.{cycle_cause, join_cause, joined, position_at};
 ghost use Rattle.join_set.specs.Faults.{IsFaultOf};
-ghost use Rattle.join_set.specs.Sets.{position_at, IsRankedWith};
+ghost use Rattle.join_set.specs.Sets.{IsRankedWith};
 
 use crate::fault::AddFault;
 use crate::reading::edges;
@@ -13,7 +13,7 @@ use crate::rules::{keeps_slot_rule, keeps_source_rule};
 use crate::stands::{Stands, clash};
 use join_types::{Join, Positions};
 use memory::OutOfMemory;
-use rank_order::ranked::{Ranked, ranks};
+use rank_order::{Ranked, ranks};
 use std::alloc::Global;
 
 /// The greatest rank of a join.

@@ -1,8 +1,8 @@
 -- What `ranks` asks and what it answers.
 use Rattle.std.specs.Prelude.{ℕ, List, Contains}
 use Rattle.semantics.specs.Graphs.{Edges, IsCycle}
-use Rattle.rank_order.specs.declared.ranked.Ranked.{Ranked}
-use Rattle.rank_order.specs.declared.ranked.Ranked.TheVariants.{Ranks, Cycle}
+use Rattle.rank_order.specs.declared.answer.Ranked.{Ranked}
+use Rattle.rank_order.specs.declared.answer.Ranked.TheVariants.{Ranks, Cycle}
 
 -- every cycle goes through the vertex
 abbrev pub EachCycleMeets : Edges → ℕ → Type 0

@@ -1,12 +1,14 @@
 // The ranks of joins by what each reads, or the cycle that stands in their way.
 //
-// It stands on `memory` and, for its definitions, on `semantics`. The layer above calls `ranks`; the other modules are
-// its parts.
+// It stands on `memory` and, for its definitions, on `semantics`. The layer above calls `ranks`.
 #![tactic(auto)]
 
+mod answer;
 mod distances;
 mod levels;
-pub mod ranked;
+mod walk;
+
+pub use answer::{Ranked, ranks};
+
 #[cfg(test)]
 mod tests;
-mod walk;

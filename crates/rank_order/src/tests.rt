@@ -3,7 +3,7 @@ ghost use Rattle.std.specs.Prelude.{◌<◌, IsTrue};
 ghost use Rattle.semantics.specs.Graphs.{AreVertices};
 ghost use Rattle.rank_order.specs.Answers.{EachCycleMeets};
 
-use crate::ranked::{Ranked, ranks};
+use crate::{Ranked, ranks};
 use std::test::Fail;
 
 /// Whether `ranks` may be asked: the edges are between vertices below `n`, and each that does not touch `start` leads

@@ -12,9 +12,9 @@ loop-rank-init c =
 
 pub loop-rank-preserved : goal.loop-rank-preserved
 loop-rank-preserved c =
-    below_more c.args.entries.now c.loop-rank.rank c.joins-joins.result.now c.loop-rank.table c.merge.new.self
+    below_more c.args.entries.now c.loop-rank.rank c.joins-joins.result.now c.loop-rank.table c.in_ok-table.table
     (c.joins-joins.ensures.joins ∙ c.in_ok-standing.ensures.stands.same_joins)
-    c.loop-rank.invariant (c.in_ok-merge.ensures.ok ∙ c.in_ok-outputs.ensures)
+    c.loop-rank.invariant (c.in_ok-table.ensures ∙ c.in_ok-outputs.ensures)
 
 pub returns : goal.returns
 returns c =

@@ -1,7 +1,6 @@
 use Rattle.std.proofs.Common.{◌≡◌, take, map}
 use Rattle.semantics.specs.Joins.{Join}
-use Rattle.semantics.specs.Verdicts.{joined}
-use Rattle.join_set.specs.Sets.{position_at}
+use Rattle.semantics.specs.Verdicts.{joined, position_at}
 use Rattle.join_set.proofs.weighing.positions.Given as goal
 
 abbrev pub invariant-loop-number : goal.invariant-loop-number

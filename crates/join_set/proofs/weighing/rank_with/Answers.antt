@@ -1,6 +1,6 @@
 use Rattle.std.proofs.Common.{◌≡◌, ℕ, ◌+◌, ◌≤◌, ◌∙◌, List, length, All, sym, subst}
 use Rattle.semantics.specs.Graphs.{IsShownCycle, ranks}
-use Rattle.rank_order.specs.declared.ranked.Ranked.{Ranked}
+use Rattle.rank_order.specs.declared.answer.Ranked.{Ranked}
 use Rattle.rank_order.specs.Answers.{IsRanks, IfRanks, IfCycle}
 use Rattle.join_set.proofs.RankLemmas.{ends_of_reading, cycles_of_reading, IsRankedWith-from, cycle_below, cause_of_cycle}
 use Rattle.join_set.proofs.weighing.rank_with.Goals as goal

@@ -1,16 +1,16 @@
 // What the lines of a file of joins declare.
 ghost use Rattle.std.specs.Prelude.{◌≡◌, IfOk};
 ghost use Rattle.semantics.specs.Histories.{History};
-ghost use Rattle.protocol.specs.JoinsFile.{cause_name, declare_line};
-ghost use Rattle.join_types.specs.Causes.{plain_cause};
+ghost use Rattle.protocol.specs.JoinsFile.{declare_line};
 ghost use Rattle.join_set.specs.Summaries.{StandsFor};
 ghost use Rattle.joins_file.specs.Declarations.{join_of_line, ComesAfter, IsDeclaredBy};
 
 use crate::lines::{is_skipped, split_first_line};
 use join_lang::{ParseFault, parse};
 use join_set::Standing;
-use join_types::{Cause, Join, Write};
+use join_types::{Join, Write};
 use memory::OutOfMemory;
+use request_codec::cause_name;
 use std::alloc::Global;
 
 /// The name of a line that is no join text.
@@ -32,23 +32,6 @@ pub enum Declared {
     Joins(Standing),
     /// A line is refused.
     Refused(RefusedLine),
-}
-
-/// The name of a cause.
-fn cause_name(cause: &Cause) -> &'static str
-    ensures { result.now ≡ cause_name (plain_cause cause.now) }
-{
-    match cause {
-        Cause::Computed(_) => "computed",
-        Cause::Late => "late",
-        Cause::Full => "full",
-        Cause::Slots => "slots",
-        Cause::Sources => "sources",
-        Cause::Clash(_) => "clash",
-        Cause::Cycle(_) => "cycle",
-        Cause::Deep => "deep",
-        Cause::Many => "many",
-    }
 }
 
 /// The join that a line is the text of, if it is one.
@@ -80,10 +63,10 @@ fn declare_line(
         return Ok(Some(SYNTAX));
     };
     let write = Write::Declare(join);
-    if let Some(cause) = standing.judge(alloc, &write)? {
+    if let Some(cause) = standing.judge(&write)? {
         return Ok(Some(cause_name(&cause)));
     }
-    standing.enter(alloc, &write)?;
+    standing.enter(&write)?;
     Ok(None)
 }
 
@@ -93,7 +76,8 @@ fn declare_line(
 /// line that is then empty, has spaces alone or begins with `#` is skipped. Every other line is the text of a join.
 ///
 /// `Refused` comes exactly where a line is no join text in UTF-8, with the name `syntax`, or where a cause stands against
-/// its join after those before it, with the cause's name. Each line is read once, and each join held against each.
+/// its join after those before it, with the cause's name. `OutOfMemory` comes only where none is found for the joins. Each
+/// line is read once, and each join held against each.
 pub fn declare(alloc: Global, bytes: &[u8]) -> Result<Declared, OutOfMemory>
     ensures { IfOk result (IsDeclaredBy bytes.now) }
 {

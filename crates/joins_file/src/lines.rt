@@ -1,24 +1,15 @@
 // The lines of a file of joins.
-ghost use Rattle.std.specs.Prelude.{◌≡◌, ◌<◌, ◌==◌, ◌∷◌, [], length, position, MatchOption, IfSome};
+ghost use Rattle.std.specs.Prelude.{◌≡◌, ◌<◌, ◌==◌, ◌∷◌, [], length, MatchOption, IfSome};
 ghost use Rattle.std.specs.List.{list_all};
-ghost use Rattle.request_codec.specs.Feeding.{is_feed};
 ghost use Rattle.protocol.specs.JoinsFile.{file_lines, is_skipped, without_return};
 
-/// The byte that ends a line.
-const FEED: u8 = b'\n';
+use request_codec::find_line_end;
 
 /// The line without one byte 13 at its end.
 fn without_return(line: &[u8]) -> &[u8]
     ensures { result.now ≡ without_return line.now }
 {
     line.strip_suffix(b"\r").unwrap_or(line)
-}
-
-/// Where the first byte 10 of a text stands.
-fn find_feed(bytes: &[u8]) -> Option<usize>
-    ensures { result ≡ position is_feed bytes.now }
-{
-    bytes.iter().position(|byte| *byte == FEED)
 }
 
 /// The first line of a text and what follows it, or nothing where the text has no line. One search for the line's end.
@@ -29,7 +20,7 @@ pub fn split_first_line(bytes: &[u8]) -> Option<(&[u8], &[u8])>
     if bytes.is_empty() {
         return None;
     }
-    match find_feed(bytes) {
+    match find_line_end(bytes) {
         Some(end) => Some((without_return(&bytes[..end]), &bytes[end + 1..])),
         None => Some((without_return(bytes), &[])),
     }

@@ -11,7 +11,7 @@ use memory::OutOfMemory;
 use request_codec::{number_value, text_value, write_row};
 use std::alloc::Global;
 
-/// The row of the join with this number: its position, its rank in the set and its canonical text.
+/// The row of the join with this number: its position, its rank in the set and its canonical text. Linear in the row.
 fn join_row(alloc: Global, joins: &JoinSet, number: usize) -> Result<Vec<u8>, OutOfMemory>
     requires { number < length joins.now }
     ensures { IfOk result (λ row. option_map (λ s. join_row (slice_index (ranks_of joins.now) number, s)) (slice_get joins.now number) ≡ Some row.items) }
@@ -44,7 +44,7 @@ pub fn join_rows(alloc: Global, joins: &JoinSet) -> Result<Vec<u8>, OutOfMemory>
     Ok(rows)
 }
 
-/// The row of a refused line: its number and its name.
+/// The row of a refused line: its number and its name. Linear in the row.
 pub fn refused_row(alloc: Global, line: RefusedLine) -> Result<Vec<u8>, OutOfMemory>
     ensures { IfOk result (λ row. row.items ≡ refused_row (plain_refusal line)) }
 {

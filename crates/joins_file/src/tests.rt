@@ -1,8 +1,9 @@
 use super::*;
+use join_lang::print;
 use std::test::Fail;
 
 #[test]
-fn files(rt: HostRuntime) -> Result<(), Fail> {
+fn each_join_of_a_file_has_a_row(rt: HostRuntime) -> Result<(), Fail> {
     let alloc = rt.alloc();
     for (file, rows) in [
         ("", ""),
@@ -32,7 +33,7 @@ fn files(rt: HostRuntime) -> Result<(), Fail> {
 }
 
 #[test]
-fn refused_files(rt: HostRuntime) -> Result<(), Fail> {
+fn the_first_refused_line_has_the_only_row(rt: HostRuntime) -> Result<(), Fail> {
     let alloc = rt.alloc();
     for (file, row) in [
         (
@@ -51,7 +52,7 @@ fn refused_files(rt: HostRuntime) -> Result<(), Fail> {
 }
 
 #[test]
-fn bytes_that_are_not_utf8(rt: HostRuntime) -> Result<(), Fail> {
+fn bytes_that_are_not_utf8_may_be_skipped(rt: HostRuntime) -> Result<(), Fail> {
     let alloc = rt.alloc();
     let skipped = report(alloc, b"#\xff\n")?;
     assert!(rt; skipped.text.is_empty() && !skipped.refused);
@@ -59,5 +60,41 @@ fn bytes_that_are_not_utf8(rt: HostRuntime) -> Result<(), Fail> {
     assert!(rt;
         refused.text.as_slice() == b"[\"refused\",2,\"syntax\"]\n".as_slice() && refused.refused
     );
+    Ok(())
+}
+
+#[test]
+fn a_file_declares_its_joins_from_position_1(rt: HostRuntime) -> Result<(), Fail> {
+    let alloc = rt.alloc();
+    let file = b"# two\nc|<x> = copy b|<x>\n\nb|<x> = count a|<x>\n";
+    let Declared::Joins(standing) = declare(alloc, file)? else {
+        return Err(Fail::from("a line is refused"));
+    };
+    let joins = standing.joins();
+    assert_eq!(rt; joins.len(), 2);
+    for (number, position, rank, text) in [
+        (0, 1, 1, "c|<x> = copy b|<x>"),
+        (1, 2, 0, "b|<x> = count a|<x>"),
+    ] {
+        assert!(rt; number < joins.len());
+        assert_eq!(rt; joins.at(number), position);
+        assert_eq!(rt; joins.rank(number), rank);
+        assert_eq!(rt; print(alloc, joins.join(number))?.as_str(), text);
+    }
+    Ok(())
+}
+
+#[test]
+fn a_refused_file_declares_its_first_refused_line(rt: HostRuntime) -> Result<(), Fail> {
+    let alloc = rt.alloc();
+    for (file, number, name) in [
+        ("b|<x> = copy a|<x>\n#\nb|<y> = copy c|<y>\n|\n", 3, "clash"),
+        ("b|<x> = copy\n", 1, "syntax"),
+    ] {
+        let Declared::Refused(line) = declare(alloc, file.as_bytes())? else {
+            return Err(Fail::from("no line is refused"));
+        };
+        assert_eq!(rt; line, RefusedLine { number, name }, "{file}");
+    }
     Ok(())
 }

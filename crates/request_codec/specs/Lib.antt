@@ -1,2 +1,3 @@
 pub mod Plain
+pub mod LineFaults
 pub mod Feeding

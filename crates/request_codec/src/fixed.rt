@@ -13,7 +13,9 @@ pub const LONG_LINE: &[u8] = b"[\"error\",\"long\"]\n";
 /// The line of `Done`: the first `len` bytes.
 #[derive(Clone, Copy, Debug)]
 pub struct OkLine {
+    /// The line, and bytes that are not of it.
     pub bytes: [u8; 32],
+    /// How many bytes the line has.
     pub len: usize,
 }
 
@@ -31,7 +33,7 @@ impl OkLine {
     }
 }
 
-/// The line of `Done` at a position, which has at most 23 bytes. It takes no memory.
+/// The line of `Done` at a position, which has at most 23 bytes. It takes no memory, and constant time.
 pub fn write_ok(position: u64) -> OkLine
     requires { position < 2 ^ 48 }
     ensures text { take result.len result.bytes ≡ reply_text (done position) }
@@ -48,14 +50,14 @@ pub fn write_ok(position: u64) -> OkLine
     line
 }
 
-/// The line of `Memory`, which takes no memory.
+/// The line of `Memory`, which takes no memory, in constant time.
 pub fn memory_line() -> &'static [u8]
     ensures { result.now ≡ reply_text memory }
 {
     MEMORY_LINE
 }
 
-/// The line of `Long`, which takes no memory.
+/// The line of `Long`, which takes no memory, in constant time.
 pub fn long_line() -> &'static [u8]
     ensures { result.now ≡ reply_text long }
 {

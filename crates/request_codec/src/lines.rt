@@ -1,5 +1,5 @@
 // Lines, cut from pieces of bytes as they come.
-ghost use Rattle.std.specs.Prelude.{◌≡◌, ◌+◌, ◌≤◌, ◌++◌, [], IfOk, length, vec_len, vec_capacity, true, false, position};
+ghost use Rattle.std.specs.Prelude.{◌≡◌, ◌+◌, ◌≤◌, ◌++◌, [], IfOk, length, vec_len, vec_capacity, false, position};
 ghost use Rattle.std.specs.List.{list_any};
 ghost use Rattle.protocol.specs.Lines.{line_limit};
 ghost use Rattle.request_codec.specs.Feeding.{is_feed, before_feed, fed, fed_by, line_fed, ends};
@@ -12,7 +12,7 @@ use std::marker::Model;
 pub const MOST_LINE_BYTES: usize = 1_048_576;
 
 /// The byte that ends a line.
-const FEED: u8 = 10;
+pub const LINE_END: u8 = b'\n';
 
 /// What a piece of bytes makes of the line under way.
 #[derive(Clone, Copy, Debug, PartialEq, Eq)]
@@ -55,18 +55,18 @@ fn fill(bytes: &mut Vec<u8>, more: &[u8])
     }
 }
 
-/// Where the first byte 10 of the piece stands.
-fn find_feed(piece: &[u8]) -> Option<usize>
-    ensures { result ≡ position is_feed piece.now }
+/// Where the first byte 10 stands, if there is one. Linear in the bytes before it.
+pub fn find_line_end(bytes: &[u8]) -> Option<usize>
+    ensures { result ≡ position is_feed bytes.now }
 {
-    piece.iter().position(|byte| *byte == FEED)
+    bytes.iter().position(|byte| *byte == LINE_END)
 }
 
 /// How many bytes of the piece stand before its first byte 10.
-fn before_feed(piece: &[u8]) -> usize
+fn before_line_end(piece: &[u8]) -> usize
     ensures { result ≡ before_feed piece.now }
 {
-    find_feed(piece).unwrap_or(piece.len())
+    find_line_end(piece).unwrap_or(piece.len())
 }
 
 /// What a piece of this length makes of a line with this room, where so many of its bytes stand before its first byte 10.
@@ -84,7 +84,9 @@ fn make_fed(before: usize, room: usize, length: usize) -> Fed
 }
 
 impl Lines {
-    /// An empty line, with room for 1,048,576 bytes.
+    /// An empty line, with room for 1,048,576 bytes. It takes constant time.
+    ///
+    /// `OutOfMemory` comes only where no such room is found.
     pub fn new(alloc: Global) -> Result<Lines, OutOfMemory>
         ensures { IfOk result (λ lines. lines ≡ record { line = []; ended = false }) }
     {
@@ -106,7 +108,7 @@ impl Lines {
         ensures line { self.new.line ≡ line_fed self.old.line piece.now }
         ensures ended { self.new.ended ≡ ends result }
     {
-        let before = before_feed(piece);
+        let before = before_line_end(piece);
         let room = MOST_LINE_BYTES - self.bytes.len();
         let fed = make_fed(before, room, piece.len());
         fill(&mut self.bytes, &piece[..before.min(room)]);
@@ -114,7 +116,7 @@ impl Lines {
         fed
     }
 
-    /// The bytes of the line, without the byte 10.
+    /// The bytes of the line, without the byte 10. It takes constant time.
     pub fn line(&self) -> &[u8]
         ensures line { result.now ≡ self.now.line }
         ensures short { length self.now.line ≤ line_limit }
@@ -123,7 +125,7 @@ impl Lines {
         self.bytes.as_slice()
     }
 
-    /// Begins the next line, in the same room.
+    /// Begins the next line, in the same room. It takes constant time.
     pub fn clear(&mut self)
         ensures { self.new ≡ record { line = []; ended = false } }
     {

@@ -6,74 +6,55 @@ ghost use Rattle.protocol.specs.JoinText.{read_join};
 ghost use Rattle.request_codec.specs.Plain.{plain_request, IsFaultOf};
 
 use crate::request::{LineFault, Request};
-use join_lang::{ParseFault, parse};
-use key_space::{Key, KeyFault, Range, RangeFault, Value, ValueFault};
+use join_lang::parse;
+use key_space::{Key, Range, Value};
 use serde_json::Value as Json;
 use std::alloc::Global;
 
-/// The request to put a value at a key.
+/// The request to put a value at a key. Linear in both texts.
 fn read_put(alloc: Global, key: &str, value: &str) -> Result<Request, LineFault>
     ensures request { IfOk result (λ request. put_request key.now value.now ≡ Ok (plain_request request)) }
     ensures fault { IfErr result (IsFaultOf (put_request key.now value.now)) }
 {
-    let key = match Key::read(alloc, key) {
-        Ok(key) => key,
-        Err(KeyFault::BadKey) => return Err(LineFault::Key),
-        Err(KeyFault::OutOfMemory) => return Err(LineFault::OutOfMemory),
-    };
-    match Value::read(alloc, value) {
-        Ok(value) => Ok(Request::Put(key, value)),
-        Err(ValueFault::BadValue) => Err(LineFault::Value),
-        Err(ValueFault::OutOfMemory) => Err(LineFault::OutOfMemory),
-    }
+    let key = Key::read(alloc, key)?;
+    let value = Value::read(alloc, value)?;
+    Ok(Request::Put(key, value))
 }
 
-/// The request to remove a key.
+/// The request to remove a key. Linear in its text.
 fn read_remove(alloc: Global, key: &str) -> Result<Request, LineFault>
     ensures request { IfOk result (λ request. remove_request key.now ≡ Ok (plain_request request)) }
     ensures fault { IfErr result (IsFaultOf (remove_request key.now)) }
 {
-    match Key::read(alloc, key) {
-        Ok(key) => Ok(Request::Remove(key)),
-        Err(KeyFault::BadKey) => Err(LineFault::Key),
-        Err(KeyFault::OutOfMemory) => Err(LineFault::OutOfMemory),
-    }
+    let key = Key::read(alloc, key)?;
+    Ok(Request::Remove(key))
 }
 
-/// The request for the value at a key.
+/// The request for the value at a key. Linear in its text.
 fn read_get(alloc: Global, key: &str) -> Result<Request, LineFault>
     ensures request { IfOk result (λ request. get_request key.now ≡ Ok (plain_request request)) }
     ensures fault { IfErr result (IsFaultOf (get_request key.now)) }
 {
-    match Key::read(alloc, key) {
-        Ok(key) => Ok(Request::Get(key)),
-        Err(KeyFault::BadKey) => Err(LineFault::Key),
-        Err(KeyFault::OutOfMemory) => Err(LineFault::OutOfMemory),
-    }
+    let key = Key::read(alloc, key)?;
+    Ok(Request::Get(key))
 }
 
-/// The request for the pairs between two bounds.
+/// The request for the pairs between two bounds. Linear in their texts.
 fn read_scan(alloc: Global, low: &str, high: &str) -> Result<Request, LineFault>
     ensures request { IfOk result (λ request. scan_request low.now high.now ≡ Ok (plain_request request)) }
     ensures fault { IfErr result (IsFaultOf (scan_request low.now high.now)) }
 {
-    match Range::read(alloc, low, high) {
-        Ok(range) => Ok(Request::Scan(range)),
-        Err(RangeFault::BadRange) => Err(LineFault::Range),
-        Err(RangeFault::OutOfMemory) => Err(LineFault::OutOfMemory),
-    }
+    let range = Range::read(alloc, low, high)?;
+    Ok(Request::Scan(range))
 }
 
-/// The request to declare a join.
+/// The request to declare a join. Linear in its text, with its names for each slot.
 fn read_declare(alloc: Global, text: &str) -> Result<Request, LineFault>
     ensures request { IfOk result (λ request. join_or_syntax (read_join text.now) ≡ Ok (plain_request request)) }
     ensures fault { IfErr result (IsFaultOf (join_or_syntax (read_join text.now))) }
 {
-    match parse(alloc, text) {
-        Ok(join) => Ok(Request::Declare(join)),
-        Err(ParseFault::Syntax { at }) => Err(LineFault::Syntax(at)),
-        Err(ParseFault::OutOfMemory) => Err(LineFault::OutOfMemory),
-    }
+    let join = parse(alloc, text)?;
+    Ok(Request::Declare(join))
 }
 
 /// The request of one word.
@@ -134,9 +115,8 @@ fn read_word(items: &[Json]) -> Result<Request, LineFault>
     ensures request { IfOk result (λ request. request_of_form (texts_of_items (items_view items.now)) ≡ Ok (plain_request request)) }
     ensures fault { IfErr result (IsFaultOf (request_of_form (texts_of_items (items_view items.now)))) }
 {
-    let word = match text_at(items, 0) {
-        Some(word) => word,
-        None => return Err(LineFault::Form),
+    let Some(word) = text_at(items, 0) else {
+        return Err(LineFault::Form);
     };
     read_one(word)
 }
@@ -147,13 +127,11 @@ fn read_word_and_text(alloc: Global, items: &[Json]) -> Result<Request, LineFaul
     ensures request { IfOk result (λ request. request_of_form (texts_of_items (items_view items.now)) ≡ Ok (plain_request request)) }
     ensures fault { IfErr result (IsFaultOf (request_of_form (texts_of_items (items_view items.now)))) }
 {
-    let word = match text_at(items, 0) {
-        Some(word) => word,
-        None => return Err(LineFault::Form),
+    let Some(word) = text_at(items, 0) else {
+        return Err(LineFault::Form);
     };
-    let text = match text_at(items, 1) {
-        Some(text) => text,
-        None => return Err(LineFault::Form),
+    let Some(text) = text_at(items, 1) else {
+        return Err(LineFault::Form);
     };
     read_two(alloc, word, text)
 }
@@ -164,17 +142,14 @@ fn read_word_and_texts(alloc: Global, items: &[Json]) -> Result<Request, LineFau
     ensures request { IfOk result (λ request. request_of_form (texts_of_items (items_view items.now)) ≡ Ok (plain_request request)) }
     ensures fault { IfErr result (IsFaultOf (request_of_form (texts_of_items (items_view items.now)))) }
 {
-    let word = match text_at(items, 0) {
-        Some(word) => word,
-        None => return Err(LineFault::Form),
+    let Some(word) = text_at(items, 0) else {
+        return Err(LineFault::Form);
     };
-    let first = match text_at(items, 1) {
-        Some(first) => first,
-        None => return Err(LineFault::Form),
+    let Some(first) = text_at(items, 1) else {
+        return Err(LineFault::Form);
     };
-    let second = match text_at(items, 2) {
-        Some(second) => second,
-        None => return Err(LineFault::Form),
+    let Some(second) = text_at(items, 2) else {
+        return Err(LineFault::Form);
     };
     read_three(alloc, word, first, second)
 }
@@ -196,10 +171,10 @@ fn read_items(alloc: Global, items: &[Json]) -> Result<Request, LineFault>
     }
 }
 
-/// The request that a JSON value is. Linear in its texts.
+/// The request that a JSON value is. Linear in its texts, with the names of a join for each of its slots.
 ///
 /// Each fault but `OutOfMemory` comes exactly where it is the first of `Form`, `Key`, `Value`, `Range` and `Syntax` that
-/// refuses the value.
+/// refuses the value. `OutOfMemory` comes only where none is found for the request, and says nothing of the value.
 pub fn read_value(alloc: Global, value: &Json) -> Result<Request, LineFault>
     ensures request { IfOk result (λ request. request_of_value (view value.now) ≡ Ok (plain_request request)) }
     ensures fault { IfErr result (IsFaultOf (request_of_value (view value.now))) }
@@ -210,14 +185,13 @@ pub fn read_value(alloc: Global, value: &Json) -> Result<Request, LineFault>
     }
 }
 
-/// The JSON value of a line (RFC 8259).
+/// The JSON value of a line (RFC 8259). Linear in the line.
 fn read_json(alloc: Global, line: &[u8]) -> Result<Json, LineFault>
     ensures value { IfOk result (λ value. json_of line.now ≡ Some (view value)) }
     ensures fault { IfErr result (IsFaultOf (request_of_json (json_of line.now))) }
 {
-    let text = match std::str::from_utf8(line) {
-        Ok(text) => text,
-        Err(_) => return Err(LineFault::Json),
+    let Ok(text) = str::from_utf8(line) else {
+        return Err(LineFault::Json);
     };
     match Json::from_str(alloc, text) {
         Ok(value) => Ok(value),
@@ -231,16 +205,16 @@ fn read_json(alloc: Global, line: &[u8]) -> Result<Json, LineFault>
     }
 }
 
-/// The request that a line is, given without the byte 10 that ends it. Linear in the line.
+/// The request that a line is, given without the byte 10 that ends it. Linear in the line, with the names of a join for
+/// each of its slots.
 ///
 /// Each fault but `OutOfMemory` comes exactly where it is the first of `Json`, `Form`, `Key`, `Value`, `Range` and
-/// `Syntax` that refuses the line.
+/// `Syntax` that refuses the line. `OutOfMemory` comes only where none is found for the line's JSON or its request, and
+/// says nothing of the line.
 pub fn read(alloc: Global, line: &[u8]) -> Result<Request, LineFault>
     ensures request { IfOk result (λ request. request_of line.now ≡ Ok (plain_request request)) }
     ensures fault { IfErr result (IsFaultOf (request_of line.now)) }
 {
-    match read_json(alloc, line) {
-        Ok(value) => read_value(alloc, &value),
-        Err(fault) => Err(fault),
-    }
+    let value = read_json(alloc, line)?;
+    read_value(alloc, &value)
 }

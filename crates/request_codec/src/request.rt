@@ -1,4 +1,5 @@
 // Requests, and why a line is none.
+ghost use Rattle.std.specs.Prelude.{◌≡◌};
 
 use join_lang::ParseFault;
 use join_types::Join;
@@ -38,4 +39,56 @@ pub enum LineFault {
     Syntax(usize),
     /// No memory was found for the request. This says nothing of the line.
     OutOfMemory,
+}
+
+impl From<KeyFault> for LineFault {
+    ghost use Rattle.request_codec.specs.LineFaults.{fault_of_key};
+
+    ghost from_gives = { λ fault given. given ≡ fault_of_key fault };
+
+    fn from(fault: KeyFault) -> Self {
+        match fault {
+            KeyFault::BadKey => LineFault::Key,
+            KeyFault::OutOfMemory => LineFault::OutOfMemory,
+        }
+    }
+}
+
+impl From<ValueFault> for LineFault {
+    ghost use Rattle.request_codec.specs.LineFaults.{fault_of_value};
+
+    ghost from_gives = { λ fault given. given ≡ fault_of_value fault };
+
+    fn from(fault: ValueFault) -> Self {
+        match fault {
+            ValueFault::BadValue => LineFault::Value,
+            ValueFault::OutOfMemory => LineFault::OutOfMemory,
+        }
+    }
+}
+
+impl From<RangeFault> for LineFault {
+    ghost use Rattle.request_codec.specs.LineFaults.{fault_of_range};
+
+    ghost from_gives = { λ fault given. given ≡ fault_of_range fault };
+
+    fn from(fault: RangeFault) -> Self {
+        match fault {
+            RangeFault::BadRange => LineFault::Range,
+            RangeFault::OutOfMemory => LineFault::OutOfMemory,
+        }
+    }
+}
+
+impl From<ParseFault> for LineFault {
+    ghost use Rattle.request_codec.specs.LineFaults.{fault_of_join};
+
+    ghost from_gives = { λ fault given. given ≡ fault_of_join fault };
+
+    fn from(fault: ParseFault) -> Self {
+        match fault {
+            ParseFault::Syntax { at } => LineFault::Syntax(at),
+            ParseFault::OutOfMemory => LineFault::OutOfMemory,
+        }
+    }
 }

@@ -27,7 +27,7 @@ fn told(alloc: Global, line: &[u8]) -> Result<String, AllocError> {
 }
 
 #[test]
-fn requests(rt: HostRuntime) -> Result<(), Fail> {
+fn each_form_of_request_is_read(rt: HostRuntime) -> Result<(), Fail> {
     let alloc = rt.alloc();
     for (line, words) in [
         ("[\"put\",\"k|a\",\"1\"]", "put k|a 1"),
@@ -47,7 +47,7 @@ fn requests(rt: HostRuntime) -> Result<(), Fail> {
 }
 
 #[test]
-fn joins(rt: HostRuntime) -> Result<(), Fail> {
+fn a_join_is_read_or_refused_at_a_byte(rt: HostRuntime) -> Result<(), Fail> {
     let alloc = rt.alloc();
     for (line, words) in [
         ("[\"join\",\"t|<u> = check s|<u> copy p|<u>\"]", "join of 2"),
@@ -61,7 +61,7 @@ fn joins(rt: HostRuntime) -> Result<(), Fail> {
 }
 
 #[test]
-fn refusals(rt: HostRuntime) -> Result<(), Fail> {
+fn a_line_that_is_no_request_is_told_its_first_fault(rt: HostRuntime) -> Result<(), Fail> {
     let alloc = rt.alloc();
     for (line, words) in [
         ("", "json"),
@@ -100,7 +100,7 @@ fn filled(alloc: Global, front: &str, count: usize, back: &str) -> Result<String
 }
 
 #[test]
-fn long_texts(rt: HostRuntime) -> Result<(), Fail> {
+fn texts_may_be_too_long_by_one_byte(rt: HostRuntime) -> Result<(), Fail> {
     let alloc = rt.alloc();
     let longest = filled(alloc, "[\"put\",\"k|a\",\"", 65_536, "\"]")?;
     assert!(rt; told(alloc, longest.as_bytes())?.len() == 65_544);
@@ -116,21 +116,27 @@ fn long_texts(rt: HostRuntime) -> Result<(), Fail> {
     Ok(())
 }
 
+/// So many lists, each in the one before.
+fn nested(alloc: Global, count: usize) -> Result<Vec<u8>, AllocError> {
+    let mut line = vec![in alloc; b'['; count]?;
+    for _ in 0..count {
+        line.push(b']')?;
+    }
+    Ok(line)
+}
+
 #[test]
-fn nested_lists(rt: HostRuntime) -> Result<(), Fail> {
+fn lists_may_be_nested_too_deep(rt: HostRuntime) -> Result<(), Fail> {
     let alloc = rt.alloc();
     for (count, words) in [(100, "form"), (1_000, "json")] {
-        let mut line = vec![in alloc; b'['; count]?;
-        for _ in 0..count {
-            line.push(b']')?;
-        }
+        let line = nested(alloc, count)?;
         assert!(rt; told(alloc, line.as_slice())?.as_str() == words);
     }
     Ok(())
 }
 
 #[test]
-fn values(rt: HostRuntime) -> Result<(), Fail> {
+fn a_value_is_read_as_its_line_is(rt: HostRuntime) -> Result<(), Fail> {
     let alloc = rt.alloc();
     let value = serde_json::Value::from_str(alloc, "[\"quit\"]").expect(&rt, "a value");
     assert!(rt; matches!(&read_value(alloc, &value), Ok(Request::Quit)));
@@ -156,7 +162,7 @@ fn make_pair(rt: &impl Abort, alloc: Global, key: &str, value: &str) -> Pair {
 }
 
 #[test]
-fn replies(rt: HostRuntime) -> Result<(), Fail> {
+fn each_reply_has_its_line(rt: HostRuntime) -> Result<(), Fail> {
     let alloc = rt.alloc();
     let found = Reply::Found(5, make_value(&rt, alloc, "-2"));
     assert!(rt; has_line(alloc, &Reply::Done(0), "[\"ok\",0]\n")?);
@@ -169,7 +175,7 @@ fn replies(rt: HostRuntime) -> Result<(), Fail> {
 }
 
 #[test]
-fn pairs(rt: HostRuntime) -> Result<(), Fail> {
+fn pairs_are_lists_of_a_key_and_a_value(rt: HostRuntime) -> Result<(), Fail> {
     let alloc = rt.alloc();
     let none = Reply::Pairs(5, Vec::new(alloc));
     assert!(rt; has_line(alloc, &none, "[\"pairs\",5,[]]\n")?);
@@ -182,31 +188,43 @@ fn pairs(rt: HostRuntime) -> Result<(), Fail> {
 }
 
 #[test]
-fn causes(rt: HostRuntime) -> Result<(), Fail> {
+fn each_cause_has_its_name_and_line(rt: HostRuntime) -> Result<(), Fail> {
     let alloc = rt.alloc();
     let cycle = Positions::of(vec![in alloc; 3u64, 1, 2]?);
-    for (position, cause, line) in [
-        (0, Cause::Slots, "[\"error\",\"slots\",0]\n"),
-        (0, Cause::Sources, "[\"error\",\"sources\",0]\n"),
-        (8, Cause::Deep, "[\"error\",\"deep\",8]\n"),
-        (64, Cause::Many, "[\"error\",\"many\",64]\n"),
-        (1, Cause::Late, "[\"error\",\"late\",1]\n"),
+    for (position, cause, name, line) in [
+        (0, Cause::Slots, "slots", "[\"error\",\"slots\",0]\n"),
+        (0, Cause::Sources, "sources", "[\"error\",\"sources\",0]\n"),
+        (8, Cause::Deep, "deep", "[\"error\",\"deep\",8]\n"),
+        (64, Cause::Many, "many", "[\"error\",\"many\",64]\n"),
+        (1, Cause::Late, "late", "[\"error\",\"late\",1]\n"),
         (
             281_474_976_710_655,
             Cause::Full,
+            "full",
             "[\"error\",\"full\",281474976710655]\n",
         ),
-        (1, Cause::Clash(1), "[\"error\",\"clash\",1,1]\n"),
-        (12, Cause::Computed(7), "[\"error\",\"computed\",12,7]\n"),
-        (2, Cause::Cycle(cycle), "[\"error\",\"cycle\",2,[3,1,2]]\n"),
+        (1, Cause::Clash(1), "clash", "[\"error\",\"clash\",1,1]\n"),
+        (
+            12,
+            Cause::Computed(7),
+            "computed",
+            "[\"error\",\"computed\",12,7]\n",
+        ),
+        (
+            2,
+            Cause::Cycle(cycle),
+            "cycle",
+            "[\"error\",\"cycle\",2,[3,1,2]]\n",
+        ),
     ] {
+        assert!(rt; cause_name(&cause) == name);
         assert!(rt; has_line(alloc, &Reply::Refused(position, cause), line)?);
     }
     Ok(())
 }
 
 #[test]
-fn faults(rt: HostRuntime) -> Result<(), Fail> {
+fn each_fault_has_its_line(rt: HostRuntime) -> Result<(), Fail> {
     let alloc = rt.alloc();
     for (fault, line) in [
         (LineFault::Json, "[\"error\",\"json\"]\n"),
@@ -223,7 +241,32 @@ fn faults(rt: HostRuntime) -> Result<(), Fail> {
 }
 
 #[test]
-fn fixed_lines(rt: HostRuntime) {
+fn a_row_has_its_texts_and_numbers(rt: HostRuntime) -> Result<(), Fail> {
+    let alloc = rt.alloc();
+    let text = text_value(alloc, "é\"")?;
+    assert!(rt; text.as_str() == Some("é\""));
+    let row = write_row(alloc, vec![in alloc; text, number_value(u64::MAX)]?)?;
+    assert!(rt; row.as_slice() == "[\"é\\\"\",18446744073709551615]\n".as_bytes());
+    let none = write_row(alloc, Vec::new(alloc))?;
+    assert!(rt; none.as_slice() == "[]\n".as_bytes());
+    Ok(())
+}
+
+#[test]
+fn a_line_end_is_found_where_it_stands_first(rt: HostRuntime) {
+    for (bytes, place) in [
+        (b"".as_slice(), None),
+        (b"ab\r".as_slice(), None),
+        (b"\n".as_slice(), Some(0)),
+        (b"ab\n\n".as_slice(), Some(2)),
+    ] {
+        assert!(rt; find_line_end(bytes) == place);
+    }
+    assert!(rt; LINE_END == 10);
+}
+
+#[test]
+fn fixed_lines_are_those_of_their_replies(rt: HostRuntime) {
     for (position, text) in [
         (0, "[\"ok\",0]\n"),
         (9, "[\"ok\",9]\n"),
@@ -240,7 +283,7 @@ fn fixed_lines(rt: HostRuntime) {
 }
 
 #[test]
-fn fed_by_bytes(rt: HostRuntime) -> Result<(), Fail> {
+fn a_line_may_come_byte_by_byte(rt: HostRuntime) -> Result<(), Fail> {
     let mut lines = Lines::new(rt.alloc())?;
     assert!(rt; lines.feed(b"") == Fed::More);
     assert!(rt; lines.feed(b"a") == Fed::More);
@@ -254,7 +297,7 @@ fn fed_by_bytes(rt: HostRuntime) -> Result<(), Fail> {
 }
 
 #[test]
-fn fed_at_once(rt: HostRuntime) -> Result<(), Fail> {
+fn a_piece_may_end_several_lines(rt: HostRuntime) -> Result<(), Fail> {
     let mut lines = Lines::new(rt.alloc())?;
     let text = b"ab\r\n\ncd";
     assert!(rt; lines.feed(text) == Fed::Line(4) && lines.line() == b"ab\r".as_slice());
@@ -266,7 +309,7 @@ fn fed_at_once(rt: HostRuntime) -> Result<(), Fail> {
 }
 
 #[test]
-fn longest_line(rt: HostRuntime) -> Result<(), Fail> {
+fn a_line_may_be_too_long_by_one_byte(rt: HostRuntime) -> Result<(), Fail> {
     let alloc = rt.alloc();
     let mut lines = Lines::new(alloc)?;
     let mut text = vec![in alloc; b' '; 1_048_576]?;

@@ -1,5 +1,5 @@
 // Replies as lines.
-ghost use Rattle.std.specs.Prelude.{◌≡◌, ◌≢◌, ◌∷◌, ◌++◌, [], IfOk, map, codes, false};
+ghost use Rattle.std.specs.Prelude.{◌≡◌, ◌≢◌, ◌∷◌, [], IfOk, map, false};
 ghost use Rattle.serde_json.specs.Data.{string};
 ghost use Rattle.serde_json.specs.View.{view};
 ghost use Rattle.serde_json.specs.Written.{has_float};
@@ -9,6 +9,7 @@ ghost use Rattle.protocol.specs.Replies.{pair_item, error_items, cause_items, re
 ghost use Rattle.join_types.specs.Causes.{plain_cause};
 ghost use Rattle.request_codec.specs.Plain.{plain_reply};
 
+use crate::lines::LINE_END;
 use crate::reply::Reply;
 use crate::request::LineFault;
 use join_types::{Cause, Pair};
@@ -16,17 +17,16 @@ use memory::OutOfMemory;
 use serde_json::Value;
 use std::alloc::Global;
 
-/// The byte that ends a line.
-const FEED: u8 = 10;
-
-/// A text as a value.
+/// A text as a JSON value, which copies it. Linear in the text.
+///
+/// `OutOfMemory` comes only where none is found for the copy.
 pub fn text_value(alloc: Global, text: &str) -> Result<Value, OutOfMemory>
     ensures { IfOk result (λ value. view value ≡ string text.now) }
 {
     Ok(Value::String(String::from_str(alloc, text)?))
 }
 
-/// A number as a value.
+/// A number as a JSON value. It takes constant time.
 pub fn number_value(number: u64) -> Value
     ensures { view result ≡ whole_number number }
 {
@@ -94,25 +94,38 @@ fn refusal_with(
     Ok(values)
 }
 
+/// The name that a cause has in a reply and in the row of a refused line. It takes constant time.
+pub fn cause_name(cause: &Cause) -> &'static str
+    ensures { result.now ≡ cause_name (plain_cause cause.now) }
+{
+    match cause {
+        Cause::Computed(_) => "computed",
+        Cause::Late => "late",
+        Cause::Full => "full",
+        Cause::Slots => "slots",
+        Cause::Sources => "sources",
+        Cause::Clash(_) => "clash",
+        Cause::Cycle(_) => "cycle",
+        Cause::Deep => "deep",
+        Cause::Many => "many",
+    }
+}
+
 /// The items of a refused write.
 fn cause_values(alloc: Global, position: u64, cause: &Cause) -> Result<Vec<Value>, OutOfMemory>
     ensures { IfOk result (λ values. map view values.items ≡ error_items (cause_name (plain_cause cause.now)) (whole_number position ∷ cause_items (plain_cause cause.now))) }
 {
+    let name = cause_name(cause);
     match cause {
-        Cause::Computed(other) => {
-            refusal_with(alloc, "computed", position, number_value(*other))
+        Cause::Computed(other) | Cause::Clash(other) => {
+            refusal_with(alloc, name, position, number_value(*other))
         }
-        Cause::Late => refusal(alloc, "late", position),
-        Cause::Full => refusal(alloc, "full", position),
-        Cause::Slots => refusal(alloc, "slots", position),
-        Cause::Sources => refusal(alloc, "sources", position),
-        Cause::Clash(other) => refusal_with(alloc, "clash", position, number_value(*other)),
         Cause::Cycle(positions) => {
             let cycle = number_values(alloc, positions.as_slice())?;
-            refusal_with(alloc, "cycle", position, list_value(cycle))
+            refusal_with(alloc, name, position, list_value(cycle))
         }
-        Cause::Deep => refusal(alloc, "deep", position),
-        Cause::Many => refusal(alloc, "many", position),
+        Cause::Late | Cause::Full | Cause::Slots | Cause::Sources | Cause::Deep | Cause::Many =>
+            refusal(alloc, name, position),
     }
 }
 
@@ -174,19 +187,22 @@ fn reply_values(alloc: Global, reply: &Reply) -> Result<Vec<Value>, OutOfMemory>
 }
 
 /// The row of values: the compact text of their array (RFC 8259), and the byte 10. Linear in it.
+///
+/// `OutOfMemory` comes only where none is found for the row.
 pub fn write_row(alloc: Global, items: Vec<Value>) -> Result<Vec<u8>, OutOfMemory>
     requires { has_float (list_of (map view items.items)) ≡ false }
     ensures { IfOk result (λ line. line.items ≡ row (map view items.items)) }
 {
     let array = list_value(items);
     let mut line = array.to_string(alloc)?.into_bytes();
-    line.push(FEED)?;
+    line.push(LINE_END)?;
     Ok(line)
 }
 
 /// The line of a reply: the compact text of its array (RFC 8259), and the byte 10. Linear in it.
 ///
-/// `Unread` of `OutOfMemory` has no line of its own: what is answered for such a line is `Memory`.
+/// `Unread` of `OutOfMemory` has no line of its own: what is answered for such a line is `Memory`. `OutOfMemory` comes
+/// only where none is found for the line.
 pub fn write(alloc: Global, reply: &Reply) -> Result<Vec<u8>, OutOfMemory>
     requires { reply.now ≢ Reply.Unread LineFault.OutOfMemory }
     ensures { IfOk result (λ line. line.items ≡ reply_text (plain_reply reply.now)) }

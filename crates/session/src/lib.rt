@@ -1,7 +1,8 @@
 // Serving one link: lines in, their replies out, by whatever answers requests.
 //
-// It stands on `request_codec` for lines, requests and replies, on `pq_io` for links, and, for its definitions, on
-// `protocol`. The layers above give it a `Service`, and may rely on what `serve_link` says of each end.
+// It stands on `request_codec` for lines, requests and replies, on `pq_io` for links, for its definitions on `protocol` and
+// `semantics`, and on `json` for the proof that a constant is the line of `Bye`. The layers above give it a `Service`, and
+// may rely on what `serve_link` says of each end.
 #![tactic(auto)]
 
 pub mod end;

@@ -1,5 +1,5 @@
 // Serving a link: its bytes are cut into lines as they come, and each line is served before the next is taken.
-ghost use Rattle.std.specs.Prelude.{◌≡◌, ◌<◌, ◌≤◌, ◌++◌, [], Err, IfOk, OnOk, MatchResult, length, take, false};
+ghost use Rattle.std.specs.Prelude.{◌≡◌, ◌<◌, ◌≤◌, ◌++◌, Err, IfOk, OnOk, MatchResult, length, take, false};
 ghost use Rattle.std.specs.Io.KnownBytes.{IsAtEnd};
 ghost use Rattle.semantics.specs.Texts.{Text};
 ghost use Rattle.protocol.specs.Session.{Served};
@@ -131,7 +131,8 @@ fn serve_last<R: Threads + Wait + Sync, S: Service, L: Link>(
 }
 
 /// Serves a link: reads, answers each line by the service, and writes each reply before it takes the next line. It
-/// takes memory for the longest line at first.
+/// takes memory for the longest line at first. Linear in the bytes of the link, which are read 16,384 at a time, besides
+/// what the service takes for each request, and what writing its reply takes.
 ///
 /// `Closed`: the link gave no more bytes, and every line was answered, none by `["bye"]`. `Quit`: a line `["quit"]` was
 /// answered by `["bye"]`. `Long`: a line reached 1,048,577 bytes, and that was written. `ReadFault`: a read failed, and

@@ -43,75 +43,142 @@ fn link_of(
     Ok(MemLink::new(source, MemSink::new(alloc, writes.to_vec(alloc)?)))
 }
 
+/// What is served, and what that leaves.
+struct Row {
+    bytes: &'static [u8],
+    failing_reads: &'static [usize],
+    failing_writes: &'static [usize],
+    end: End,
+    written: &'static [u8],
+    asked: u64,
+}
+
+/// Links that are served to each end.
+const ROWS: [Row; 13] = [
+    Row {
+        bytes: b"",
+        failing_reads: &[],
+        failing_writes: &[],
+        end: End::Closed,
+        written: b"",
+        asked: 0,
+    },
+    Row {
+        bytes: b"x\n",
+        failing_reads: &[],
+        failing_writes: &[],
+        end: End::Closed,
+        written: b"[\"error\",\"json\"]\n",
+        asked: 0,
+    },
+    Row {
+        bytes: b"x",
+        failing_reads: &[],
+        failing_writes: &[],
+        end: End::Closed,
+        written: b"[\"error\",\"json\"]\n",
+        asked: 0,
+    },
+    Row {
+        bytes: b"\n[]",
+        failing_reads: &[],
+        failing_writes: &[],
+        end: End::Closed,
+        written: b"[\"error\",\"json\"]\n[\"error\",\"form\"]\n",
+        asked: 0,
+    },
+    Row {
+        bytes: b"[\"get\",\"a|b\"]\n",
+        failing_reads: &[],
+        failing_writes: &[],
+        end: End::Closed,
+        written: b"[\"error\",\"memory\"]\n",
+        asked: 1,
+    },
+    Row {
+        bytes: b"[\"quit\"]\nx\n",
+        failing_reads: &[],
+        failing_writes: &[],
+        end: End::Quit,
+        written: b"[\"bye\"]\n",
+        asked: 0,
+    },
+    Row {
+        bytes: b"[\"get\",\"a|b\"]\n[\"quit\"]",
+        failing_reads: &[],
+        failing_writes: &[],
+        end: End::Quit,
+        written: b"[\"error\",\"memory\"]\n[\"bye\"]\n",
+        asked: 1,
+    },
+    Row {
+        bytes: b"x\n",
+        failing_reads: &[1],
+        failing_writes: &[],
+        end: End::ReadFault,
+        written: b"",
+        asked: 0,
+    },
+    Row {
+        bytes: b"x\nx",
+        failing_reads: &[2],
+        failing_writes: &[],
+        end: End::ReadFault,
+        written: b"[\"error\",\"json\"]\n",
+        asked: 0,
+    },
+    Row {
+        bytes: b"x\n",
+        failing_reads: &[],
+        failing_writes: &[1],
+        end: End::WriteFault,
+        written: b"",
+        asked: 0,
+    },
+    Row {
+        bytes: b"[\"quit\"]\n",
+        failing_reads: &[],
+        failing_writes: &[1],
+        end: End::WriteFault,
+        written: b"",
+        asked: 0,
+    },
+    Row {
+        bytes: b"[\"get\",\"a|b\"]\n[\"get\",\"a|b\"]\n[\"get\",\"a|b\"]\n",
+        failing_reads: &[],
+        failing_writes: &[2],
+        end: End::WriteFault,
+        written: b"[\"error\",\"memory\"]\n",
+        asked: 2,
+    },
+    Row {
+        bytes: b"x\n[\"get\",\"a|b\"]",
+        failing_reads: &[],
+        failing_writes: &[2],
+        end: End::WriteFault,
+        written: b"[\"error\",\"json\"]\n",
+        asked: 1,
+    },
+];
+
 #[test]
 fn each_end_leaves_its_bytes(rt: HostRuntime) -> Result<(), Fail> {
-    let table: [(&[u8], &[usize], &[usize], End, &[u8], u64); 13] = [
-        (b"", &[], &[], End::Closed, b"", 0),
-        (b"x\n", &[], &[], End::Closed, b"[\"error\",\"json\"]\n", 0),
-        (b"x", &[], &[], End::Closed, b"[\"error\",\"json\"]\n", 0),
-        (
-            b"\n[]",
-            &[],
-            &[],
-            End::Closed,
-            b"[\"error\",\"json\"]\n[\"error\",\"form\"]\n",
-            0,
-        ),
-        (
-            b"[\"get\",\"a|b\"]\n",
-            &[],
-            &[],
-            End::Closed,
-            b"[\"error\",\"memory\"]\n",
-            1,
-        ),
-        (b"[\"quit\"]\nx\n", &[], &[], End::Quit, b"[\"bye\"]\n", 0),
-        (
-            b"[\"get\",\"a|b\"]\n[\"quit\"]",
-            &[],
-            &[],
-            End::Quit,
-            b"[\"error\",\"memory\"]\n[\"bye\"]\n",
-            1,
-        ),
-        (b"x\n", &[1], &[], End::ReadFault, b"", 0),
-        (
-            b"x\nx",
-            &[2],
-            &[],
-            End::ReadFault,
-            b"[\"error\",\"json\"]\n",
-            0,
-        ),
-        (b"x\n", &[], &[1], End::WriteFault, b"", 0),
-        (b"[\"quit\"]\n", &[], &[1], End::WriteFault, b"", 0),
-        (
-            b"[\"get\",\"a|b\"]\n[\"get\",\"a|b\"]\n[\"get\",\"a|b\"]\n",
-            &[],
-            &[2],
-            End::WriteFault,
-            b"[\"error\",\"memory\"]\n",
-            2,
-        ),
-        (
-            b"x\n[\"get\",\"a|b\"]",
-            &[],
-            &[2],
-            End::WriteFault,
-            b"[\"error\",\"json\"]\n",
-            1,
-        ),
-    ];
-    for (row, (bytes, reads, writes, end, written, asked)) in table.iter().enumerate() {
+    for (number, row) in ROWS.iter().enumerate() {
         let mut service = Forgetful { asked: 0 };
-        let mut link = link_of(rt.alloc(), bytes, &[], reads, writes)?;
+        let mut link = link_of(
+            rt.alloc(),
+            row.bytes,
+            &[],
+            row.failing_reads,
+            row.failing_writes,
+        )?;
         assert_eq!(rt;
             serve_link(&rt, rt.alloc(), &mut service, &mut link),
-            *end,
-            "row {row}"
+            row.end,
+            "row {number}"
         );
-        assert_eq!(rt; link.bytes(), *written, "row {row}");
-        assert_eq!(rt; service.asked, *asked, "row {row}");
+        assert_eq!(rt; link.bytes(), row.written, "row {number}");
+        assert_eq!(rt; service.asked, row.asked, "row {number}");
     }
     Ok(())
 }
@@ -196,5 +263,27 @@ fn replies_are_written_before_the_next_read(rt: HostRuntime) -> Result<(), Fail>
         End::Closed
     );
     assert_eq!(rt; ordered.calls.as_slice(), b"rwwrwrwrw".as_slice());
+    Ok(())
+}
+
+#[test]
+fn nothing_is_read_after_the_end(rt: HostRuntime) -> Result<(), Fail> {
+    let table: [(&[u8], &[usize], &[usize], &[usize], End, &[u8]); 3] = [
+        (b"[\"quit\"]\nx\n", &[9], &[], &[], End::Quit, b"rw"),
+        (b"x\nx\n", &[2], &[], &[1], End::WriteFault, b"rw"),
+        (b"x\nx\n", &[2], &[2], &[], End::ReadFault, b"rwr"),
+    ];
+    for (bytes, cuts, reads, writes, end, calls) in table {
+        let mut service = Forgetful { asked: 0 };
+        let mut ordered = Ordered {
+            link: link_of(rt.alloc(), bytes, cuts, reads, writes)?,
+            calls: Vec::new(rt.alloc()),
+        };
+        assert_eq!(rt;
+            serve_link(&rt, rt.alloc(), &mut service, &mut ordered),
+            end
+        );
+        assert_eq!(rt; ordered.calls.as_slice(), calls);
+    }
     Ok(())
 }

@@ -1,14 +1,17 @@
+use Rattle.std.proofs.lemmas.Result.{err_from_is_err_and}
 use Rattle.protocol.specs.Requests.{request_of}
 use Rattle.request_codec.proofs.reading.read.Goals as goal
 
-pub returns-in-Ok-clause-request : goal.returns-in-Ok-clause-request
+pub returns-in_err-value-clause-fault : goal.returns-in_err-value-clause-fault
 unfolding request_of
-returns-in-Ok-clause-request c = rw c.in-Ok.ensures.value c.read_value.ensures.request
+returns-in_err-value-clause-fault c =
+    let p = err_from_is_err_and c.from_residual.result c.from_residual.ensures.1 in
+    rw (p.1, p.2) c.in_err-value.ensures.fault
 
-pub returns-in-Ok-clause-fault : goal.returns-in-Ok-clause-fault
+pub returns-clause-request : goal.returns-clause-request
 unfolding request_of
-returns-in-Ok-clause-fault c = rw c.in-Ok.ensures.value c.read_value.ensures.fault
+returns-clause-request c = rw c.in_ok-value.ensures.value c.read_value.ensures.request
 
-pub returns-in-Err-clause-fault : goal.returns-in-Err-clause-fault
+pub returns-clause-fault : goal.returns-clause-fault
 unfolding request_of
-returns-in-Err-clause-fault c = c.in-Err.ensures.fault
+returns-clause-fault c = rw c.in_ok-value.ensures.value c.read_value.ensures.fault

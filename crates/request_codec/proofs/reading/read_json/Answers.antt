@@ -7,13 +7,11 @@ use Rattle.serde_json.specs.Read.{read as read_json}
 use Rattle.protocol.specs.Requests.{request_of_json}
 use Rattle.request_codec.proofs.reading.read_json.Goals as goal
 
--- src/reading.rt:160:1
-pub returns-in-Err-clause-fault : goal.returns-in-Err-clause-fault
-returns-in-Err-clause-fault c =
-    let no : is_utf8 c.args.line.now ≡ false = false_from_ne_true _ (λ e. c.in-Err.ensures.cases.0 (IsUtf8-from_is_utf8 c.args.line.now e)) in
+pub returns-in_default-clause-fault : goal.returns-in_default-clause-fault
+returns-in_default-clause-fault c =
+    let no : is_utf8 c.args.line.now ≡ false = false_from_ne_true _ (λ e. c.in_default.ensures.cases.0 (IsUtf8-from_is_utf8 c.args.line.now e)) in
     ap (λ b. request_of_json (if b then read_json c.args.line.now else None)) no
 
--- src/reading.rt:160:1
 pub returns-in-Ok-from_str-clause-value : goal.returns-in-Ok-from_str-clause-value
 returns-in-Ok-from_str-clause-value c =
     ap (λ b. if b then read_json c.args.line.now else None) (is_utf8-from_IsUtf8 c.args.line.now c.in-Ok.ensures.cases.1)

@@ -5,11 +5,11 @@ use Rattle.protocol.specs.Requests.{texts_of_items}
 use Rattle.request_codec.proofs.FormLemmas.{two_texts, form_none}
 use Rattle.request_codec.proofs.reading.read_word_and_text.Goals as goal
 
-pub returns-in-None-clause-fault : goal.returns-in-None-clause-fault
-returns-in-None-clause-fault c = form_none (map view c.args.items.now) 0 (omega (arith, length-map c.args.items.now view)) (sym c.in-None.ensures)
+pub returns-in_default-clause-fault : goal.returns-in_default-clause-fault
+returns-in_default-clause-fault c = form_none (map view c.args.items.now) 0 (omega (arith, length-map c.args.items.now view)) (sym c.in_default.ensures)
 
-pub returns-in-None-text_at-clause-fault : goal.returns-in-None-text_at-clause-fault
-returns-in-None-text_at-clause-fault c = form_none (map view c.args.items.now) 1 (omega (arith, length-map c.args.items.now view)) (sym c.in-None-text_at.ensures)
+pub returns-in_default-text_at-clause-fault : goal.returns-in_default-text_at-clause-fault
+returns-in_default-text_at-clause-fault c = form_none (map view c.args.items.now) 1 (omega (arith, length-map c.args.items.now view)) (sym c.in_default-text_at.ensures)
 
 pub returns-clause-request : goal.returns-clause-request
 returns-clause-request c =

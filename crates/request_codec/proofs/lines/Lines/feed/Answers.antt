@@ -5,7 +5,6 @@ use Rattle.request_codec.proofs.FeedLemmas.{before_feed-le, line_fed-min, has_fe
 use Rattle.request_codec.specs.Feeding.{before_feed, room_behind, line_fed}
 use Rattle.request_codec.proofs.lines.Lines.feed.Goals as goal
 
--- src/lines.rt:99:5
 pub slice_bounds-fill-end : goal.slice_bounds-fill-end
 slice_bounds-fill-end c = sym (length-take-le c.min.result c.args.piece.now (omega (arith, before_feed-le c.args.piece.now)))
 
@@ -13,11 +12,10 @@ becomes : (c : goal.After-self-1) → c.fill.new.bytes.items ≡ line_fed c.self
 becomes c =
     let size : c.len-room.result ≡ length c.self.inside.bytes.items = c.len-room.ensures ∙ c.self.inside.bytes.ok.0 in
     let least : c.min.result ≡ min (before_feed c.args.piece.now) (room_behind c.self.inside.bytes.items) =
-    c.min.ensures ∙ ap₂ (λ m n. min m (line_limit - n)) c.before_feed-before.ensures size in
+    c.min.ensures ∙ ap₂ (λ m n. min m (line_limit - n)) c.before_line_end-before.ensures size in
     c.fill.ensures.items ∙ ap (λ n. c.self.inside.bytes.items ++ take n c.args.piece.now) least
     ∙ sym (line_fed-min c.self.inside.bytes.items c.args.piece.now c.self.invariant.short)
 
--- src/lines.rt:99:5
 pub invariant_of-self : goal.invariant_of-self
 invariant_of-self c =
     let e = becomes c in record {
@@ -26,6 +24,5 @@ invariant_of-self c =
       no_feed = rw e (has_feed-line_fed c.self.inside.bytes.items c.args.piece.now c.self.invariant.no_feed);
     }
 
--- src/lines.rt:99:5
 pub returns-clause-line : goal.returns-clause-line
 returns-clause-line c = becomes c ∙ ap (λ u. line_fed u.line c.args.piece.now) c.self.view_is

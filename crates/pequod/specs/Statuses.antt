@@ -57,11 +57,3 @@ Checked no_memory status held name taken taken_now = (status ≡ 6) × Took take
 pub record ChecksTo (status : ℕ) (held : Option (List File)) (name : Text) (taken taken_now : Option Text) : Type 0 where
   pub ending : Checking
   pub checked : Checked ending status held name taken taken_now
-
--- nothing was read
-abbrev pub Unread : Option Text → Option Text → Type 0
-Unread left left_now = Gave left left_now []
-
--- nothing was written
-abbrev pub Unwritten : Option Text → Option Text → Type 0
-Unwritten taken taken_now = Took taken taken_now []

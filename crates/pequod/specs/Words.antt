@@ -1,5 +1,5 @@
 -- The words of the command line.
-use Rattle.std.specs.Prelude.{ℕ, ◌&&◌, ◌==◌, List, [], ◌∷◌, length, slice_index, codes, Bool, not, nat_le, if◌then◌else◌, Option, Some, None}
+use Rattle.std.specs.Prelude.{ℕ, ◌&&◌, ◌==◌, List, [], ◌∷◌, length, slice_index, codes, Bool, true, false, not, nat_le, if◌then◌else◌, Option, Some, None}
 use Rattle.semantics.specs.Texts.{Text, same}
 
 -- what the program is asked to do; `check` names a file
@@ -23,3 +23,21 @@ command_of [] = None
 command_of (word ∷ []) = command_of_one word
 command_of (word ∷ name ∷ []) = command_of_two word name
 command_of (word ∷ name ∷ other ∷ words) = None
+
+-- whether a command reads the source; the words may form none
+abbrev pub uses_source : Option Command → Bool
+uses_source None = false
+uses_source (Some run) = true
+uses_source (Some (check name)) = false
+
+-- whether a command writes to the sink
+abbrev pub uses_sink : Option Command → Bool
+uses_sink None = false
+uses_sink (Some run) = true
+uses_sink (Some (check name)) = true
+
+-- whether a command takes a file from the shelf
+abbrev pub uses_shelf : Option Command → Bool
+uses_shelf None = false
+uses_shelf (Some run) = false
+uses_shelf (Some (check name)) = true

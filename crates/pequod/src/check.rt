@@ -11,6 +11,7 @@ use std::alloc::Global;
 /// Takes the file of that name and writes about it, all at once at the end.
 pub fn check<W: Sink, F: Shelf>(alloc: Global, name: &str, sink: &mut W, shelf: &mut F) -> Status
     ensures check { ChecksTo result.number (F.held shelf.old) name.now (W.taken sink.old) (W.taken sink.new) }
+    ensures same_held { F.held shelf.new ≡ F.held shelf.old }
     ensures sink_later { W.faults sink.old ≤ W.faults sink.new }
     ensures shelf_later { F.faults shelf.old ≤ F.faults shelf.new }
     ensures write { result.number ≡ 5 → Rose (W.faults sink.old) (W.faults sink.new) }

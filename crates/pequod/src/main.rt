@@ -1,7 +1,7 @@
 // Pequod: an ordered key-value cache with cache joins, as a program.
 //
 // `main` makes the real source, sink and shelf and hands them to the top call, `top::pequod`, which does all that the program
-// does and carries its contract. The crate stands on `session` and what is below it.
+// does and carries its contract. The crate stands on `session`, `joins_file` and `join_model`, and on what is below them.
 #![tactic(auto)]
 
 mod check;
@@ -13,17 +13,24 @@ mod tests;
 mod top;
 mod words;
 
+ghost use Rattle.std.specs.Prelude.{◌≡◌, ◌⊎◌, IfErr};
+
 use crate::status::Status;
 use crate::top::pequod;
 use pq_io::{FileShelf, Reading, Writing};
+use std::env;
+use std::io::ErrorKind;
 use std::process::ExitCode;
-use std::{env, io};
 
 /// The words after the program's name, or how the program ends without them: words that are not text form no command,
 /// and there may be no memory for them.
-fn given_words(rt: &HostRuntime) -> Result<Vec<String>, Status> {
-    let Ok(given) = env::args(rt) else {
-        return Err(Status::WORDS);
+fn given_words(rt: &HostRuntime) -> Result<Vec<String>, Status>
+    ensures { IfErr result (λ status. (status.number ≡ 2) ⊎ (status.number ≡ 6)) }
+{
+    let given = match env::args(rt) {
+        Ok(given) => given,
+        Err(error) if error.kind() == ErrorKind::OutOfMemory => return Err(Status::MEMORY),
+        Err(_) => return Err(Status::WORDS),
     };
     let mut words = Vec::new(rt.alloc());
     for word in given.skip(1) {

@@ -1,5 +1,5 @@
 // One client alone: a list of entries, and the state evaluated afresh at each read.
-ghost use Rattle.std.specs.Prelude.{◌≡◌, ◌≢◌, ◌∷◌, [], IfOk, OnErr};
+ghost use Rattle.std.specs.Prelude.{◌≡◌, ◌≢◌, ◌∷◌, [], IfOk, OnErr, length};
 ghost use Rattle.semantics.specs.Answers.{get, scan};
 ghost use Rattle.protocol.specs.Requests.{write, read};
 ghost use Rattle.protocol.specs.Told.{Told};
@@ -50,7 +50,8 @@ impl PlainClient {
 
     /// The number of entries. Every entry is the client's own.
     pub fn len(&self) -> u64
-        ensures { AreOwn self.now }
+        ensures length { result ≡ length self.now }
+        ensures own { AreOwn self.now }
     {
         self.standing.length()
     }
@@ -62,11 +63,11 @@ impl PlainClient {
         ensures unchanged { OnErr result (self.new ≡ self.old) }
     {
         let position = self.standing.length();
-        if let Some(cause) = self.standing.judge(self.alloc, &change)? {
+        if let Some(cause) = self.standing.judge(&change)? {
             return Ok(Reply::Refused(position, cause));
         }
         self.entries.reserve(1)?;
-        self.standing.enter(self.alloc, &change)?;
+        self.standing.enter(&change)?;
         match self.entries.push(Entry {
             client: 0,
             write: change,

@@ -1,4 +1,6 @@
 // How the program ends.
+ghost use Rattle.std.specs.Prelude.{◌≡◌, option_map};
+ghost use Rattle.pequod.specs.Messages.{message_of};
 
 /// How the program ended, as the number that it exits with.
 #[derive(Clone, Copy, Debug, PartialEq, Eq)]
@@ -27,7 +29,9 @@ impl Status {
     pub const SPENT: Status = Status { number: 10 };
 
     /// The line that is printed on standard error, nothing where the command did its work.
-    pub fn message(self) -> Option<&'static str> {
+    pub fn message(self) -> Option<&'static str>
+        ensures { option_map (λ text. text.now) result ≡ message_of self.number }
+    {
         match self.number {
             2 => Some("pequod: words"),
             3 => Some("pequod: long"),

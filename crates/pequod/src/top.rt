@@ -1,8 +1,9 @@
 // The top call: all that the program does, over what it is handed.
-ghost use Rattle.std.specs.Prelude.{◌≡◌, ◌≤◌, ◌↔◌, List, ℕ, map, string_bytes, Some, None};
+ghost use Rattle.std.specs.Prelude.{◌≡◌, ◌≤◌, ◌↔◌, List, ℕ, map, string_bytes, false, Some, None};
 ghost use Rattle.pq_io.specs.Faults.{Rose};
 ghost use Rattle.pequod.specs.Words as plain;
-ghost use Rattle.pequod.specs.Statuses.{RunsTo, ChecksTo, Unread, Unwritten};
+ghost use Rattle.pequod.specs.Words.{uses_source, uses_sink, uses_shelf};
+ghost use Rattle.pequod.specs.Statuses.{RunsTo, ChecksTo};
 
 use crate::check::check;
 use crate::run::run;
@@ -16,7 +17,8 @@ use std::thread::Threads;
 /// Does what the words after the program's name ask for, and says how that ended.
 ///
 /// `run` answers one client's lines from the source into the sink. `check FILE` takes a joins file from the shelf and
-/// writes about it into the sink. Words that form no command have status 2, and then nothing is read or written.
+/// writes about it into the sink. Words that form no command have status 2. What a command does not use is left as it was:
+/// `run` the shelf, `check` the source, and no command all three.
 pub fn pequod<R: Threads + Wait + Sync, S: Source, W: Sink, F: Shelf>(
     rt: &R,
     alloc: Global,
@@ -26,12 +28,16 @@ pub fn pequod<R: Threads + Wait + Sync, S: Source, W: Sink, F: Shelf>(
     shelf: &mut F,
 ) -> Status
     ensures words { (result.number ≡ 2) ↔ (plain.command_of (map string_bytes words.now) ≡ None) }
-    ensures unread { plain.command_of (map string_bytes words.now) ≡ None → Unread (S.left source.old) (S.left source.new) }
-    ensures unwritten { plain.command_of (map string_bytes words.now) ≡ None → Unwritten (W.taken sink.old) (W.taken sink.new) }
     ensures run { plain.command_of (map string_bytes words.now) ≡ Some plain.run →
         RunsTo result.number (S.left source.old) (S.left source.new) (W.taken sink.old) (W.taken sink.new) }
     ensures check { (name : List ℕ) → plain.command_of (map string_bytes words.now) ≡ Some (plain.check name) →
         ChecksTo result.number (F.held shelf.old) name (W.taken sink.old) (W.taken sink.new) }
+
+    // What the command does not use stays as it was.
+    ensures same_source { uses_source (plain.command_of (map string_bytes words.now)) ≡ false → source.new ≡ source.old }
+    ensures same_sink { uses_sink (plain.command_of (map string_bytes words.now)) ≡ false → sink.new ≡ sink.old }
+    ensures same_shelf { uses_shelf (plain.command_of (map string_bytes words.now)) ≡ false → shelf.new ≡ shelf.old }
+    ensures same_held { F.held shelf.new ≡ F.held shelf.old }
 
     // A fault comes only from the object whose count of faults rose.
     ensures source_later { S.faults source.old ≤ S.faults source.new }

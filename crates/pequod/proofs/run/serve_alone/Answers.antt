@@ -18,5 +18,5 @@ returns-clause-run g c =
       took = served.3;
       view = c.serve_link-end.new.service;
       served = alone;
-      ran = alone_is_transcript _ _ refl refl c.len-entries.ensures alone;
+      ran = alone_is_transcript _ _ refl refl c.len-entries.ensures.own alone;
     }

@@ -1,16 +1,54 @@
 #!/usr/bin/env bash
-# Answers each file of requests under examples/ with the built program, and compares the replies with those that stand beside it.
+# Runs the built program on what stands under examples/: requests with their replies, and files of joins with what is written
+# about them. Then on lines that are too long to stand there, and to each end that can be had here. It compares what is
+# written, the status, and the line on standard error.
 # Usage: bench/examples.sh PROGRAM
 set -u
-program=${1:?the path of the built program}
+program=$(realpath "${1:?the path of the built program}")
 cd "$(dirname "$0")/../examples" || exit 1
+folder=$(mktemp -d)
+trap 'rm -rf "$folder"' EXIT
 failed=0
-for requests in *.requests; do
-  if "$program" run < "$requests" | diff - "${requests%.requests}.replies" > /dev/null; then
-    echo "same: $requests"
+messages=([0]='' [2]='pequod: words' [3]='pequod: long' [4]='pequod: read fault' [5]='pequod: write fault'
+  [7]='pequod: file refused' [9]='pequod: shelf fault')
+
+# attempt NAME STATUS WANTED WORD..: runs the program with these words, and compares what it writes with the file WANTED.
+attempt() {
+  local name=$1 status=$2 wanted=$3
+  shift 3
+  "$program" "$@" > "$folder/written" 2> "$folder/message"
+  judge "$name" "$status" $? "$wanted"
+}
+
+# judge NAME STATUS ENDED WANTED: says whether the program ended with the status and wrote what was wanted.
+judge() {
+  if [ "$3" = "$2" ] && cmp -s "$folder/written" "$4" && [ "$(cat "$folder/message")" = "${messages[$2]}" ]; then
+    echo "same: $1"
   else
-    echo "differs: $requests"
+    echo "differs: $1"
     failed=1
   fi
+}
+
+for requests in *.requests; do
+  attempt "$requests" 0 "${requests%.requests}.replies" run < "$requests"
 done
+for joins in *.joins; do
+  written=${joins%.joins}.written
+  status=0
+  grep -q '^\["refused"' "$written" && status=7
+  attempt "$joins" "$status" "$written" check "$joins"
+done
+
+echo '["error","value"]' > "$folder/wanted"
+attempt "a value of 65,537 bytes" 0 "$folder/wanted" run < <(printf '["put","k|a","%65537s"]\n' '')
+echo '["error","long"]' > "$folder/wanted"
+attempt "a line of 1,048,577 bytes" 3 "$folder/wanted" run < <(printf '%1048577s\n' '')
+
+attempt "no words" 2 /dev/null < first.requests
+attempt "a file that is not there" 9 /dev/null check none
+attempt "standard input that is a folder" 4 /dev/null run < .
+: > "$folder/written"
+"$program" run < first.requests > /dev/full 2> "$folder/message"
+judge "standard output that is full" 5 $? /dev/null
 exit $failed

@@ -1,18 +1,18 @@
 -- The changes of a table, and the keys that entries put or remove.
-use Rattle.std.proofs.Common.{◌≡◌, ℕ, zero, suc, ◌+◌, ◌-◌, ◌<◌, ◌≤◌, List, [], ◌∷◌, ◌++◌, length, take, drop, map, filter, flat_map, nat_le, nat_lt, Bool, true, false, cond, not, ◌&&◌, refl, sym, ap, ◌∙◌, ⊎_elim, arith, subst, append_assoc}
+use Rattle.std.proofs.Common.{◌≡◌, ℕ, suc, ◌+◌, ◌-◌, ◌<◌, ◌≤◌, List, [], ◌∷◌, ◌++◌, length, take, drop, map, filter, flat_map, nat_le, nat_lt, Bool, true, false, cond, not, ◌&&◌, refl, sym, ap, ◌∙◌, ⊎_elim, arith, subst, append_assoc}
 use Rattle.std.proofs.Math.Seq.{take-nil, drop-nil}
-use Rattle.std.proofs.lemmas.Bool.{cases_lt, false_from_ne_true, false≢true, le-leb, leb-true}
+use Rattle.std.proofs.lemmas.Bool.{cases_lt, false_from_ne_true, false≢true}
 use Rattle.std.proofs.lemmas.Bool.Decides.{nat_tests}
 use Rattle.std.proofs.lemmas.List.{append-nil, map-append}
 use Rattle.std.proofs.lemmas.List.Elements.{filter-append}
 use Rattle.semantics.specs.Texts.{Text, same, table_of, is_range, Range, within}
 use Rattle.semantics.specs.Histories.{Write, put, remove, declare, Entry, History}
-use Rattle.semantics.proofs.PieceLemmas.{equal_by_same, same_by_equal}
+use Rattle.semantics.proofs.PieceLemmas.{same_by_equal}
 use Rattle.ranges.proofs.RangeLemmas.{within_table}
-use Rattle.evaluation.specs.Changes.{written, entries_between, in_order, changed_keys}
+use Rattle.evaluation.specs.Changes.{written, in_order, changed_keys}
 use Rattle.base_versions.specs.declared.changes.Change.{Change}
 use Rattle.base_versions.specs.Changes.{change_by, changes_from, changes_of, Ascend, is_between, keys_within, changed_in}
-use Rattle.base_versions.proofs.PositionLemmas.{ascend_from_less, partitioned-ascend, ascend-drop, IsCut, taken-cut, dropped-cut}
+use Rattle.base_versions.proofs.PositionLemmas.{ascend_from_less, IsCut, taken-cut, dropped-cut}
 
 abbrev of_change : Change → ℕ
 of_change c = c.position

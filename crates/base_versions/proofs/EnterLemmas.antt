@@ -1,5 +1,5 @@
 -- What is kept of a history, through one entry more.
-use Rattle.std.proofs.Common.{◌≡◌, ℕ, ◌+◌, List, [], ◌∷◌, ◌++◌, length, length-append, take, Bool, true, false, cond, ◌==◌, Option, Some, None, refl, sym, ap, ◌∙◌, subst, arith, Result, Ok, Err, OnOk, OnErr, IfOk, is_eq}
+use Rattle.std.proofs.Common.{◌≡◌, ℕ, ◌+◌, List, [], ◌∷◌, ◌++◌, length, length-append, Bool, true, false, cond, ◌==◌, Option, Some, refl, sym, ap, ◌∙◌, subst, Result, Ok, Err, OnOk, OnErr, IfOk, is_eq}
 use Rattle.std.specs.Bool.{MatchBool}
 use Rattle.std.specs.Map.{lookup}
 use Rattle.std.specs.Option.{unwrap_or}
@@ -12,11 +12,10 @@ use Rattle.std.proofs.lemmas.Bool.{false≢true, false_from_ne_true}
 use Rattle.std.proofs.lemmas.List.{append-nil}
 use Rattle.std.proofs.lemmas.Map.Text.{btree_map_updates_text}
 use Rattle.semantics.specs.Texts.{Text, same, text_cmp, table_of}
-use Rattle.semantics.specs.Histories.{Write, put, remove, declare, Entry, History}
+use Rattle.semantics.specs.Histories.{Write, Entry, History}
 use Rattle.semantics.proofs.PieceLemmas.{equal_by_same, same_by_equal}
 use Rattle.base_versions.specs.declared.versions.Version.{Version}
-use Rattle.base_versions.specs.declared.changes.Change.{Change}
-use Rattle.base_versions.specs.Versions.{Tracks, version_by, versions_at, versions_of, AddsVersion, KeepsVersions}
+use Rattle.base_versions.specs.Versions.{version_by, versions_at, versions_of, AddsVersion, KeepsVersions}
 use Rattle.base_versions.specs.Changes.{change_by, changes_of}
 use Rattle.base_versions.specs.Kept.{TableKept, Tables, Kept, empty_table, named, table_among, table_in, shard_of, has_table, IsEntered, IsKept, IsChanged, StandsFor}
 use Rattle.base_versions.proofs.VersionLemmas.{versions_of-push}

@@ -1,5 +1,5 @@
 -- Maps from keys to versions.
-use Rattle.std.proofs.Common.{◌≡◌, ℕ, List, [], ◌∷◌, ◌++◌, filter, filter_map, Bool, true, false, cond, not, ◌&&◌, Option, Some, None, refl, sym, ap, ◌∙◌, subst, Ordering, Less, Equal, Greater, is_lt, is_eq}
+use Rattle.std.proofs.Common.{◌≡◌, List, [], ◌∷◌, ◌++◌, filter, Bool, true, false, cond, not, ◌&&◌, Some, refl, sym, ap, ◌∙◌, subst, Ordering, Less, Equal, Greater, is_lt}
 use Rattle.std.specs.List.{AllByRecursion}
 use Rattle.std.specs.Map.{lookup, keys_of}
 use Rattle.std.specs.Option.{unwrap_or}
@@ -7,7 +7,6 @@ use Rattle.std.specs.Ordering.{match_ordering, is_le}
 use Rattle.std.specs.BTreeMap.{is_at, insert_entry}
 use Rattle.std.specs.BTreeMap.Range.{range_contains}
 use Rattle.std.specs.declared.ops.Bound.TheVariants.{Included, Excluded}
-use Rattle.std.proofs.lemmas.Bool.{false≢true}
 use Rattle.semantics.specs.Texts.{Text, same, text_cmp, is_key, Range, within}
 use Rattle.semantics.proofs.PieceLemmas.{equal_by_same}
 use Rattle.semantics.proofs.TableLemmas.{same_is_tie}

@@ -1,31 +1,25 @@
 -- What is kept of a history, and what it says of it.
-use Rattle.std.proofs.Common.{◌≡◌, ℕ, ◌+◌, List, [], ◌∷◌, ◌++◌, length, length-append, filter, filter_map, take, map, Bool, true, false, cond, not, ◌==◌, Option, Some, None, refl, sym, ap, ◌∙◌, subst, arith, Ordering, Less, Equal, Greater, is_lt, is_eq, T}
-use Rattle.std.specs.Bool.{MatchBool}
+use Rattle.std.proofs.Common.{◌≡◌, ℕ, List, [], ◌∷◌, filter, take, Bool, true, false, cond, Option, Some, None, refl, sym, ap, ◌∙◌, subst, Ordering, Less, Equal, Greater, is_lt, is_eq}
 use Rattle.std.specs.List.{AllByRecursion}
 use Rattle.std.specs.List.Sorted.{IsStrictlySortedBy}
 use Rattle.std.specs.Map.{lookup, keys_of}
 use Rattle.std.specs.Option.{unwrap_or, option_map, option_and_then}
 use Rattle.std.specs.List.{cons_option}
 use Rattle.std.specs.BTreeMap.{is_at}
-use Rattle.std.specs.FinMap.Entries.{is_sorted, below_all}
+use Rattle.std.specs.FinMap.Entries.{below_all}
 use Rattle.std.specs.Ordering.{eq_by_cmp, ordering_reverse}
-use Rattle.std.proofs.lemmas.Bool.{and_from, and_parts, false≢true, false_from_ne_true}
-use Rattle.std.proofs.lemmas.List.{append-nil}
+use Rattle.std.proofs.lemmas.Bool.{and_from, and_parts, false≢true}
 use Rattle.std.proofs.lemmas.Map.Entries.{lookup-filter-keys}
 use Rattle.std.proofs.lemmas.Map.Keys.{sorted_head, sorted_tail}
-use Rattle.semantics.specs.Texts.{Text, same, text_cmp, Table, value_at, table_of, is_range, Range, within, pairs_within}
-use Rattle.semantics.specs.Histories.{Write, put, remove, declare, Entry, History, base_of}
-use Rattle.semantics.proofs.PieceLemmas.{equal_by_same, same_by_equal}
-use Rattle.semantics.proofs.TableLemmas.{IsAscending, text_total, tie_itself, same_is_tie, equal_by_tie, same_tables, ascending-pairs_where, value_at-pairs_where}
+use Rattle.semantics.specs.Texts.{Text, text_cmp, Table, value_at, table_of, is_range, Range, within, pairs_within}
+use Rattle.semantics.specs.Histories.{History, base_of}
+use Rattle.semantics.proofs.TableLemmas.{IsAscending, text_total, tie_itself, equal_by_tie, same_tables, ascending-pairs_where, value_at-pairs_where}
 use Rattle.semantics.proofs.BaseLemmas.{ascending-base_of}
 use Rattle.ranges.proofs.RangeLemmas.{within_table}
 use Rattle.base_versions.specs.declared.versions.Version.{Version}
-use Rattle.base_versions.specs.declared.changes.Change.{Change}
-use Rattle.base_versions.specs.Versions.{AscendFrom, AllAscend, Tracks, version_by, versions_at, versions_of, value_in, pair_in, pairs_in}
-use Rattle.base_versions.specs.Changes.{change_by, changes_of}
-use Rattle.base_versions.specs.Kept.{TableKept, Tables, Kept, table_among, table_in, has_table, IsEntered, IsKept, IsChanged, StandsFor}
-use Rattle.base_versions.proofs.VersionLemmas.{value_in-versions_of, versions_of-push, ascend-versions_of}
-use Rattle.base_versions.proofs.ChangeLemmas.{changes_of-push}
+use Rattle.base_versions.specs.Versions.{AscendFrom, AllAscend, Tracks, versions_at, versions_of, value_in, pairs_in}
+use Rattle.base_versions.specs.Kept.{TableKept, Kept, table_in, has_table, StandsFor}
+use Rattle.base_versions.proofs.VersionLemmas.{value_in-versions_of, ascend-versions_of}
 
 -- ---- maps in order
 

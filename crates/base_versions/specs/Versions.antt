@@ -5,7 +5,7 @@ use Rattle.std.specs.BTreeMap.{is_at}
 use Rattle.std.specs.Map.{lookup}
 use Rattle.std.specs.Option.{unwrap_or}
 use Rattle.semantics.specs.Texts.{Text, same, text_cmp, Table}
-use Rattle.semantics.specs.Histories.{Write, put, remove, declare, Entry, History}
+use Rattle.semantics.specs.Histories.{Write, put, remove, declare, History}
 use Rattle.base_versions.specs.Positions.{AscendBy}
 use Rattle.base_versions.specs.declared.versions.Version.{Version}
 

@@ -1,7 +1,7 @@
 use Rattle.std.proofs.Common.{◌≡◌, Some, None, sym, ◌∙◌, ap, rules, subst}
 use Rattle.std.specs.String.{string_bytes}
 use Rattle.semantics.specs.Texts.{Text, table_of}
-use Rattle.base_versions.specs.Kept.{TableKept, Tables, named}
+use Rattle.base_versions.specs.Kept.{Tables, named}
 use Rattle.base_versions.proofs.EnterLemmas.{IsSetTable, set-from_updates, among_found, entered-from_set, kept-from_set, on_ok_both, on_err_both}
 use Rattle.base_versions.proofs.base.enter_in.Goals as goal
 

@@ -1,8 +1,8 @@
-use Rattle.std.proofs.Common.{◌≡◌, ℕ, ◌-◌, ◌≤◌, List, length, length-drop, take, drop, filter, nat_le, sym, ap, ◌∙◌, arith, rules, subst}
+use Rattle.std.proofs.Common.{◌≡◌, ℕ, ◌-◌, List, length, length-drop, take, drop, nat_le, sym, ap, ◌∙◌, arith, rules, subst}
 use Rattle.std.proofs.lemmas.List.{take_all}
 use Rattle.std.proofs.lemmas.List.Sorted.{IsPartitionPoint-from_clause}
 use Rattle.base_versions.specs.declared.changes.Change.{Change}
-use Rattle.base_versions.specs.Changes.{Ascend, is_between}
+use Rattle.base_versions.specs.Changes.{Ascend}
 use Rattle.base_versions.proofs.PositionLemmas.{IsCut, partitioned-ascend, ascend-drop}
 use Rattle.base_versions.proofs.ChangeLemmas.{between-cuts}
 use Rattle.base_versions.proofs.changes.between.Goals as goal

@@ -3,7 +3,7 @@ use Rattle.std.proofs.lemmas.Result.{IfOk-weaker}
 use Rattle.semantics.specs.Texts.{table_of}
 use Rattle.evaluation.specs.Changes.{changed_keys}
 use Rattle.base_versions.specs.Changes.{Ascend, changed_in, changes_of}
-use Rattle.base_versions.specs.Kept.{TableKept, table_in, StandsFor}
+use Rattle.base_versions.specs.Kept.{TableKept, StandsFor}
 use Rattle.base_versions.proofs.ChangeLemmas.{ascend-changes_of, changed_in-changes_of}
 use Rattle.base_versions.proofs.EnterLemmas.{table_found, if_ok_all}
 use Rattle.base_versions.proofs.base.BaseVersions.find_changed.Goals as goal

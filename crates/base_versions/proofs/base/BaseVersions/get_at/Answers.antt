@@ -1,7 +1,7 @@
 use Rattle.std.proofs.Common.{◌≡◌, sym, ◌∙◌, ap, refl, subst}
 use Rattle.semantics.specs.Texts.{table_of}
 use Rattle.base_versions.specs.Versions.{AscendFrom, value_in, versions_at, versions_of}
-use Rattle.base_versions.specs.Kept.{TableKept, table_in}
+use Rattle.base_versions.specs.Kept.{TableKept}
 use Rattle.base_versions.proofs.VersionLemmas.{ascend-versions_of, value_in-versions_of}
 use Rattle.base_versions.proofs.EnterLemmas.{table_found}
 use Rattle.base_versions.proofs.base.BaseVersions.get_at.Goals as goal

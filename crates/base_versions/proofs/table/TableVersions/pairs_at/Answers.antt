@@ -1,4 +1,4 @@
-use Rattle.std.proofs.Common.{◌≡◌, List, filter, sym, ap, ◌∙◌, rules, subst, IfOk, Result}
+use Rattle.std.proofs.Common.{◌≡◌, List, filter, sym, ap, ◌∙◌, rules, subst, IfOk}
 use Rattle.std.specs.BTreeMap.Range.{range_contains}
 use Rattle.std.specs.declared.ops.Bound.TheVariants.{Included, Excluded}
 use Rattle.semantics.specs.Texts.{Text, text_cmp, Range, within}

@@ -29,7 +29,7 @@ below_keys t (pair ∷ pairs) h =
     (less_from (text_cmp t pair.0) parts.0, below_keys t pairs parts.1)
 
 -- the keys of a table whose keys ascend are sorted
-sorted_keys : (table : Table) → IsAscending table → IsStrictlySortedBy text_cmp (map (λ pair. pair.0) table)
+pub sorted_keys : (table : Table) → IsAscending table → IsStrictlySortedBy text_cmp (map (λ pair. pair.0) table)
 unfolding IsStrictlySortedBy
 sorted_keys [] h = tt
 sorted_keys (pair ∷ pairs) h =

@@ -1,7 +1,7 @@
 // The state after a history, and what a reader asks of it.
-ghost use Rattle.std.specs.Prelude.{◌≡◌, IfOk};
+ghost use Rattle.std.specs.Prelude.{◌≡◌, ◌≤◌, IfOk};
 ghost use Rattle.semantics.specs.Texts.{value_at, pairs_within};
-ghost use Rattle.semantics.specs.States.{state};
+ghost use Rattle.semantics.specs.States.{below, state};
 ghost use Rattle.semantics.specs.Verdicts.{AllEntered};
 
 use crate::hiding::hide_computed;
@@ -16,12 +16,13 @@ use std::alloc::Global;
 /// The number of ranks that a join may have, from 0.
 pub const RANKS: u8 = 8;
 
-/// The state after the entries, each of which entered at its place: the base pairs that no output hides, with the outputs
-/// of the joins, rank by rank upwards. Each join is evaluated as it is defined, over the whole table: that takes the
-/// table's size to the power of the number of its sources.
-pub fn state(alloc: Global, entries: &[Entry]) -> Result<Table, OutOfMemory>
-    requires { AllEntered entries.now }
-    ensures { IfOk result (λ table. table ≡ state entries.now) }
+/// What stands after the entries, each of which entered at its place, with the joins of ranks below this one alone: the
+/// base pairs that no output hides, with the outputs of these joins, rank by rank upwards. Each join is evaluated as it is
+/// defined, over the whole table: that takes the table's size to the power of the number of its sources.
+pub fn state_below(alloc: Global, entries: &[Entry], rank: u8) -> Result<Table, OutOfMemory>
+    requires entered { AllEntered entries.now }
+    requires rank { rank ≤ 8 }
+    ensures { IfOk result (λ table. table ≡ below entries.now rank) }
 {
     let Left {
         standing,
@@ -29,11 +30,35 @@ pub fn state(alloc: Global, entries: &[Entry]) -> Result<Table, OutOfMemory>
     } = replay(alloc, entries)?;
     let joins = standing.joins();
     hide_computed(&mut table, joins);
-    for rank in 0..RANKS {
-        let outputs = rank_outputs(alloc, joins, rank, &table)?;
+    for lower in 0..rank {
+        let outputs = rank_outputs(alloc, joins, lower, &table)?;
         table = table.merge(outputs)?;
     }
     Ok(table)
+}
+
+/// The state after the entries, each of which entered at its place: what stands with the joins of all ranks. It costs what
+/// `state_below` does.
+pub fn state(alloc: Global, entries: &[Entry]) -> Result<Table, OutOfMemory>
+    requires { AllEntered entries.now }
+    ensures { IfOk result (λ table. table ≡ state entries.now) }
+{
+    state_below(alloc, entries, RANKS)
+}
+
+/// Copies of the pairs that stand after the entries with the joins of ranks below this one alone, of those whose keys lie
+/// in the range, in order. It costs what `state_below` does.
+pub fn afresh_below(
+    alloc: Global,
+    entries: &[Entry],
+    rank: u8,
+    range: &Range,
+) -> Result<Vec<Pair>, OutOfMemory>
+    requires entered { AllEntered entries.now }
+    requires rank { rank ≤ 8 }
+    ensures { IfOk result (λ pairs. pairs.items ≡ pairs_within range.now (below entries.now rank)) }
+{
+    state_below(alloc, entries, rank)?.within(alloc, range)
 }
 
 /// Copies of the pairs of the state after the entries whose keys lie in the range, in order. It costs what `state` does.

@@ -1,7 +1,8 @@
 // The state after a history by plain evaluation: slow, and exact.
 //
 // It stands on `memory`, `key_space`, `join_types`, `join_set` and `join_output` and, for its definitions, on `semantics`.
-// The layers above may use `state`, `afresh` and `value_afresh`, and the names of the types below that stand here again:
+// The layers above may use `state`, `afresh`, `value_afresh` and, of what stands below a rank, `state_below` and
+// `afresh_below`, and the names of the types below that stand here again:
 // contracts see a history as the list of its entries, and the state as the list of its pairs, keys ascending.
 #![tactic(auto)]
 
@@ -10,7 +11,7 @@ mod hiding;
 mod outputs;
 mod replay;
 
-pub use evaluation::{afresh, state, value_afresh};
+pub use evaluation::{afresh, afresh_below, state, state_below, value_afresh};
 pub use join_output::Table;
 pub use join_set::{AddFault, JoinSet, Standing};
 pub use join_types::{Cause, Entry, Join, JoinSource, Kind, Op, Pair, Positions, Write};

@@ -1,12 +1,13 @@
 -- What two ranges have in common, the ranges of one beginning and of one key, and the table of a range.
-use Rattle.std.proofs.Common.{◌≡◌, Bool, true, false, ◌&&◌, ◌||◌, nat_eq, nat_le, [], ◌∷◌, ◌++◌, length, refl, sym, ap, ◌∙◌, subst, ⊎_elim, arith, length-append, append-nil, leb-true, le-leb}
+use Rattle.std.proofs.Common.{◌≡◌, Bool, true, false, cond, ◌&&◌, ◌||◌, nat_eq, nat_le, [], ◌∷◌, ◌++◌, length, Some, None, MatchOption, refl, sym, ap, ◌∙◌, subst, ⊎_elim, arith, length-append, append-nil, leb-true, le-leb}
 use Rattle.std.specs.Ordering.{is_le}
 use Rattle.std.specs.List.{starts_with}
-use Rattle.std.proofs.lemmas.Bool.{and_parts, and_from, or_cases, or_left, or_right, cond_both}
+use Rattle.std.specs.Option.{IfSome}
+use Rattle.std.proofs.lemmas.Bool.{false≢true, false_from_ne_true, and_parts, and_from, or_cases, or_left, or_right, cond_both}
 use Rattle.semantics.specs.Texts.{Text, bar, brace, same, has_bar, table_of, names_table, ends_range, is_range, Range, within}
 use Rattle.semantics.proofs.PieceLemmas.{equal_by_same, same_itself}
 use Rattle.ranges.specs.Ranges.{is_below, meets, later, earlier, common}
-use Rattle.ranges.specs.RangeLaws.{CutHoldsBoth, HoldersMeet, CutIsRange, PrefixRangeIsRange, JustIsRange}
+use Rattle.ranges.specs.RangeLaws.{CutIsCommonPart, HoldersMeet, MeetIsShared, CutIsRange, PrefixRangeIsRange, JustIsRange}
 use Rattle.ranges.proofs.OrderLemmas.{is_up_to, up_to_itself, up_to_from_below, up_to_below, below_up_to, up_to_trans, later_up_to, below_earlier}
 use Rattle.ranges.proofs.PrefixLemmas.{closed_push, text_cmp-append, within-prefix_range, within-just, table_of-append, named, table_from_beginning, begins_with_table, table_of-more}
 
@@ -24,10 +25,6 @@ pub within-common : (r s : Range) (key : Text) → within (common r s) key ≡ (
 within-common r s key =
     rw (later_up_to r.low s.low key, below_earlier r.high s.high key) (and_exchange (is_up_to r.low key) (is_up_to s.low key) (is_below key r.high) (is_below key s.high))
 
--- the common part of two ranges that meet holds the keys that both hold
-pub cut_holds_both : CutHoldsBoth
-cut_holds_both r s key h = within-common r s key
-
 -- two ranges that hold one key meet
 pub holders_meet : HoldersMeet
 holders_meet r s key h g =
@@ -38,6 +35,19 @@ holders_meet r s key h g =
     (and_from _ _ (up_to_below r.low key r.high inside.0 inside.1) (up_to_below s.low key s.high within_other.0 within_other.1))
     (up_to_below r.low key s.high inside.0 within_other.1))
     (up_to_below s.low key r.high within_other.0 inside.1)
+
+-- the common part, where there is one, and otherwise no common key
+common_part_by : (r s : Range) (x : Bool) → meets r s ≡ x
+    → MatchOption (cond x (Some (common r s)) None) ((key : Text) → (within r key && within s key) ≡ false) (λ c. (key : Text) → within c key ≡ (within r key && within s key))
+common_part_by r s true e = λ key. within-common r s key
+common_part_by r s false e = λ key.
+    false_from_ne_true (within r key && within s key) (λ both.
+    let parts = and_parts (within r key) (within s key) both in
+    false≢true (sym e ∙ holders_meet r s key parts.0 parts.1))
+
+-- the common part of two ranges holds the keys that both hold
+pub cut_is_common_part : CutIsCommonPart
+cut_is_common_part r s = common_part_by r s (meets r s) refl
 
 -- what holds of two texts holds of the greater
 later_has : (P : Text → Type 0) (a b : Text) → P a → P b → P (later a b)
@@ -128,7 +138,7 @@ common_is_open r s h =
     (later_has (λ t. is_below t s.high ≡ true) r.low s.low parts.first_below parts.open_second)
 
 -- each of two ranges that meet holds the greater first bound
-pub common_holds_low : (r s : Range) → meets r s ≡ true → (within r (later r.low s.low) ≡ true) × (within s (later r.low s.low) ≡ true)
+pub common_holds_low : MeetIsShared
 common_holds_low r s h =
     let low = later r.low s.low in
     and_parts (within r low) (within s low) (sym (within-common r s low) ∙ and_from _ _ (up_to_itself low) (common_is_open r s h))
@@ -145,7 +155,7 @@ abbrev EndsTable : Text → Text → Type 0
 EndsTable table high = (starts_with nat_eq high (table ++ bar ∷ []) || same high (table ++ brace ∷ [])) ≡ true
 
 -- the common part of two ranges that meet is a range
-pub common_is_range : CutIsRange
+pub common_is_range : (r s : Range) → is_range r.low r.high ≡ true → is_range s.low s.high ≡ true → meets r s ≡ true → is_range (common r s).low (common r s).high ≡ true
 common_is_range r s hr hs h =
     let first = bounds_of r.low r.high hr in
     let second = bounds_of s.low s.high hs in
@@ -161,6 +171,15 @@ common_is_range r s hr hs h =
       ends = subst (λ t. EndsTable t high) (sym one) ends;
       ascend = up_to_from_below low high (common_is_open r s h);
     })
+
+-- the common part, where there is one, is a range
+cut_range_by : (r s : Range) (x : Bool) → is_range r.low r.high ≡ true → is_range s.low s.high ≡ true → meets r s ≡ x → IfSome (cond x (Some (common r s)) None) (λ c. is_range c.low c.high ≡ true)
+cut_range_by r s true hr hs e = common_is_range r s hr hs e
+cut_range_by r s false hr hs e = tt
+
+-- the common part of two ranges is a range
+pub cut_is_range : CutIsRange
+cut_is_range r s hr hs = cut_range_by r s (meets r s) hr hs refl
 
 -- ---- ranges of one beginning and of one key
 

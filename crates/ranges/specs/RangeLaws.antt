@@ -1,21 +1,27 @@
 -- Laws on ranges.
-use Rattle.std.specs.Prelude.{◌≡◌, ◌&&◌, [], ◌∷◌, ◌++◌, true, nat_eq}
+use Rattle.std.specs.Prelude.{◌≡◌, ◌&&◌, [], ◌∷◌, ◌++◌, true, false, nat_eq, IfSome, MatchOption}
 use Rattle.std.specs.List.{starts_with}
 use Rattle.semantics.specs.Texts.{Text, bar, same, is_key, is_range, Range, within}
-use Rattle.ranges.specs.Ranges.{meets, common, prefix_range, just}
+use Rattle.ranges.specs.Ranges.{meets, later, cut, prefix_range, just}
 
--- the common part of two ranges that meet holds the keys that both hold
-abbrev pub CutHoldsBoth : Type 0
-CutHoldsBoth = (r s : Range) (key : Text) → meets r s ≡ true → within (common r s) key ≡ within r key && within s key
+-- the common part of two ranges holds the keys that both hold; there is none only where they hold none in common
+abbrev pub CutIsCommonPart : Type 0
+CutIsCommonPart = (r s : Range) → MatchOption (cut r s)
+    ((key : Text) → (within r key && within s key) ≡ false)
+    (λ c. (key : Text) → within c key ≡ (within r key && within s key))
 
 -- two ranges that hold one key meet
 abbrev pub HoldersMeet : Type 0
 HoldersMeet = (r s : Range) (key : Text) → within r key ≡ true → within s key ≡ true → meets r s ≡ true
 
--- the common part of two ranges that meet is a range
+-- each of two ranges that meet holds the greater of their first bounds
+abbrev pub MeetIsShared : Type 0
+MeetIsShared = (r s : Range) → meets r s ≡ true → (within r (later r.low s.low) ≡ true) × (within s (later r.low s.low) ≡ true)
+
+-- the common part of two ranges is a range
 abbrev pub CutIsRange : Type 0
-CutIsRange = (r s : Range) → is_range r.low r.high ≡ true → is_range s.low s.high ≡ true → meets r s ≡ true →
-    is_range (common r s).low (common r s).high ≡ true
+CutIsRange = (r s : Range) → is_range r.low r.high ≡ true → is_range s.low s.high ≡ true →
+    IfSome (cut r s) (λ c. is_range c.low c.high ≡ true)
 
 -- a prefix range holds the keys that begin with its text
 abbrev pub PrefixRangeHolds : Type 0

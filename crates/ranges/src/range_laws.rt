@@ -1,9 +1,9 @@
 // Laws on ranges.
-ghost use Rattle.ranges.specs.RangeLaws.{CutHoldsBoth, HoldersMeet, CutIsRange, PrefixRangeHolds, PrefixRangeIsRange, JustHolds, JustIsRange};
+ghost use Rattle.ranges.specs.RangeLaws.{CutIsCommonPart, HoldersMeet, MeetIsShared, CutIsRange, PrefixRangeHolds, PrefixRangeIsRange, JustHolds, JustIsRange};
 
-/// The common part of two ranges that meet holds the keys that both hold.
-pub fn cut_holds_both()
-    ensures { CutHoldsBoth }
+/// The common part of two ranges holds the keys that both hold; there is none only where they hold none in common.
+pub fn cut_is_common_part()
+    ensures { CutIsCommonPart }
 {}
 
 /// Two ranges that hold one key meet.
@@ -11,7 +11,12 @@ pub fn holders_meet()
     ensures { HoldersMeet }
 {}
 
-/// The common part of two ranges that meet is a range.
+/// Each of two ranges that meet holds the greater of their first bounds.
+pub fn meet_is_shared()
+    ensures { MeetIsShared }
+{}
+
+/// The common part of two ranges is a range.
 pub fn cut_is_range()
     ensures { CutIsRange }
 {}

@@ -87,12 +87,12 @@ holds_from [] table by slots more (k ∷ ks) source s key patterns small are pat
 holds_from (p ∷ ps) table by slots more [] source s key patterns small are path at fit short =
     let one : p ≡ (source, s) = same_Some p (source, s) at in
     let pattern = (and_parts (is_pattern p.1.pattern) (list_all (λ q. is_pattern q.1.pattern) ps) patterns).0 in
-    let held = containing_holds p.1.pattern slots more key pattern are.texts short (subst (λ q. Fits q.1.pattern key more) (sym one) fit) are.part in
+    let held = containing_holds p.1.pattern slots more key pattern short (subst (λ q. Fits q.1.pattern key more) (sym one) fit) are.part in
     let w = first_by p ps table by slots more key (containing p.1.pattern slots) are.part held in
     (w.0, w.1, subst (λ b. HoldsNext source b more key w.0) (sym (append-nil by)) (subst (λ q. HoldsNext q.0 by more key w.0) one w.2))
 holds_from (p ∷ ps) table by slots more (k ∷ ks) source s key patterns small are path at fit short =
     let parts = and_parts (is_pattern p.1.pattern) (list_all (λ q. is_pattern q.1.pattern) ps) patterns in
-    let held = containing_holds p.1.pattern slots more k parts.0 are.texts (short_at k table small path.0) path.1 are.part in
+    let held = containing_holds p.1.pattern slots more k parts.0 (short_at k table small path.0) path.1 are.part in
     let stored = pair_at k table path.0 in
     let next = binds_less p.1.pattern k slots more parts.0 are.long path.1 are.part in
     let go_on : AreBelow next.0 more = record {

@@ -10,7 +10,7 @@ use Rattle.semantics.specs.Patterns.{Segment, literal, slot, Pattern, Slots, is_
 use Rattle.ranges.specs.Ranges.{just, prefix_range}
 use Rattle.ranges.specs.Containing.{fixed_texts, containing}
 use Rattle.ranges.specs.ContainingLaws.{HoldsFitting}
-use Rattle.ranges.proofs.ContainingLemmas.{containing_holds_fitting}
+use Rattle.ranges.proofs.ContainingLemmas.{containing_holds}
 use Rattle.key_pattern.specs.Fixed.{fixed_text, AddsFixed}
 use Rattle.key_pattern.proofs.JoinedTexts.{joined_after, joined_nothing}
 use Rattle.key_pattern.proofs.WalkLemmas.{left_at}
@@ -94,4 +94,4 @@ pub holds_from_exact : {E : Type 0} (p : Pattern) (given : Slots) (r : Result (O
     → IfOk r (λ found. (more : Slots) (key : Text) → HoldsFitting p given found more key)
 holds_from_exact p given r ok h =
     IfOk-weaker r (λ found. found ≡ containing p given) (λ found. (more : Slots) (key : Text) → HoldsFitting p given found more key)
-    (λ found e more key. subst (λ x. HoldsFitting p given x more key) (sym e) (containing_holds_fitting p given more key ok)) h
+    (λ found e more key. subst (λ x. HoldsFitting p given x more key) (sym e) (containing_holds p given more key ok)) h

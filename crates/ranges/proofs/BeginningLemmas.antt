@@ -6,22 +6,19 @@ use Rattle.std.proofs.lemmas.Bool.{false≢true, and_parts, and_from, or_left, o
 use Rattle.semantics.specs.Texts.{Text, bar, brace, same, table_of, is_range, Range, within}
 use Rattle.ranges.specs.Ranges.{is_below, closed}
 use Rattle.ranges.specs.Containing.{barred_from, barred, holds_bounds, last_or_empty, shared_beginning}
+use Rattle.ranges.specs.ContainingLaws.{IsBarredBeginning}
 use Rattle.ranges.proofs.OrderLemmas.{is_up_to, up_to_is, up_to_trans, below_up_to}
 use Rattle.ranges.proofs.PrefixLemmas.{nothing_up_to, within_prefix, text_cmp-append, closed_push, within-prefix_range, named}
 use Rattle.ranges.proofs.RangeLemmas.{bounds_of, bar_of_names, table_up_to, up_to_table}
 
 -- ---- the beginnings that are listed
 
--- a text that ends with `|` and with which another begins
-abbrev pub IsBarredBeginning : Text → Text → Type 0
-IsBarredBeginning t q = (front : Text) × (rest : Text) × (q ≡ front ++ bar ∷ []) × (t ≡ front ++ bar ∷ rest)
-
 -- `|` ends one more beginning
-barred_from-cut : (before : Text) (b : ℕ) (bs : Text) → (b == bar) ≡ true → barred_from before (b ∷ bs) ≡ (before ++ b ∷ []) ∷ barred_from (before ++ b ∷ []) bs
+pub barred_from-cut : (before : Text) (b : ℕ) (bs : Text) → (b == bar) ≡ true → barred_from before (b ∷ bs) ≡ (before ++ b ∷ []) ∷ barred_from (before ++ b ∷ []) bs
 barred_from-cut before b bs e = rw e
 
 -- another byte ends none
-barred_from-onto : (before : Text) (b : ℕ) (bs : Text) → (b == bar) ≡ false → barred_from before (b ∷ bs) ≡ barred_from (before ++ b ∷ []) bs
+pub barred_from-onto : (before : Text) (b : ℕ) (bs : Text) → (b == bar) ≡ false → barred_from before (b ∷ bs) ≡ barred_from (before ++ b ∷ []) bs
 barred_from-onto before b bs e = rw e
 
 -- one byte more

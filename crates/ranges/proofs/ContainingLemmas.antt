@@ -11,7 +11,7 @@ use Rattle.semantics.proofs.BindLemmas.{texts-no_slots}
 use Rattle.semantics.proofs.PatternLemmas.{text_lacks, segments_of_pattern, two_of_pattern}
 use Rattle.ranges.specs.Ranges.{prefix_range, just}
 use Rattle.ranges.specs.Containing.{fixed_texts, fixed_range, containing}
-use Rattle.ranges.specs.ContainingLaws.{HoldsFitting, ContainingHolds, ContainingIsRange}
+use Rattle.ranges.specs.ContainingLaws.{ContainingHolds, ContainingIsRange}
 use Rattle.ranges.proofs.PrefixLemmas.{begins_with, within-prefix_range, within-just, table_of-append, has_bar-append}
 use Rattle.ranges.proofs.RangeLemmas.{prefix_range_is_range, just_is_range}
 
@@ -30,11 +30,11 @@ join_closed c t (u ∷ us) = (join_with_byte c (u ∷ us) ++ c ∷ [], append_as
 -- ---- the fixed texts of a source
 
 -- a slot with a text goes on with the fixed texts
-fixed_slot : (place width : ℕ) (ss : Pattern) (given : Slots) (t : Text) → text_at place given ≡ Some t → fixed_texts (slot place width ∷ ss) given ≡ t ∷ fixed_texts ss given
+pub fixed_slot : (place width : ℕ) (ss : Pattern) (given : Slots) (t : Text) → text_at place given ≡ Some t → fixed_texts (slot place width ∷ ss) given ≡ t ∷ fixed_texts ss given
 fixed_slot place width ss given t e = rw e
 
 -- a slot without a text ends the fixed texts
-fixed_end : (place width : ℕ) (ss : Pattern) (given : Slots) → text_at place given ≡ None → fixed_texts (slot place width ∷ ss) given ≡ []
+pub fixed_end : (place width : ℕ) (ss : Pattern) (given : Slots) → text_at place given ≡ None → fixed_texts (slot place width ∷ ss) given ≡ []
 fixed_end place width ss given e = rw e
 
 -- the fixed texts are all of a key's segments, or fewer than the source's and the first of them
@@ -42,7 +42,7 @@ abbrev pub AreFirst : Pattern → List Text → List Text → Type 0
 AreFirst p ts fixed = ((length fixed ≡ length p) × (fixed ≡ ts)) ⊎ ((length fixed < length p) × (u : Text) × (us : List Text) × (ts ≡ fixed ++ u ∷ us))
 
 -- one segment more, with its text
-first_by : (s : Segment) (ss : Pattern) (t : Text) (ts fixed : List Text) → AreFirst ss ts fixed → AreFirst (s ∷ ss) (t ∷ ts) (t ∷ fixed)
+pub first_by : (s : Segment) (ss : Pattern) (t : Text) (ts fixed : List Text) → AreFirst ss ts fixed → AreFirst (s ∷ ss) (t ∷ ts) (t ∷ fixed)
 first_by s ss t ts fixed (inl all) = inl (ap suc all.0, ap (λ us. t ∷ us) all.1)
 first_by s ss t ts fixed (inr some) = inr (omega (arith, some.0), some.1, some.2, ap (λ us. t ∷ us) some.3)
 
@@ -113,15 +113,11 @@ holds_literal l ss given more key small h part =
     holds_by l (fixed_texts ss given) (literal l ∷ ss) key small (fixed_are_first (literal l ∷ ss) (segments key) given more h part)
 
 -- every key that fits a source under slots of which the given ones are a part lies in the containing range, whatever texts these give
-pub containing_holds_fitting : (source : Pattern) (given more : Slots) (key : Text) → is_pattern source ≡ true → HoldsFitting source given (containing source given) more key
-containing_holds_fitting source given more key ok small h part =
+pub containing_holds : ContainingHolds
+containing_holds source given more key ok small h part =
     let w = pattern_begins source ok in
     subst (λ p. IsSomeAnd (containing p given) (λ r. within r key ≡ true)) (sym w.2)
     (holds_literal w.0 w.1 given more key small (subst (λ p. Fits p key more) w.2 h) part)
-
--- so does every such key under texts that may stand for segments
-pub containing_holds : ContainingHolds
-containing_holds source given more key ok are = containing_holds_fitting source given more key ok
 
 -- ---- a containing range is a range
 
@@ -215,7 +211,7 @@ fixed_name p given ok =
 
 -- a containing range is a range
 pub containing_is_range : ContainingIsRange
-containing_is_range source given ok are =
+containing_is_range source given ok =
     let w = pattern_named source ok in
     let two = subst (λ p. nat_le 2 (length p) ≡ true) w.2 (two_of_pattern source ok) in
     subst (λ p. IfSome (containing p given) IsRange) (sym w.2) (range_literal w.0 w.1 given w.3 (leb-true 2 (length (literal w.0 ∷ w.1)) two))

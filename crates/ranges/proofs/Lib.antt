@@ -2,6 +2,8 @@ pub mod OrderLemmas
 pub mod PrefixLemmas
 pub mod RangeLemmas
 pub mod BeginningLemmas
+pub mod LongestLemmas
 pub mod BindRangeLemmas
 pub mod ContainingLemmas
+pub mod ExactLemmas
 pub mod OnlyLemmas

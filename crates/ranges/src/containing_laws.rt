@@ -1,5 +1,17 @@
 // Laws on containing ranges.
-ghost use Rattle.ranges.specs.ContainingLaws.{BindRangeIsShared, BindRangeGivesSlots, ContainingHolds, ContainingIsRange, OnlyIsGiven};
+ghost use Rattle.ranges.specs.ContainingLaws.{SharedIsLongest, BindRangeIsLeast, BindRangeIsShared, BindRangeGivesSlots, ContainingHolds, ContainingIsRange, ContainingIsExact, OnlyIsGiven};
+
+/// The shared beginning of a range is the longest beginning of its first bound that ends with `|` and whose range holds
+/// both bounds.
+pub fn shared_is_longest()
+    ensures { SharedIsLongest }
+{}
+
+/// The slots that a range of an output shares are the least under which the output's first segments take those of the
+/// shared beginning; there are none exactly where they take them under no slots, or no segment is left.
+pub fn bind_range_is_least()
+    ensures { BindRangeIsLeast }
+{}
 
 /// The slots that a range of an output shares are a part of those of each key of the range that fits the output.
 pub fn bind_range_is_shared()
@@ -19,6 +31,12 @@ pub fn containing_holds()
 /// A containing range is a range.
 pub fn containing_is_range()
     ensures { ContainingIsRange }
+{}
+
+/// A containing range holds those keys alone whose segments begin with the fixed texts of the source, and all of them;
+/// there is none only where no such key has at most 512 bytes.
+pub fn containing_is_exact()
+    ensures { ContainingIsExact }
 {}
 
 /// The slots of one pattern alone have the given text at each place that occurs among the pattern's slots, and none at

@@ -2,8 +2,11 @@ pub mod NeedLemmas
 pub mod GivenLemmas
 pub mod ListedLemmas
 pub mod FollowedLemmas
-pub mod ChangeLemmas
-pub mod UnchangedLemmas
 pub mod AskedLemmas
+pub mod ChangeLemmas
+pub mod TableNameLemmas
+pub mod UnchangedLemmas
 pub mod OnceLemmas
+pub mod PlacedLemmas
 pub mod PathLemmas
+pub mod GoesOnLemmas

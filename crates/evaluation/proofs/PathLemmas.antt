@@ -7,10 +7,9 @@ use Rattle.std.proofs.lemmas.List.{length-take-le}
 use Rattle.std.proofs.lemmas.List.Elements.{All-from_recursion}
 use Rattle.semantics.specs.Texts.{Text, Table, Range, within, value_at, pairs_within}
 use Rattle.semantics.specs.Patterns.{Slots, is_pattern, Fits, IsPartOf, bind}
-use Rattle.semantics.specs.PatternLaws.{AreSegmentTexts}
 use Rattle.semantics.specs.Joins.{Source, Join, is_join, is_check}
 use Rattle.semantics.proofs.PatternLemmas.{part_itself, part_trans, fits_more, bind_some, segments_of_pattern}
-use Rattle.semantics.proofs.BindLemmas.{texts_bind, length-bind}
+use Rattle.semantics.proofs.BindLemmas.{length-bind}
 use Rattle.semantics.proofs.MemberLemmas.{Has, contains_from_has, has_filter, has_filtered, has_append_cases, has_flat_map, has_flat_mapped, passes_from_all, all_from_each}
 use Rattle.semantics.proofs.TableLemmas.{IsAscending, has_from_value, value_from_has}
 use Rattle.semantics.proofs.OutputLemmas.{sources_of_join}
@@ -72,35 +71,31 @@ later_by p ps table by slots next pair need (Some range) h stored bound has = in
     (has_filtered (λ q. within range q.0) table pair h stored)
     (subst (λ b. Has (under (λ more. needs_from ps table (by ++ pair.0 ∷ []) more) b) need) (sym bound) has))
 
--- slots that may be gone on from: 16 places with texts that may stand for segments, a part of others
-record AreBelow (slots more : Slots) : Type 0 where
+-- slots that may be gone on from: 16 places, a part of others, and these of wider ones
+record AreBelow (slots more wider : Slots) : Type 0 where
   long : length slots ≡ 16
-  texts : AreSegmentTexts slots
   part : IsPartOf slots more
+  wide : IsPartOf more wider
 
 -- a key that goes on from a path is held by a need of that path
-holds_from : (ps : List (ℕ × Source)) (table : Table) (by : List Text) (slots more : Slots) (path : List Text) (source : ℕ) (s : Source) (key : Text) → list_all (λ p. is_pattern p.1.pattern) ps ≡ true
-    → AllByRecursion HasShortKey table → AreBelow slots more → IsPath ps table path more → slice_get ps (length path) ≡ Some (source, s) → Fits s.pattern key more → length key ≤ 512
+holds_from : (ps : List (ℕ × Source)) (table : Table) (by : List Text) (slots more wider : Slots) (path : List Text) (source : ℕ) (s : Source) (key : Text) → list_all (λ p. is_pattern p.1.pattern) ps ≡ true
+    → AllByRecursion HasShortKey table → AreBelow slots more wider → IsPath ps table path more → slice_get ps (length path) ≡ Some (source, s) → Fits s.pattern key wider → length key ≤ 512
     → (need : Need) × Has (needs_from ps table by slots) need × HoldsNext source (by ++ path) more key need
-holds_from [] table by slots more [] source s key patterns small are path at fit short = absurd (none-some (source, s) at)
-holds_from [] table by slots more (k ∷ ks) source s key patterns small are path at fit short = absurd path
-holds_from (p ∷ ps) table by slots more [] source s key patterns small are path at fit short =
+holds_from [] table by slots more wider [] source s key patterns small are path at fit short = absurd (none-some (source, s) at)
+holds_from [] table by slots more wider (k ∷ ks) source s key patterns small are path at fit short = absurd path
+holds_from (p ∷ ps) table by slots more wider [] source s key patterns small are path at fit short =
     let one : p ≡ (source, s) = same_Some p (source, s) at in
     let pattern = (and_parts (is_pattern p.1.pattern) (list_all (λ q. is_pattern q.1.pattern) ps) patterns).0 in
-    let held = containing_holds p.1.pattern slots more key pattern short (subst (λ q. Fits q.1.pattern key more) (sym one) fit) are.part in
+    let held = containing_holds p.1.pattern slots wider key pattern short (subst (λ q. Fits q.1.pattern key wider) (sym one) fit) (part_trans slots more wider are.part are.wide) in
     let w = first_by p ps table by slots more key (containing p.1.pattern slots) are.part held in
     (w.0, w.1, subst (λ b. HoldsNext source b more key w.0) (sym (append-nil by)) (subst (λ q. HoldsNext q.0 by more key w.0) one w.2))
-holds_from (p ∷ ps) table by slots more (k ∷ ks) source s key patterns small are path at fit short =
+holds_from (p ∷ ps) table by slots more wider (k ∷ ks) source s key patterns small are path at fit short =
     let parts = and_parts (is_pattern p.1.pattern) (list_all (λ q. is_pattern q.1.pattern) ps) patterns in
     let held = containing_holds p.1.pattern slots more k parts.0 (short_at k table small path.0) path.1 are.part in
     let stored = pair_at k table path.0 in
     let next = binds_less p.1.pattern k slots more parts.0 are.long path.1 are.part in
-    let go_on : AreBelow next.0 more = record {
-      long = length-bind p.1.pattern k slots next.0 next.1 ∙ are.long;
-      texts = texts_bind p.1.pattern k slots next.0 are.texts next.1;
-      part = next.2;
-    } in
-    let w = holds_from ps table (by ++ k ∷ []) next.0 more ks source s key parts.1 small go_on path.2 at fit short in (
+    let go_on : AreBelow next.0 more wider = record { long = length-bind p.1.pattern k slots next.0 next.1 ∙ are.long; part = next.2; wide = are.wide } in
+    let w = holds_from ps table (by ++ k ∷ []) next.0 more wider ks source s key parts.1 small go_on path.2 at fit short in (
       w.0,
       later_by p ps table by slots next.0 (k, stored.0) w.0 (containing p.1.pattern slots) held stored.1 next.1 w.1,
       subst (λ b. HoldsNext source b more key w.0) (append_assoc by (k ∷ []) ks) w.2,
@@ -113,8 +108,8 @@ is_any P xs x h p = let c = contains_from_has xs x h in (c.0, x, c.1, c.2, p)
 -- whichever key goes on from a path, some need by that path holds it
 pub needs_hold_next : NeedsHoldNext
 unfolding tree
-needs_hold_next j slots more table path source s key ok keys long texts part is at fit short =
-    let w = holds_from (placed_sources j) table [] slots more path source s key (placed_patterns j ok) (short_keys table keys) (record { long = long; texts = texts; part = part }) is at fit short in
+needs_hold_next j slots more wider table path source s key ok keys long part is at wide fit short =
+    let w = holds_from (placed_sources j) table [] slots more wider path source s key (placed_patterns j ok) (short_keys table keys) (record { long = long; part = part; wide = wide }) is at fit short in
     is_any (HoldsNext source path more key) (tree j slots table) w.0 w.1 w.2
 
 -- ---- where the needs came from
@@ -129,6 +124,7 @@ record WentOn (ps : List (ℕ × Source)) (table : Table) (front : List Text) (s
   by : need.by ≡ front ++ more
   path : IsPath ps table more need.slots
   part : IsPartOf slots need.slots
+  least : (other : Slots) → IsPath ps table more other → IsPartOf slots other → IsPartOf need.slots other
   next : IsNext ps more need
 
 -- the needs from a path on went on from it
@@ -147,6 +143,7 @@ went_after p ps table by slots pair need (Some next) pattern long stands e all h
       by = rest.by ∙ append_assoc by (pair.0 ∷ []) rest.more;
       path = (stands, fits_more p.1.pattern pair.0 next need.slots rest.part bound.takes, rest.path);
       part = part_trans slots next need.slots bound.keeps rest.part;
+      least = λ other path part. rest.least other path.2 (bound.least other path.1 part);
       next = rest.next;
     }
 
@@ -159,6 +156,7 @@ went_over p ps table by slots need (Some range) pattern long sorted e all (inl q
   by = sym (append-nil by);
   path = tt;
   part = part_itself slots;
+  least = λ other path part. part;
   next = (refl, e);
 }
 went_over p ps table by slots need (Some range) pattern long sorted e all (inr h) =
@@ -181,6 +179,7 @@ came_by_path j slots table need ok long sorted h =
     record {
       path = subst (λ keys. IsPath (placed_sources j) table keys need.slots) (sym w.by) w.path;
       part = w.part;
+      least = λ other path part. w.least other (subst (λ keys. IsPath (placed_sources j) table keys other) w.by path) part;
       next = subst (λ keys. IsNext (placed_sources j) keys need) (sym w.by) w.next;
     }
 
@@ -210,15 +209,15 @@ path_key (p ∷ ps) table (first ∷ ks) slots zero source s key h at k =
 path_key (p ∷ ps) table (first ∷ ks) slots (suc i) source s key h at k = path_key ps table ks slots i source s key h.2 at k
 
 -- each key by which a need came is held by a need that came by the keys before it
-has_held_path : (j : Join) (slots : Slots) (table : Table) (need : Need) → is_join j ≡ true → HasKeys table → length slots ≡ 16 → AreSegmentTexts slots → IsAscending table → Has (tree j slots table) need → HasHeldPath j slots table need
-has_held_path j slots table need ok keys long texts sorted h i source s key at k =
+has_held_path : (j : Join) (slots : Slots) (table : Table) (need : Need) → is_join j ≡ true → HasKeys table → length slots ≡ 16 → IsAscending table → Has (tree j slots table) need → HasHeldPath j slots table need
+has_held_path j slots table need ok keys long sorted h i source s key at k =
     let came = came_by_path j slots table need ok long sorted h in
     let one = path_key (placed_sources j) table need.by need.slots i source s key came.path at k in
     let front : length (take i need.by) ≡ i = length-take-le i need.by (let l = slice_get_within need.by i key k in omega arith) in
-    needs_hold_next j slots need.slots table (take i need.by) source s key ok keys long texts came.part (path_before (placed_sources j) table need.by need.slots i came.path)
-    (ap (slice_get (placed_sources j)) front ∙ at) one.1 (short_at key table (short_keys table keys) one.0)
+    needs_hold_next j slots need.slots need.slots table (take i need.by) source s key ok keys long came.part (path_before (placed_sources j) table need.by need.slots i came.path)
+    (ap (slice_get (placed_sources j)) front ∙ at) (part_itself need.slots) one.1 (short_at key table (short_keys table keys) one.0)
 
 -- so it is of each need
 pub needs_hold_their_paths : NeedsHoldTheirPaths
-needs_hold_their_paths j slots table ok keys long texts sorted =
-    All-from_recursion (HasHeldPath j slots table) (tree j slots table) (all_from_has (HasHeldPath j slots table) (tree j slots table) (λ need h. has_held_path j slots table need ok keys long texts sorted h))
+needs_hold_their_paths j slots table ok keys long sorted =
+    All-from_recursion (HasHeldPath j slots table) (tree j slots table) (all_from_has (HasHeldPath j slots table) (tree j slots table) (λ need h. has_held_path j slots table need ok keys long sorted h))

@@ -14,15 +14,16 @@ use Rattle.semantics.proofs.PieceLemmas.{same_by_equal, equal_by_same, pieces-ap
 use Rattle.semantics.proofs.PatternLemmas.{fits_suit, SuitAll}
 use Rattle.semantics.proofs.TableLemmas.{value_at-with_pair}
 use Rattle.semantics.proofs.MergedLemmas.{value_at-without_key}
-use Rattle.semantics.proofs.BaseLemmas.{base_of-push, value_at-visible}
+use Rattle.semantics.proofs.BaseLemmas.{base_of-push, ascending-base_of, value_at-visible}
 use Rattle.semantics.proofs.OutputLemmas.{output_of_join}
-use Rattle.semantics.proofs.StateLemmas.{value_at-below_elsewhere}
+use Rattle.semantics.proofs.StateLemmas.{ascending-below, value_at-below_elsewhere}
 use Rattle.ranges.proofs.PrefixLemmas.{rest_of, named}
 use Rattle.ranges.proofs.RangeLemmas.{bounds_of, bar_of_names, within_begins}
-use Rattle.evaluation.specs.Changes.{has_table}
-use Rattle.evaluation.specs.ChangeLaws.{Writes, UnchangedIsSame}
+use Rattle.evaluation.specs.Changes.{has_table, is_bare}
+use Rattle.evaluation.specs.ChangeLaws.{Writes, UnchangedIsSame, BareIsBase}
 use Rattle.evaluation.proofs.NeedLemmas.{all_left}
 use Rattle.evaluation.proofs.ChangeLemmas.{changed_keys_are_written}
+use Rattle.evaluation.proofs.AskedLemmas.{same_within}
 
 -- ---- the joins that stood earlier
 
@@ -118,6 +119,17 @@ base_kept h q (suc n) key other =
 state_is_base : (h : History) (rank : ℕ) (key : Text) → DeclaresJoins h → is_computed (joins_of h) key ≡ false → value_at key (below h rank) ≡ value_at key (base_of h)
 state_is_base h rank key declares none =
     value_at-below_elsewhere h rank key declares none ∙ value_at-visible key h ∙ ap (λ b. cond (not b) (value_at key (base_of h)) None) none
+
+-- at a key of a bare range the state is the base pair
+bare_at : (h : History) (rank : ℕ) (r : Range) (key : Text) → DeclaresJoins h → is_range r.low r.high ≡ true → is_bare r (joins_of h) ≡ true → within r key ≡ true → value_at key (below h rank) ≡ value_at key (base_of h)
+bare_at h rank r key declares range bare inside =
+    let first = first_segment r key range inside in
+    state_is_base h rank key declares (uncomputed key (joins_of h) (unfit_in key (table_of r.low) first.0 (joins_of h) first.1 declares bare))
+
+-- in a bare range the state is the base pairs
+pub bare_is_base : BareIsBase
+bare_is_base h rank r declares range bare =
+    same_within r (below h rank) (base_of h) (ascending-below h rank) (ascending-base_of h) (λ key inside. bare_at h rank r key declares range bare inside)
 
 -- at a key of a bare range that is not changed the state is the same
 pub unchanged_is_same : UnchangedIsSame

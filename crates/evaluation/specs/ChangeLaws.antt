@@ -2,10 +2,12 @@
 use Rattle.std.specs.Prelude.{◌≡◌, ℕ, ◌<◌, ◌≤◌, ◌↔◌, take, slice_get, Contains, true}
 use Rattle.std.specs.List.Sorted.{IsStrictlySortedBy}
 use Rattle.std.specs.Option.{IsSomeAnd}
-use Rattle.semantics.specs.Texts.{Text, text_cmp, is_range, Range, within}
-use Rattle.semantics.specs.Histories.{Write, put, remove, declare, History, joins_of}
+use Rattle.semantics.specs.Texts.{Text, text_cmp, table_of, is_range, Range, within, pairs_within}
+use Rattle.semantics.specs.Patterns.{Pattern, is_pattern, fits}
+use Rattle.semantics.specs.Histories.{Write, put, remove, declare, History, joins_of, base_of}
+use Rattle.semantics.specs.States.{below}
 use Rattle.semantics.specs.StateLaws.{DeclaresJoins}
-use Rattle.evaluation.specs.Changes.{changed_keys, Same, is_bare}
+use Rattle.evaluation.specs.Changes.{changed_keys, Same, has_table, is_bare}
 
 -- the write puts or removes the key
 abbrev pub Writes : Write → Text → Type 0
@@ -29,3 +31,12 @@ ChangedKeysAreWritten = (q p : ℕ) (r : Range) (h : History) (key : Text) → C
 abbrev pub UnchangedIsSame : Type 0
 UnchangedIsSame = (h : History) (q p rank : ℕ) (r : Range) (key : Text) → DeclaresJoins h → is_range r.low r.high ≡ true → is_bare r (joins_of (take p h)) ≡ true →
     within r key ≡ true → (Contains (changed_keys q p r h) key → ⊥) → Same h q p rank key
+
+-- of the keys that fit a pattern each is of the pattern's table
+abbrev pub TableOfFitting : Type 0
+TableOfFitting = (p : Pattern) (table key : Text) → is_pattern p ≡ true → fits p key ≡ true → (has_table p table ≡ true) ↔ (table_of key ≡ table)
+
+-- in a bare range the state with the joins of ranks below any one is the base pairs
+abbrev pub BareIsBase : Type 0
+BareIsBase = (h : History) (rank : ℕ) (r : Range) → DeclaresJoins h → is_range r.low r.high ≡ true → is_bare r (joins_of h) ≡ true →
+    pairs_within r (below h rank) ≡ pairs_within r (base_of h)

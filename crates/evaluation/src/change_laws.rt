@@ -1,5 +1,5 @@
 // Laws on what changes between two positions.
-ghost use Rattle.evaluation.specs.ChangeLaws.{ChangedKeysAscend, ChangedKeysAreWritten, UnchangedIsSame};
+ghost use Rattle.evaluation.specs.ChangeLaws.{ChangedKeysAscend, ChangedKeysAreWritten, UnchangedIsSame, TableOfFitting, BareIsBase};
 
 /// The changed keys of a range ascend, each once.
 pub fn changed_keys_ascend()
@@ -14,4 +14,14 @@ pub fn changed_keys_are_written()
 /// At a key of a bare range that is not among the changed ones the state is the same at all positions between the two.
 pub fn unchanged_is_same()
     ensures { UnchangedIsSame }
+{}
+
+/// Of the keys that fit a pattern each is of the pattern's table.
+pub fn table_of_fitting()
+    ensures { TableOfFitting }
+{}
+
+/// In a bare range the state with the joins of ranks below any one is the base pairs.
+pub fn bare_is_base()
+    ensures { BareIsBase }
 {}

@@ -119,11 +119,11 @@ within-just (b ∷ bs) (k ∷ ks) = rw (within_step b k bs (bs ++ 0 ∷ []) ks, 
 -- ---- the table that a text names
 
 -- `|` ends the name
-table_of-cut : (b : ℕ) (bs : Text) → (b == bar) ≡ true → table_of (b ∷ bs) ≡ []
+pub table_of-cut : (b : ℕ) (bs : Text) → (b == bar) ≡ true → table_of (b ∷ bs) ≡ []
 table_of-cut b bs e = rw e
 
 -- another byte belongs to it
-table_of-onto : (b : ℕ) (bs : Text) → (b == bar) ≡ false → table_of (b ∷ bs) ≡ b ∷ table_of bs
+pub table_of-onto : (b : ℕ) (bs : Text) → (b == bar) ≡ false → table_of (b ∷ bs) ≡ b ∷ table_of bs
 table_of-onto b bs e = rw (e, one-add)
 
 -- what stands before the first `|` is the table's name

@@ -10,3 +10,4 @@ pub mod OnceLemmas
 pub mod PlacedLemmas
 pub mod PathLemmas
 pub mod GoesOnLemmas
+pub mod Computes

@@ -3,3 +3,4 @@ pub mod Trees
 pub mod TreeLaws
 pub mod ChangeLaws
 pub mod PathLaws
+pub mod Worked

@@ -1,0 +1,9 @@
+-- What an answer unfolds to compute the definitions on literals.
+use Rattle.std.specs.Prelude.{⊤}
+use Rattle.semantics.specs.Patterns.{no_slots}
+use Rattle.ranges.specs.Containing.{bind_range, containing}
+use Rattle.evaluation.specs.Trees.{tree}
+
+unfoldable pub definitions_on_literals : ⊤
+unfolding no_slots bind_range containing tree
+definitions_on_literals = tt

@@ -1,17 +1,17 @@
 -- The containing range of a source.
-use Rattle.std.proofs.Common.{◌≡◌, ◌⊎◌, ℕ, suc, ◌<◌, ◌≤◌, ◌==◌, Bool, true, false, cond, nat_eq, nat_le, List, [], ◌∷◌, ◌++◌, length, Option, Some, None, option_map, refl, sym, ap, ◌∙◌, subst, inl, inr, arith, append_assoc, length-append, eqb-true, eq-eqb, leb-true, le-leb}
+use Rattle.std.proofs.Common.{◌≡◌, ◌⊎◌, ℕ, suc, ◌<◌, ◌≤◌, ◌==◌, Bool, true, false, cond, nat_eq, nat_le, List, [], ◌∷◌, ◌++◌, length, Option, Some, None, option_map, refl, sym, ap, ◌∙◌, subst, inl, inr, arith, append_assoc, append-nil, length-append, eqb-true, eq-eqb, leb-true, le-leb}
 use Rattle.std.specs.List.{list_all, join_with_byte, starts_with}
 use Rattle.std.specs.Option.{IsSomeAnd, IfSome}
 use Rattle.std.proofs.lemmas.Bool.{and_parts, and_from, ne_eqb, false≢true}
 use Rattle.std.proofs.lemmas.Option.{same_Some}
-use Rattle.semantics.specs.Texts.{Text, bar, table_of, names_table, is_range, Range, within}
+use Rattle.semantics.specs.Texts.{Text, bar, table_of, names_table, is_key, is_range, Range, within}
 use Rattle.semantics.specs.Patterns.{Segment, literal, slot, Pattern, Slots, no_slots, text_at, is_literal_byte, is_segment, begins_with_table, is_pattern, segments, Takes, TakeAll, Fits, IsPartOf, short}
 use Rattle.semantics.proofs.PieceLemmas.{Lacks, same_itself, join-pieces}
 use Rattle.semantics.proofs.BindLemmas.{texts-no_slots}
 use Rattle.semantics.proofs.PatternLemmas.{text_lacks, segments_of_pattern, two_of_pattern}
 use Rattle.ranges.specs.Ranges.{prefix_range, just}
 use Rattle.ranges.specs.Containing.{fixed_texts, fixed_range, containing}
-use Rattle.ranges.specs.ContainingLaws.{ContainingHolds, ContainingIsRange}
+use Rattle.ranges.specs.ContainingLaws.{ContainingHolds, ContainingIsRange, ContainingBeginsWithKey}
 use Rattle.ranges.proofs.PrefixLemmas.{begins_with, within-prefix_range, within-just, table_of-append, has_bar-append}
 use Rattle.ranges.proofs.RangeLemmas.{prefix_range_is_range, just_is_range}
 
@@ -121,9 +121,9 @@ containing_holds source given more key ok small h part =
 
 -- ---- a containing range is a range
 
--- the bounds are a range
-abbrev pub IsRange : Range → Type 0
-IsRange r = is_range r.low r.high ≡ true
+-- the bounds are a range, which holds the first of them, a key
+abbrev IsRange : Range → Type 0
+IsRange r = (is_range r.low r.high ≡ true) × (is_key r.low ≡ true) × (within r r.low ≡ true)
 
 -- a text that begins with a table's name and `|` names it
 pub names_from_name : (name rest : Text) → nat_le 1 (length name) ≡ true → nat_le (length name) 64 ≡ true → Lacks bar name → names_table (name ++ bar ∷ rest) ≡ true
@@ -135,12 +135,15 @@ names_from_name name rest some small lacks =
 
 -- the range of one short text that names a table
 just_by : (t : Text) (x : Bool) → nat_le (length t) 512 ≡ x → names_table t ≡ true → IfSome (option_map just (cond x (Some t) None)) IsRange
-just_by t true e names = just_is_range t (and_from _ _ e names)
+just_by t true e names = let key = and_from _ _ e names in (just_is_range t key, key, within-just t t ∙ same_itself t)
 just_by t false e names = tt
 
 -- the range of all texts that begin with one
 prefix_by : (t : Text) (x : Bool) → nat_le (length (t ++ bar ∷ [])) 512 ≡ x → names_table (t ++ bar ∷ []) ≡ true → IfSome (option_map prefix_range (cond x (Some (t ++ bar ∷ [])) None)) IsRange
-prefix_by t true e names = prefix_range_is_range t (and_from _ _ e names)
+prefix_by t true e names =
+    let key = and_from _ _ e names in
+    let q = t ++ bar ∷ [] in
+    (prefix_range_is_range t key, key, within-prefix_range t q ∙ subst (λ u. starts_with nat_eq u q ≡ true) (append-nil q) (begins_with q []))
 prefix_by t false e names = tt
 
 -- what a table's name is
@@ -209,9 +212,23 @@ fixed_name p given ok =
     let w = pattern_named p ok in
     subst (λ ts. names_table (join_with_byte bar ts ++ bar ∷ []) ≡ true) (sym (ap (λ q. fixed_texts q given) w.2)) (some_name w.0 (fixed_texts w.1 given) w.3)
 
--- a containing range is a range
-pub containing_is_range : ContainingIsRange
-containing_is_range source given ok =
+-- a containing range is a range, which holds its first bound, a key
+range_of_source : (source : Pattern) (given : Slots) → is_pattern source ≡ true → IfSome (containing source given) IsRange
+range_of_source source given ok =
     let w = pattern_named source ok in
     let two = subst (λ p. nat_le 2 (length p) ≡ true) w.2 (two_of_pattern source ok) in
     subst (λ p. IfSome (containing p given) IsRange) (sym w.2) (range_literal w.0 w.1 given w.3 (leb-true 2 (length (literal w.0 ∷ w.1)) two))
+
+-- what is said of some range, less said
+less_said : (P Q : Range → Type 0) (o : Option Range) → ((r : Range) → P r → Q r) → IfSome o P → IfSome o Q
+less_said P Q None less h = tt
+less_said P Q (Some r) less h = less r h
+
+-- a containing range is a range
+pub containing_is_range : ContainingIsRange
+containing_is_range source given ok = less_said IsRange (λ r. is_range r.low r.high ≡ true) (containing source given) (λ r h. h.0) (range_of_source source given ok)
+
+-- the first bound of a containing range is a key, which it holds
+pub containing_begins_with_key : ContainingBeginsWithKey
+containing_begins_with_key source given ok =
+    less_said IsRange (λ r. (is_key r.low ≡ true) × (within r r.low ≡ true)) (containing source given) (λ r h. (h.1, h.2)) (range_of_source source given ok)

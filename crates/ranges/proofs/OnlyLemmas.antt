@@ -4,11 +4,11 @@ use Rattle.std.specs.List.{list_all}
 use Rattle.std.proofs.lemmas.Bool.{and_parts, false≢true}
 use Rattle.std.proofs.lemmas.List.{length-set}
 use Rattle.semantics.specs.Texts.{Text}
-use Rattle.semantics.specs.Patterns.{literal, slot, Pattern, Slots, no_slots, text_at, is_segment}
+use Rattle.semantics.specs.Patterns.{Segment, literal, slot, Pattern, Slots, no_slots, text_at, is_segment}
 use Rattle.semantics.specs.Joins.{slots_of, occurs}
 use Rattle.semantics.proofs.PatternLemmas.{text_at-set_same, text_at-set_other, text_at-no_slots, length-no_slots}
 use Rattle.ranges.specs.Containing.{kept_at, with_slot, only}
-use Rattle.ranges.specs.ContainingLaws.{OnlyIsGiven}
+use Rattle.ranges.specs.ContainingLaws.{OnlyHasPlaces, OnlyIsGiven}
 
 -- the kept slots have the given text at the place, or none
 abbrev KeepsAt : Slots → Slots → ℕ → Type 0
@@ -18,6 +18,21 @@ KeepsAt given kept place = (text_at place kept ≡ text_at place given) ⊎ (tex
 length-kept : (o : Option Text) (at : ℕ) (kept : Slots) → length (kept_at o at kept) ≡ length kept
 length-kept None at kept = refl
 length-kept (Some t) at kept = length-set kept at (Some t)
+
+-- one segment leaves the places as many
+length-with_slot : (s : Segment) (given kept : Slots) → length (with_slot given kept s) ≡ length kept
+length-with_slot (literal l) given kept = refl
+length-with_slot (slot place width) given kept = length-kept (text_at place given) place kept
+
+-- so do all
+length-folded : (p : Pattern) (given kept : Slots) → length (fold (with_slot given) kept p) ≡ length kept
+length-folded [] given kept = refl
+length-folded (s ∷ ss) given kept = length-folded ss given (with_slot given kept s) ∙ length-with_slot s given kept
+
+-- the slots of one pattern alone have 16 places
+pub only_has_places : OnlyHasPlaces
+unfolding only
+only_has_places p given = length-folded p given no_slots ∙ length-no_slots
 
 -- at the place itself the given text stands then
 kept_same : (given kept : Slots) (at : ℕ) (o : Option Text) → text_at at given ≡ o → at < length kept → KeepsAt given kept at → text_at at (kept_at o at kept) ≡ text_at at given

@@ -6,8 +6,8 @@ use Rattle.std.specs.Option.{IfSome}
 use Rattle.std.proofs.lemmas.Bool.{false≢true, false_from_ne_true, and_parts, and_from, or_cases, or_left, or_right, cond_both}
 use Rattle.semantics.specs.Texts.{Text, bar, brace, same, has_bar, table_of, names_table, ends_range, is_range, Range, within}
 use Rattle.semantics.proofs.PieceLemmas.{equal_by_same, same_itself}
-use Rattle.ranges.specs.Ranges.{is_below, meets, later, earlier, common}
-use Rattle.ranges.specs.RangeLaws.{CutIsCommonPart, HoldersMeet, MeetIsShared, CutIsRange, PrefixRangeIsRange, JustIsRange}
+use Rattle.ranges.specs.Ranges.{is_below, is_open, meets, later, earlier, common}
+use Rattle.ranges.specs.RangeLaws.{CutIsCommonPart, CutIsOpen, HoldersMeet, MeetIsShared, CutIsRange, PrefixRangeIsRange, JustIsRange}
 use Rattle.ranges.proofs.OrderLemmas.{is_up_to, up_to_itself, up_to_from_below, up_to_below, below_up_to, up_to_trans, later_up_to, below_earlier}
 use Rattle.ranges.proofs.PrefixLemmas.{closed_push, text_cmp-append, within-prefix_range, within-just, table_of-append, named, table_from_beginning, begins_with_table, table_of-more}
 
@@ -136,6 +136,15 @@ common_is_open r s h =
     ∙ and_from _ _
     (later_has (λ t. is_below t r.high ≡ true) r.low s.low parts.open_first parts.second_below)
     (later_has (λ t. is_below t s.high ≡ true) r.low s.low parts.first_below parts.open_second)
+
+-- the common part, where there is one, is not empty
+cut_open_by : (r s : Range) (x : Bool) → meets r s ≡ x → IfSome (cond x (Some (common r s)) None) (λ c. is_open c ≡ true)
+cut_open_by r s true e = common_is_open r s e
+cut_open_by r s false e = tt
+
+-- the common part of two ranges is not empty
+pub cut_is_open : CutIsOpen
+cut_is_open r s = cut_open_by r s (meets r s) refl
 
 -- each of two ranges that meet holds the greater first bound
 pub common_holds_low : MeetIsShared

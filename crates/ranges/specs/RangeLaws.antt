@@ -2,13 +2,17 @@
 use Rattle.std.specs.Prelude.{◌≡◌, ◌&&◌, [], ◌∷◌, ◌++◌, true, false, nat_eq, IfSome, MatchOption}
 use Rattle.std.specs.List.{starts_with}
 use Rattle.semantics.specs.Texts.{Text, bar, same, is_key, is_range, Range, within}
-use Rattle.ranges.specs.Ranges.{meets, later, cut, prefix_range, just}
+use Rattle.ranges.specs.Ranges.{is_open, meets, later, cut, prefix_range, just}
 
 -- the common part of two ranges holds the keys that both hold; there is none only where they hold none in common
 abbrev pub CutIsCommonPart : Type 0
 CutIsCommonPart = (r s : Range) → MatchOption (cut r s)
     ((key : Text) → (within r key && within s key) ≡ false)
     (λ c. (key : Text) → within c key ≡ (within r key && within s key))
+
+-- the common part of two ranges is not empty; so there is one exactly where they hold a key in common
+abbrev pub CutIsOpen : Type 0
+CutIsOpen = (r s : Range) → IfSome (cut r s) (λ c. is_open c ≡ true)
 
 -- two ranges that hold one key meet
 abbrev pub HoldersMeet : Type 0

@@ -1,5 +1,5 @@
 // Laws on containing ranges.
-ghost use Rattle.ranges.specs.ContainingLaws.{SharedIsLongest, BindRangeIsLeast, BindRangeIsShared, BindRangeGivesSlots, ContainingHolds, ContainingIsRange, ContainingIsExact, OnlyIsGiven};
+ghost use Rattle.ranges.specs.ContainingLaws.{SharedIsLongest, BindRangeIsLeast, BindRangeIsShared, BindRangeGivesSlots, ContainingHolds, ContainingIsRange, ContainingIsExact, ContainingBeginsWithKey, OnlyHasPlaces, OnlyIsGiven};
 
 /// The shared beginning of a range is the longest beginning of its first bound that ends with `|` and whose range holds
 /// both bounds.
@@ -37,6 +37,17 @@ pub fn containing_is_range()
 /// there is none only where no such key has at most 512 bytes.
 pub fn containing_is_exact()
     ensures { ContainingIsExact }
+{}
+
+/// The first bound of a containing range is a key, which it holds; so there is a range exactly where the segments of some
+/// key of at most 512 bytes begin with the fixed texts.
+pub fn containing_begins_with_key()
+    ensures { ContainingBeginsWithKey }
+{}
+
+/// The slots of one pattern alone have 16 places.
+pub fn only_has_places()
+    ensures { OnlyHasPlaces }
 {}
 
 /// The slots of one pattern alone have the given text at each place that occurs among the pattern's slots, and none at

@@ -1,9 +1,14 @@
 // Laws on ranges.
-ghost use Rattle.ranges.specs.RangeLaws.{CutIsCommonPart, HoldersMeet, MeetIsShared, CutIsRange, PrefixRangeHolds, PrefixRangeIsRange, JustHolds, JustIsRange};
+ghost use Rattle.ranges.specs.RangeLaws.{CutIsCommonPart, CutIsOpen, HoldersMeet, MeetIsShared, CutIsRange, PrefixRangeHolds, PrefixRangeIsRange, JustHolds, JustIsRange};
 
 /// The common part of two ranges holds the keys that both hold; there is none only where they hold none in common.
 pub fn cut_is_common_part()
     ensures { CutIsCommonPart }
+{}
+
+/// The common part of two ranges is not empty; so there is one exactly where they hold a key in common.
+pub fn cut_is_open()
+    ensures { CutIsOpen }
 {}
 
 /// Two ranges that hold one key meet.

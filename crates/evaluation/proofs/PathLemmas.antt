@@ -125,6 +125,7 @@ record WentOn (ps : List (ℕ × Source)) (table : Table) (front : List Text) (s
   path : IsPath ps table more need.slots
   part : IsPartOf slots need.slots
   least : (other : Slots) → IsPath ps table more other → IsPartOf slots other → IsPartOf need.slots other
+  places : length need.slots ≡ 16
   next : IsNext ps more need
 
 -- the needs from a path on went on from it
@@ -144,6 +145,7 @@ went_after p ps table by slots pair need (Some next) pattern long stands e all h
       path = (stands, fits_more p.1.pattern pair.0 next need.slots rest.part bound.takes, rest.path);
       part = part_trans slots next need.slots bound.keeps rest.part;
       least = λ other path part. rest.least other path.2 (bound.least other path.1 part);
+      places = rest.places;
       next = rest.next;
     }
 
@@ -157,6 +159,7 @@ went_over p ps table by slots need (Some range) pattern long sorted e all (inl q
   path = tt;
   part = part_itself slots;
   least = λ other path part. part;
+  places = long;
   next = (refl, e);
 }
 went_over p ps table by slots need (Some range) pattern long sorted e all (inr h) =
@@ -180,6 +183,7 @@ came_by_path j slots table need ok long sorted h =
       path = subst (λ keys. IsPath (placed_sources j) table keys need.slots) (sym w.by) w.path;
       part = w.part;
       least = λ other path part. w.least other (subst (λ keys. IsPath (placed_sources j) table keys other) w.by path) part;
+      places = w.places;
       next = subst (λ keys. IsNext (placed_sources j) keys need) (sym w.by) w.next;
     }
 

@@ -6,6 +6,7 @@ use Rattle.semantics.specs.Joins.{check, copy, pull, Join}
 use Rattle.ranges.specs.Containing.{bind_range, containing}
 use Rattle.evaluation.specs.Trees.{tree}
 
+-- the range of two bounds
 abbrev between : Text → Text → Range
 between low high = record { low = low; high = high }
 
@@ -92,6 +93,7 @@ timeline = record {
   names = codes "u" ∷ codes "k" ∷ codes "p" ∷ [];
 }
 
+-- a post, and who follows whom
 abbrev stored : Table
 stored = (codes "p|bob|100", codes "Hi") ∷ (codes "s|ann|bob", codes "1") ∷ (codes "s|ann|cat", codes "1") ∷ (codes "s|liz|bob", codes "1") ∷ []
 

@@ -35,6 +35,17 @@ fn a_line_may_be_too_long_by_one_byte(rt: HostRuntime) -> Result<(), Fail> {
     given.gives(&rt, "longer", Status::LONG, "[\"error\",\"long\"]\n")
 }
 
+#[test]
+fn a_longest_line_may_come_byte_by_byte(rt: HostRuntime) -> Result<(), Fail> {
+    let get = r#"["get","k|a"]"#;
+    let line = around(rt.alloc(), get, ' ', LIMIT - 13, "\n")?;
+    let given = Given::run(line.as_bytes()).in_bytes();
+    given.gives(&rt, "longest", Status::DONE, "[\"none\",0]\n")?;
+    let line = around(rt.alloc(), get, ' ', LIMIT - 12, "\n")?;
+    let given = Given::run(line.as_bytes()).in_bytes();
+    given.gives(&rt, "longer", Status::LONG, "[\"error\",\"long\"]\n")
+}
+
 /// 58,254 puts of 18 bytes each, byte 10 counted, which are 4 bytes less than the longest line, and spaces in the last one.
 fn puts(alloc: Global, spaces: usize) -> Result<String, AllocError> {
     let put = r#"["put","k|a","1"]"#;

@@ -11,3 +11,4 @@ pub mod PlacedLemmas
 pub mod PathLemmas
 pub mod GoesOnLemmas
 pub mod Computes
+pub mod ContributionLemmas

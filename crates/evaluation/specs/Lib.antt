@@ -4,3 +4,5 @@ pub mod TreeLaws
 pub mod ChangeLaws
 pub mod PathLaws
 pub mod Worked
+pub mod Contributions
+pub mod ContributionLaws

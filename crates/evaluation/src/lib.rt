@@ -5,6 +5,7 @@
 #![tactic(auto)]
 
 pub mod change_laws;
+pub mod contribution_laws;
 pub mod path_laws;
 pub mod tree_laws;
 pub mod worked;

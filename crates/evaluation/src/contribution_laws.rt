@@ -1,9 +1,9 @@
 // Laws on what is contributed to an aggregate.
-ghost use Rattle.evaluation.specs.ContributionLaws.{ListedAreContributions, FollowedAreListed, NeedsFixContributions};
+ghost use Rattle.evaluation.specs.ContributionLaws.{ListedAreMatches, FollowedAreListed, NeedsFixContributions};
 
-/// What is listed for the asked keys of an aggregate is what its matches give to them, one by one.
-pub fn listed_are_contributions()
-    ensures { ListedAreContributions }
+/// What is listed for the asked keys of an aggregate is what its matches contribute to them, one by one.
+pub fn listed_are_matches()
+    ensures { ListedAreMatches }
 {}
 
 /// The pairs of the value source's containing range alone give what is listed.

@@ -3,7 +3,8 @@ use Rattle.std.specs.Prelude.{⊤}
 use Rattle.semantics.specs.Patterns.{no_slots}
 use Rattle.ranges.specs.Containing.{bind_range, containing}
 use Rattle.evaluation.specs.Trees.{tree}
+use Rattle.evaluation.specs.Contributions.{listed_contributions}
 
 unfoldable pub definitions_on_literals : ⊤
-unfolding no_slots bind_range containing tree
+unfolding no_slots bind_range containing tree listed_contributions
 definitions_on_literals = tt

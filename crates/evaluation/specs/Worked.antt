@@ -1,10 +1,11 @@
--- Worked rows: the slots that ranges share, the containing ranges of a source, and the needs of a join, each written out.
-use Rattle.std.specs.Prelude.{◌≡◌, [], ◌∷◌, ◌++◌, slice_set, Some, None, codes}
+-- Worked rows: the slots that ranges share, the containing ranges of a source, the needs of a join, and what the pairs of a table contribute to a total, each written out.
+use Rattle.std.specs.Prelude.{◌≡◌, [], ◌∷◌, ◌++◌, slice_set, Some, None, option_map, codes}
 use Rattle.semantics.specs.Texts.{Text, Table, Range}
 use Rattle.semantics.specs.Patterns.{literal, slot, Pattern, Slots, no_slots}
-use Rattle.semantics.specs.Joins.{check, copy, pull, Join}
+use Rattle.semantics.specs.Joins.{check, copy, sum, pull, Join}
 use Rattle.ranges.specs.Containing.{bind_range, containing}
 use Rattle.evaluation.specs.Trees.{tree}
+use Rattle.evaluation.specs.Contributions.{Contribution, listed_contributions}
 
 -- the range of two bounds
 abbrev between : Text → Text → Range
@@ -108,3 +109,31 @@ TreeOfTimeline = tree timeline (first_is (codes "ann")) stored
     ∷ record { source = 0; slots = ann_and (codes "bob"); by = codes "s|ann|bob" ∷ []; range = between (codes "p|bob|") (codes "p|bob}") }
     ∷ record { source = 0; slots = ann_and (codes "cat"); by = codes "s|ann|cat" ∷ []; range = between (codes "p|cat|") (codes "p|cat}") }
     ∷ []
+
+-- ---- what is contributed to an aggregate
+
+-- `total|<a> = sum n|<a>|<i>`
+abbrev totals : Join
+totals = record {
+  output = literal (codes "total") ∷ slot 0 0 ∷ [];
+  kind = pull;
+  sources = record { operator = sum; pattern = literal (codes "n") ∷ slot 0 0 ∷ slot 1 0 ∷ [] } ∷ [];
+  names = codes "a" ∷ codes "i" ∷ [];
+}
+
+-- numbers of x, of which one has a needless zero, what is no number, and a number of y
+abbrev numbers : Table
+numbers = (codes "n|x|1", codes "5") ∷ (codes "n|x|2", codes "-7") ∷ (codes "n|x|3", codes "05") ∷ (codes "n|x|4", codes "x") ∷ (codes "n|y|1", codes "5") ∷ []
+
+-- the range of x's total alone
+abbrev total_of_x : Range
+total_of_x = between (codes "total|x") (codes "total|x" ++ 0 ∷ [])
+
+-- what a pair gives to x's total
+abbrev to_x : Text → Text → Contribution
+to_x key value = record { output = codes "total|x"; source = key; value = value }
+
+-- under the slots that the range shares each pair of x contributes, with its key, whether its value is a number or not, and no pair of y
+abbrev pub ListedOfTotal : Type 0
+ListedOfTotal = option_map (λ slots. listed_contributions totals slots total_of_x numbers) (bind_range totals.output total_of_x)
+    ≡ Some (to_x (codes "n|x|1") (codes "5") ∷ to_x (codes "n|x|2") (codes "-7") ∷ to_x (codes "n|x|3") (codes "05") ∷ to_x (codes "n|x|4") (codes "x") ∷ [])

@@ -1,5 +1,6 @@
-// Worked rows: the slots that ranges share, the containing ranges of a source, and the needs of a join.
-ghost use Rattle.evaluation.specs.Worked.{WholeTable, WholeSegment, PartOfSegment, WithinSegment, OtherTable, MoreSegments, EmptySegment, OtherWidth, ContainingTable, ContainingBeginning, ContainingGap, ContainingKey, TreeOfTimeline};
+// Worked rows: the slots that ranges share, the containing ranges of a source, the needs of a join, and what the pairs
+// of a table contribute to a total.
+ghost use Rattle.evaluation.specs.Worked.{WholeTable, WholeSegment, PartOfSegment, WithinSegment, OtherTable, MoreSegments, EmptySegment, OtherWidth, ContainingTable, ContainingBeginning, ContainingGap, ContainingKey, TreeOfTimeline, ListedOfTotal};
 
 /// The keys of a whole table share no text.
 pub fn whole_table()
@@ -65,4 +66,9 @@ pub fn containing_key()
 /// names.
 pub fn tree_of_timeline()
     ensures { TreeOfTimeline }
+{}
+
+/// To a total each pair of its segment contributes, whether its value is a number or not, and no other.
+pub fn listed_of_total()
+    ensures { ListedOfTotal }
 {}

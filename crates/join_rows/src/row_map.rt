@@ -1,6 +1,7 @@
 // Rows in the order of their keys.
-ghost use Rattle.std.specs.Prelude.{◌≡◌, [], not, is_some, length, IfOk, OnOk, OnErr};
-ghost use Rattle.semantics.specs.Texts.{with_pair, without_key, pairs_where, pairs_within};
+ghost use Rattle.std.specs.Prelude.{◌≡◌, [], not, is_some, length, IfOk, OnOk, OnErr, IsTrue};
+ghost use Rattle.std.specs.FinMap.Entries.{is_sorted};
+ghost use Rattle.semantics.specs.Texts.{text_cmp, with_pair, without_key, pairs_where, pairs_within};
 ghost use Rattle.semantics.specs.Patterns.{bind};
 
 use join_types::Pair;
@@ -91,9 +92,10 @@ impl RowMap {
         Ok(pairs)
     }
 
-    /// The number of the pairs.
+    /// The number of the pairs, whose keys ascend.
     pub fn len(&self) -> usize
-        ensures { result ≡ length self.now }
+        ensures number { result ≡ length self.now }
+        ensures ascending { IsTrue (is_sorted text_cmp self.now) }
     {
         self.rows.len()
     }

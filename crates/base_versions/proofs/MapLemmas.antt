@@ -10,7 +10,7 @@ use Rattle.std.specs.declared.ops.Bound.TheVariants.{Included, Excluded}
 use Rattle.semantics.specs.Texts.{Text, same, text_cmp, is_key, Range, within}
 use Rattle.semantics.proofs.PieceLemmas.{equal_by_same}
 use Rattle.semantics.proofs.TableLemmas.{same_is_tie}
-use Rattle.ranges.proofs.OrderLemmas.{up_to-not_below}
+use Rattle.key_ranges.proofs.OrderLemmas.{up_to-not_below}
 use Rattle.base_versions.specs.declared.versions.Version.{Version}
 use Rattle.base_versions.specs.Versions.{Tracks, versions_at, AddsVersion, KeepsVersions}
 

@@ -15,7 +15,7 @@ use Rattle.semantics.specs.Texts.{Text, text_cmp, Table, value_at, table_of, is_
 use Rattle.semantics.specs.Histories.{History, base_of}
 use Rattle.semantics.proofs.TableLemmas.{IsAscending, text_total, tie_itself, equal_by_tie, same_tables, ascending-pairs_where, value_at-pairs_where}
 use Rattle.semantics.proofs.BaseLemmas.{ascending-base_of}
-use Rattle.ranges.proofs.RangeLemmas.{within_table}
+use Rattle.key_ranges.proofs.RangeLemmas.{within_table}
 use Rattle.base_versions.specs.declared.versions.Version.{Version}
 use Rattle.base_versions.specs.Versions.{AscendFrom, AllAscend, Tracks, versions_at, versions_of, value_in, pairs_in}
 use Rattle.base_versions.specs.Kept.{TableKept, Kept, table_in, has_table, StandsFor}

@@ -1,10 +1,10 @@
 // The changes of one table.
 ghost use Rattle.std.specs.Prelude.{◌≡◌, IfOk, filter};
-ghost use Rattle.evaluation.specs.Changes.{in_order};
+ghost use Rattle.range_evaluation.specs.Changes.{in_order};
 ghost use Rattle.base_versions.specs.Changes.{Ascend, is_between, keys_within};
 
 use key_space::{Key, Range};
-use memory::OutOfMemory;
+use out_of_memory::OutOfMemory;
 use std::alloc::Global;
 use std::collections::BTreeSet;
 

@@ -11,8 +11,8 @@ ghost use Rattle.base_versions.specs.Kept.{empty_table};
 use crate::changes::{Change, between, keys_in_order};
 use crate::versions::{Version, Versions};
 use join_types::Pair;
-use key_space::{Key, Place, Range, Value};
-use memory::OutOfMemory;
+use key_space::{Key, KeyBound, Range, Value};
+use out_of_memory::OutOfMemory;
 use std::alloc::Global;
 use std::collections::{BTreeMap, btree_map};
 use std::marker::Model;
@@ -21,7 +21,7 @@ use std::ops::Bound;
 /// The versions of each key of one table, and the table's changes in order of position.
 #[derive(Debug, Drop)]
 pub struct TableVersions {
-    tracks: BTreeMap<Place, Versions>,
+    tracks: BTreeMap<KeyBound, Versions>,
     changes: Vec<Change>,
 }
 
@@ -117,7 +117,7 @@ impl TableVersions {
 fn listed(
     alloc: Global,
     p: u64,
-    tracks: btree_map::Range<'_, Place, Versions>,
+    tracks: btree_map::Range<'_, KeyBound, Versions>,
 ) -> Result<Vec<Pair>, OutOfMemory>
     requires { AllByRecursion (λ track. is_key track.0 ≡ true) tracks }
     ensures { AllAscend tracks.entry → IfOk result (λ pairs. pairs.items ≡ pairs_in p tracks.entry) }
@@ -136,7 +136,7 @@ fn listed(
 /// The key has one version more, the last. On `OutOfMemory` it has none more.
 fn add_version(
     alloc: Global,
-    tracks: &mut BTreeMap<Place, Versions>,
+    tracks: &mut BTreeMap<KeyBound, Versions>,
     key: &Key,
     version: Version,
 ) -> Result<(), OutOfMemory>

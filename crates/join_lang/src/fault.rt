@@ -2,7 +2,7 @@
 ghost use Rattle.std.specs.Prelude.{◌≡◌};
 ghost use Rattle.join_lang.specs.declared.fault.ParseFault.TheVariants.{OutOfMemory as NoMemory};
 
-use memory::OutOfMemory;
+use out_of_memory::OutOfMemory;
 use std::alloc::{AllocError, AllocFailed};
 use thiserror::Error;
 

@@ -5,12 +5,12 @@ ghost use Rattle.semantics.specs.Texts.{same};
 ghost use Rattle.protocol.specs.JoinText.{place_among};
 ghost use Rattle.join_lang.specs.Readings.{Finds};
 
-use memory::OutOfMemory;
+use out_of_memory::OutOfMemory;
 use std::alloc::Global;
 use std::marker::Model;
 
 /// The most names of one join.
-pub const MOST_NAMES: usize = 16;
+pub const MAX_NAMES: usize = 16;
 
 /// The names so far, at most 16.
 #[derive(Drop)]
@@ -52,7 +52,7 @@ impl Names {
             return Ok(Some(place as u8));
         }
         let place = self.list.len();
-        if place >= MOST_NAMES {
+        if place >= MAX_NAMES {
             return Ok(None);
         }
         self.list.push(String::from_str(self.alloc, name)?)?;

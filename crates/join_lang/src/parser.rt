@@ -9,7 +9,7 @@ ghost use Rattle.join_lang.specs.Steps.{join_of_output};
 use crate::fault::ParseFault;
 use crate::names::Names;
 use crate::patterns::read_pattern;
-use crate::tokens::{MOST_TEXT_BYTES, Tokens, Word};
+use crate::tokens::{MAX_TEXT_BYTES, Tokens, Word};
 use join_types::{Join, JoinSource, Kind, Op};
 use key_pattern::Pattern;
 use std::alloc::Global;
@@ -145,10 +145,8 @@ pub fn parse(alloc: Global, text: &str) -> Result<Join, ParseFault>
     ensures ok { IfOk result (λ join. read_join text.now ≡ Ok join) }
     ensures fault { IfErr result (IsFaultOf (read_join text.now)) }
 {
-    if text.len() > MOST_TEXT_BYTES {
-        return Err(ParseFault::Syntax {
-            at: MOST_TEXT_BYTES,
-        });
+    if text.len() > MAX_TEXT_BYTES {
+        return Err(ParseFault::Syntax { at: MAX_TEXT_BYTES });
     }
     read_tokens(alloc, text.len(), Tokens::of(text))
 }

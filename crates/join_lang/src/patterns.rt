@@ -10,11 +10,11 @@ use crate::names::Names;
 use crate::slots::read_slot;
 use key_pattern::segment::is_literal;
 use key_pattern::{Pattern, Segment};
-use memory::OutOfMemory;
+use out_of_memory::OutOfMemory;
 use std::alloc::Global;
 
 /// The most bytes of a pattern token.
-pub const MOST_PATTERN_BYTES: usize = 512;
+pub const MAX_PATTERN_BYTES: usize = 512;
 
 /// What stands between `<` and `>`, where the text begins and ends with them.
 fn body_of(text: &str) -> Option<&str>
@@ -78,7 +78,7 @@ pub fn read_pattern(
 ) -> Result<Option<Pattern>, OutOfMemory>
     ensures { IfOk result (λ found. Finds (read_pattern names.old token.now) found names.new) }
 {
-    if token.len() > MOST_PATTERN_BYTES {
+    if token.len() > MAX_PATTERN_BYTES {
         return Ok(None);
     }
     match read_segments(alloc, names, token)? {

@@ -7,7 +7,7 @@ ghost use Rattle.join_lang.specs.Printed.{kind_print, segments_print, sources_pr
 
 use join_types::{Join, JoinSource, Kind, Op};
 use key_pattern::{Pattern, Segment};
-use memory::OutOfMemory;
+use out_of_memory::OutOfMemory;
 use std::alloc::Global;
 
 /// The word of an operator.

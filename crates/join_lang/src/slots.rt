@@ -8,12 +8,12 @@ ghost use Rattle.join_lang.specs.Readings.{Finds};
 use crate::cut::cut_at;
 use crate::names::Names;
 use key_pattern::Segment;
-use key_pattern::segment::MOST_WIDTH;
+use key_pattern::segment::MAX_WIDTH;
 use key_space::decimal::is_positive;
-use memory::OutOfMemory;
+use out_of_memory::OutOfMemory;
 
 /// The most characters of a slot's name.
-pub const MOST_NAME_BYTES: usize = 32;
+pub const MAX_NAME_BYTES: usize = 32;
 
 /// Whether a byte may stand in a slot's name: a letter a to z or A to Z, a digit, or `_`.
 fn is_name_byte(byte: u8) -> bool
@@ -36,7 +36,7 @@ fn are_name_bytes(bytes: &[u8]) -> bool
 fn is_name(text: &str) -> bool
     ensures { result ≡ is_name text.now }
 {
-    1 <= text.len() && text.len() <= MOST_NAME_BYTES && are_name_bytes(text.as_bytes())
+    1 <= text.len() && text.len() <= MAX_NAME_BYTES && are_name_bytes(text.as_bytes())
 }
 
 /// The width that a text writes, a decimal without leading zeros from 1 to 64. Linear in the text.
@@ -50,7 +50,7 @@ fn width_of(text: &str) -> Option<u8>
     let mut width = 0u16;
     for byte in bytes {
         width = 10 * width + u16::from(*byte - b'0');
-        if width > u16::from(MOST_WIDTH) {
+        if width > u16::from(MAX_WIDTH) {
             return None;
         }
     }

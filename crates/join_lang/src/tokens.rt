@@ -8,7 +8,7 @@ use crate::cut::cut_at;
 use std::marker::Model;
 
 /// The most bytes of a join's text.
-pub const MOST_TEXT_BYTES: usize = 4096;
+pub const MAX_TEXT_BYTES: usize = 4096;
 
 /// A token: the offset of its first byte, and its text.
 #[derive(Clone, Copy)]

@@ -6,7 +6,7 @@ use Rattle.std.proofs.lemmas.Option.{none-some, same_Some, slice_get_within, get
 use Rattle.semantics.specs.Texts.{Text, Table, pairs_where}
 use Rattle.semantics.specs.Patterns.{Pattern, fits}
 use Rattle.semantics.specs.Joins.{Join}
-use Rattle.semantics.specs.Histories.{Standing, is_computed}
+use Rattle.semantics.specs.Histories.{DeclaredJoin, is_computed}
 
 -- what follows the first elements begins with the element at their number
 pub drop_at_place : {X : Type 0} (xs : List X) (i : ℕ) (x : X) → slice_get xs i ≡ Some x → drop i xs ≡ x ∷ drop (i + 1) xs
@@ -33,7 +33,7 @@ pairs_where-all [] = refl
 pairs_where-all (e ∷ table) = ap (λ t. e ∷ t) (pairs_where-all table)
 
 -- what the output of a join at a place hides, and then those of the later ones
-hidden_more_at : (joins : List Standing) (i : ℕ) (s : Standing) (table new : Table) → slice_get joins i ≡ Some s →
+hidden_more_at : (joins : List DeclaredJoin) (i : ℕ) (s : DeclaredJoin) (table new : Table) → slice_get joins i ≡ Some s →
     new ≡ pairs_where (λ k. not (fits s.join.output k)) table →
     pairs_where (λ k. not (is_computed (drop (i + 1) joins) k)) new ≡ pairs_where (λ k. not (is_computed (drop i joins) k)) table
 hidden_more_at joins i s table new at is =
@@ -42,12 +42,12 @@ hidden_more_at joins i s table new at is =
     ∙ ap (λ js. pairs_where (λ k. not (is_computed js k)) table) (sym (drop_at_place joins i s at))
 
 -- what the output of the join at a place hides, and then those of the later ones
-pub hidden_more : (joins : List Standing) (i : ℕ) (j : Join) (p : Pattern) (table new : Table) → option_map (λ (s : Standing). s.join) (slice_get joins i) ≡ Some j →
+pub hidden_more : (joins : List DeclaredJoin) (i : ℕ) (j : Join) (p : Pattern) (table new : Table) → option_map (λ (s : DeclaredJoin). s.join) (slice_get joins i) ≡ Some j →
     p ≡ j.output → new ≡ pairs_where (λ k. not (fits p k)) table →
     pairs_where (λ k. not (is_computed (drop (i + 1) joins) k)) new ≡ pairs_where (λ k. not (is_computed (drop i joins) k)) table
 hidden_more joins i j p table new at same is = by (slice_get joins i) refl at
   where
-    by : (o : Option Standing) → slice_get joins i ≡ o → option_map (λ (s : Standing). s.join) o ≡ Some j →
+    by : (o : Option DeclaredJoin) → slice_get joins i ≡ o → option_map (λ (s : DeclaredJoin). s.join) o ≡ Some j →
         pairs_where (λ k. not (is_computed (drop (i + 1) joins) k)) new ≡ pairs_where (λ k. not (is_computed (drop i joins) k)) table
     by None there e = absurd (none-some j e)
     by (Some s) there e =
@@ -55,5 +55,5 @@ hidden_more joins i j p table new at same is = by (slice_get joins i) refl at
         (is ∙ ap (λ (q : Pattern). pairs_where (λ k. not (fits q k)) table) (same ∙ sym (ap (λ (x : Join). x.output) (same_Some s.join j e))))
 
 -- past the last join nothing is hidden
-pub hidden_all : (joins : List Standing) (i : ℕ) (table : Table) → length joins ≤ i → pairs_where (λ k. not (is_computed (drop i joins) k)) table ≡ table
+pub hidden_all : (joins : List DeclaredJoin) (i : ℕ) (table : Table) → length joins ≤ i → pairs_where (λ k. not (is_computed (drop i joins) k)) table ≡ table
 hidden_all joins i table past = ap (λ js. pairs_where (λ k. not (is_computed js k)) table) (drop_all i joins past) ∙ pairs_where-all table

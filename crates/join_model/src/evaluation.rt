@@ -10,7 +10,7 @@ use crate::replay::{Left, replay};
 use join_output::Table;
 use join_types::{Entry, Pair};
 use key_space::{Key, Range, Value};
-use memory::OutOfMemory;
+use out_of_memory::OutOfMemory;
 use std::alloc::Global;
 
 /// The number of ranks that a join may have, from 0.

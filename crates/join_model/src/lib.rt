@@ -1,6 +1,6 @@
 // The state after a history by plain evaluation: slow, and exact.
 //
-// It stands on `memory`, `key_space`, `join_types`, `join_set` and `join_output` and, for its definitions, on `semantics`.
+// It stands on `out_of_memory`, `key_space`, `join_types`, `join_set` and `join_output` and, for its definitions, on `semantics`.
 // The layers above may use `state`, `afresh`, `value_afresh` and, of what stands below a rank, `state_below` and
 // `afresh_below`, and the names of the types below that stand here again:
 // contracts see a history as the list of its entries, and the state as the list of its pairs, keys ascending.

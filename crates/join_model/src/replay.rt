@@ -8,7 +8,7 @@ ghost use Rattle.join_model.specs.Replays.{IsLeftBy};
 use join_output::Table;
 use join_set::Standing;
 use join_types::{Entry, Write};
-use memory::OutOfMemory;
+use out_of_memory::OutOfMemory;
 use std::alloc::Global;
 
 /// What a history leaves.

@@ -1,11 +1,11 @@
 // Canonical decimals: the number that a value writes, and the value that writes a number.
 ghost use Rattle.std.specs.Prelude.{◌≡◌, ◌^◌, ◌≤◌, IfOk, SomeIff};
 ghost use Rattle.std.specs.Fmt.{signed_decimal};
-ghost use Rattle.semantics.specs.Outputs.{whole, unsigned_whole, negative_whole, digits_value};
+ghost use Rattle.semantics.specs.Outputs.{canonical_integer, unsigned_integer, negative_integer, digits_value};
 
 use key_space::decimal::is_positive;
 use key_space::{Value, ValueFault};
-use memory::OutOfMemory;
+use out_of_memory::OutOfMemory;
 use std::alloc::Global;
 
 /// 2^63, the first number above those within 64 bits with a sign.
@@ -27,8 +27,8 @@ fn digits_value(digits: &[u8]) -> Option<u64>
 }
 
 /// The whole number that a text without a sign writes.
-fn unsigned_whole(text: &[u8]) -> Option<i64>
-    ensures { result ≡ unsigned_whole text.now }
+fn unsigned_integer(text: &[u8]) -> Option<i64>
+    ensures { result ≡ unsigned_integer text.now }
 {
     if text != b"0".as_slice() && !is_positive(text) {
         return None;
@@ -40,8 +40,8 @@ fn unsigned_whole(text: &[u8]) -> Option<i64>
 }
 
 /// The whole number that stands behind a minus sign.
-fn negative_whole(digits: &[u8]) -> Option<i64>
-    ensures { result ≡ negative_whole digits.now }
+fn negative_integer(digits: &[u8]) -> Option<i64>
+    ensures { result ≡ negative_integer digits.now }
 {
     if !is_positive(digits) {
         return None;
@@ -54,18 +54,18 @@ fn negative_whole(digits: &[u8]) -> Option<i64>
 
 /// The number of which the value is the canonical decimal, from -2^63 to 2^63 - 1; none where it is none's, as `05`,
 /// `-0`, `+5` or a number beyond. Linear in the text.
-#[tactic(auto, unfolding(semantics::specs::Outputs::whole))]
+#[tactic(auto, unfolding(semantics::specs::Outputs::canonical_integer))]
 pub fn whole(value: &Value) -> Option<i64>
-    ensures { result ≡ whole value.now }
+    ensures { result ≡ canonical_integer value.now }
 {
     let text = value.text().as_bytes();
     match text.split_first() {
         None => None,
         Some((first, rest)) => {
             if *first == b'-' {
-                negative_whole(rest)
+                negative_integer(rest)
             } else {
-                unsigned_whole(text)
+                unsigned_integer(text)
             }
         }
     }

@@ -11,7 +11,7 @@ use Rattle.semantics.specs.Texts.{Text, same, text_cmp, Table, Range, value_at, 
 use Rattle.semantics.proofs.PieceLemmas.{equal_by_same, same_by_equal}
 use Rattle.semantics.proofs.TableLemmas.{IsAscending, same_is_tie, equal_by_tie, ascending-with_pair, ascending-pairs_where, same_tables}
 use Rattle.semantics.proofs.MergedLemmas.{ascending-tail, ascending-without_key, value_at-without_key, value_at-first_again}
-use Rattle.ranges.proofs.OrderLemmas.{up_to-not_below}
+use Rattle.key_ranges.proofs.OrderLemmas.{up_to-not_below}
 use Rattle.join_rows.specs.Placed.{PlacedPairs, pairs_of, ArePlaced}
 
 -- each pair stands at the place of its key

@@ -6,8 +6,8 @@ ghost use Rattle.semantics.specs.Patterns.{bind};
 
 use join_types::Pair;
 use key_pattern::{Pattern, Slots};
-use key_space::{Key, Place, Range, Value};
-use memory::OutOfMemory;
+use key_space::{Key, KeyBound, Range, Value};
+use out_of_memory::OutOfMemory;
 use std::alloc::Global;
 use std::collections::BTreeMap;
 use std::marker::Model;
@@ -16,7 +16,7 @@ use std::ops::Bound;
 /// Pairs by the places of their keys, ascending.
 #[derive(Debug, Drop)]
 pub struct RowMap {
-    rows: BTreeMap<Place, Pair>,
+    rows: BTreeMap<KeyBound, Pair>,
 }
 
 impl Model for RowMap {

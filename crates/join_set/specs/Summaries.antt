@@ -1,12 +1,12 @@
 -- What is kept of a history, which histories it stands for, and the verdict from it alone.
 use Rattle.std.specs.Prelude.{◌≡◌, ℕ, ◌+◌, ◌-◌, ◌^◌, List, [], ◌∷◌, length, nat_le, Bool, ◌||◌, if◌then◌else◌, Option, Some, None}
 use Rattle.std.specs.List.{list_any}
-use Rattle.semantics.specs.Histories.{Write, put, remove, declare, History, Standing, joins_of, joins_after}
+use Rattle.semantics.specs.Histories.{Write, put, remove, declare, History, DeclaredJoin, joins_of, joins_after}
 use Rattle.semantics.specs.Verdicts.{Cause, full, late, is_change, first_cause, computed_cause, join_cause}
 
 -- the joins that stand, the number of entries, and whether a put or remove has entered
 pub record Summary : Type 0 where
-  pub joins : List Standing
+  pub joins : List DeclaredJoin
   pub length : ℕ
   pub changed : Bool
 

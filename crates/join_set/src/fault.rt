@@ -3,7 +3,7 @@ ghost use Rattle.std.specs.Prelude.{◌≡◌};
 ghost use Rattle.join_set.specs.declared.fault.AddFault.TheVariants.{OutOfMemory as NoMemory};
 
 use join_types::Positions;
-use memory::OutOfMemory;
+use out_of_memory::OutOfMemory;
 use std::alloc::AllocFailed;
 use thiserror::Error;
 

@@ -7,7 +7,7 @@ ghost use Rattle.join_set.specs.Readings.{edges_from};
 use crate::rules::reads_output;
 use crate::stands::Stands;
 use join_types::Join;
-use memory::OutOfMemory;
+use out_of_memory::OutOfMemory;
 use std::alloc::Global;
 
 /// The edges from the reader with this number to those joins that it reads, the new one last, are added.

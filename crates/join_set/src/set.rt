@@ -11,7 +11,7 @@ use crate::stands::{Stands, copy_all, owner};
 use crate::weighing::weigh;
 use join_types::Join;
 use key_space::Key;
-use memory::OutOfMemory;
+use out_of_memory::OutOfMemory;
 use std::alloc::Global;
 use std::marker::Model;
 
@@ -30,7 +30,7 @@ impl Model for JoinSet {
     ghost use Rattle.semantics.specs.Histories as plain;
     ghost use Rattle.join_set.specs.Sets.{IsRanked};
 
-    ghost Value = { List plain.Standing };
+    ghost Value = { List plain.DeclaredJoin };
 
     ghost view = { λ s. s.joins.items };
 

@@ -12,7 +12,7 @@ use crate::fault::AddFault;
 use crate::set::JoinSet;
 use join_types::{Cause, Join, Write};
 use key_space::Key;
-use memory::OutOfMemory;
+use out_of_memory::OutOfMemory;
 use std::alloc::Global;
 use std::marker::Model;
 

@@ -12,15 +12,15 @@ use crate::reading::edges;
 use crate::rules::{keeps_slot_rule, keeps_source_rule};
 use crate::stands::{Stands, clash};
 use join_types::{Join, Positions};
-use memory::OutOfMemory;
+use out_of_memory::OutOfMemory;
 use rank_order::{Ranked, ranks};
 use std::alloc::Global;
 
 /// The greatest rank of a join.
-pub const MOST_RANK: u64 = 7;
+pub const MAX_RANK: u64 = 7;
 
 /// The most joins of a set.
-pub const MOST_JOINS: usize = 64;
+pub const MAX_JOINS: usize = 64;
 
 /// The position of the join with the number, of which the last is that of the new join.
 fn position(joins: &[Stands], at: u64, number: usize) -> u64
@@ -72,7 +72,7 @@ fn rank_with(alloc: Global, joins: &[Stands], at: u64, join: &Join) -> Result<Ve
 fn are_deep(ranks: &[u64]) -> bool
     ensures { result ≡ list_any (nat_lt 7) ranks.now }
 {
-    ranks.iter().any(|rank| *rank > MOST_RANK)
+    ranks.iter().any(|rank| *rank > MAX_RANK)
 }
 
 /// The ranks of the set with the new join, or why the join may not be added: the first that holds of the rules on slots
@@ -96,7 +96,7 @@ pub fn weigh(alloc: Global, joins: &[Stands], at: u64, join: &Join) -> Result<Ve
     if are_deep(ranks.as_slice()) {
         return Err(AddFault::Deep);
     }
-    if joins.len() >= MOST_JOINS {
+    if joins.len() >= MAX_JOINS {
         return Err(AddFault::Many);
     }
     Ok(ranks)

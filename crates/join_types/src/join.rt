@@ -4,7 +4,7 @@ ghost use Rattle.semantics.specs.Joins.{is_check, is_aggregate};
 ghost use Rattle.join_types.specs.Plain.{plain_op};
 
 use key_pattern::Pattern;
-use memory::OutOfMemory;
+use out_of_memory::OutOfMemory;
 use std::alloc::Global;
 use std::marker::Model;
 

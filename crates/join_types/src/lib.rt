@@ -1,6 +1,6 @@
 // Joins, writes, entries and pairs as values.
 //
-// It stands on `memory`, `key_space`, `key_pattern` and, for its definitions, on `semantics`. The layers above may use
+// It stands on `out_of_memory`, `key_space`, `key_pattern` and, for its definitions, on `semantics`. The layers above may use
 // all that is public here: contracts see each type as the plain data of the definitions.
 #![tactic(auto)]
 

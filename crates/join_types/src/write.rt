@@ -4,7 +4,7 @@ ghost use Rattle.join_types.specs.Writes.{plain_write};
 
 use crate::join::Join;
 use key_space::{Key, Value};
-use memory::OutOfMemory;
+use out_of_memory::OutOfMemory;
 use std::alloc::Global;
 use std::marker::Model;
 

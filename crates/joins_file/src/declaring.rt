@@ -9,7 +9,7 @@ use crate::lines::{is_skipped, split_first_line};
 use join_lang::{ParseFault, parse};
 use join_set::Standing;
 use join_types::{Join, Write};
-use memory::OutOfMemory;
+use out_of_memory::OutOfMemory;
 use request_codec::cause_name;
 use std::alloc::Global;
 

@@ -2,7 +2,7 @@
 //
 // It stands on `join_lang`, which reads and prints the text of joins, on `join_types` for what a line declares, on
 // `join_set`, which judges each declaration, on `request_codec` for the ends of lines, the names of causes and rows, on
-// `memory`, and, for its definitions, on `protocol` and `semantics`. The layers above may declare the joins of a file with
+// `out_of_memory`, and, for its definitions, on `protocol` and `semantics`. The layers above may declare the joins of a file with
 // `declare`, and write about one with `report`.
 #![tactic(auto)]
 

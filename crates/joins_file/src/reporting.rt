@@ -4,7 +4,7 @@ ghost use Rattle.protocol.specs.JoinsFile.{check_text, file_history};
 
 use crate::declaring::{Declared, declare};
 use crate::rows::{join_rows, refused_row};
-use memory::OutOfMemory;
+use out_of_memory::OutOfMemory;
 use std::alloc::Global;
 
 /// What is written about a file of joins, and whether one of its lines is refused.

@@ -7,7 +7,7 @@ ghost use Rattle.joins_file.specs.Declarations.{plain_refusal};
 use crate::declaring::RefusedLine;
 use join_lang::print;
 use join_set::JoinSet;
-use memory::OutOfMemory;
+use out_of_memory::OutOfMemory;
 use request_codec::{number_value, text_value, write_row};
 use std::alloc::Global;
 

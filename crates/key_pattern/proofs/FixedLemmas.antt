@@ -7,10 +7,10 @@ use Rattle.std.proofs.lemmas.Option.{none-some, same_Some}
 use Rattle.std.proofs.lemmas.Result.{IfOk-weaker}
 use Rattle.semantics.specs.Texts.{Text, bar, Range}
 use Rattle.semantics.specs.Patterns.{Segment, literal, slot, Pattern, Slots, is_pattern, short}
-use Rattle.ranges.specs.Ranges.{just, prefix_range}
-use Rattle.ranges.specs.Containing.{fixed_texts, containing}
-use Rattle.ranges.specs.ContainingLaws.{HoldsFitting}
-use Rattle.ranges.proofs.ContainingLemmas.{containing_holds}
+use Rattle.key_ranges.specs.Ranges.{just, prefix_range}
+use Rattle.key_ranges.specs.Containing.{fixed_texts, containing}
+use Rattle.key_ranges.specs.ContainingLaws.{HoldsFitting}
+use Rattle.key_ranges.proofs.ContainingLemmas.{containing_holds}
 use Rattle.key_pattern.specs.Fixed.{fixed_text, AddsFixed}
 use Rattle.key_pattern.proofs.JoinedTexts.{joined_after, joined_nothing}
 use Rattle.key_pattern.proofs.WalkLemmas.{left_at}

@@ -7,11 +7,11 @@ use Rattle.std.proofs.lemmas.Bool.{and_from, and_right, or_from, or_parts, false
 use Rattle.semantics.specs.Texts.{Text, bar, brace, same, is_range, Range}
 use Rattle.semantics.specs.Patterns.{Pattern, Slots, no_slots, segments}
 use Rattle.semantics.proofs.PieceLemmas.{Lacks, pieces-append, pieces_lacking}
-use Rattle.ranges.specs.Ranges.{is_below, without_last, closed}
-use Rattle.ranges.specs.Containing.{barred_from, barred, holds_bounds, last_or_empty, shared_beginning, take_first, bind_range}
-use Rattle.ranges.proofs.OrderLemmas.{is_up_to, up_to_itself, up_to_trans, up_to_below}
-use Rattle.ranges.proofs.PrefixLemmas.{rest_of, without_last_push, closed_push, text_cmp-append, nothing_up_to, within-prefix_range}
-use Rattle.ranges.proofs.BeginningLemmas.{barred_from-append, shared_is_beginning, holds_bounds_is}
+use Rattle.key_ranges.specs.Ranges.{is_below, without_last, closed}
+use Rattle.key_ranges.specs.Containing.{barred_from, barred, holds_bounds, last_or_empty, shared_beginning, take_first, bind_range}
+use Rattle.key_ranges.proofs.OrderLemmas.{is_up_to, up_to_itself, up_to_trans, up_to_below}
+use Rattle.key_ranges.proofs.PrefixLemmas.{rest_of, without_last_push, closed_push, text_cmp-append, nothing_up_to, within-prefix_range}
+use Rattle.key_ranges.proofs.BeginningLemmas.{barred_from-append, shared_is_beginning, holds_bounds_is}
 use Rattle.key_space.specs.Parts.{ends_table}
 use Rattle.key_space.proofs.NameLemmas.{ends_after, ends_without}
 use Rattle.key_pattern.specs.Shared.{closed_segments, shared_segments}

@@ -8,7 +8,7 @@ use Rattle.semantics.specs.Texts.{Text, bar}
 use Rattle.semantics.specs.Patterns.{Segment, Pattern, Slots, is_segment, is_pattern, segments, segments_meet, taken, take_all, overlaps}
 use Rattle.semantics.proofs.PatternLemmas.{segments_of_pattern}
 use Rattle.semantics.proofs.PieceLemmas.{parts_of}
-use Rattle.ranges.specs.Containing.{take_first}
+use Rattle.key_ranges.specs.Containing.{take_first}
 use Rattle.key_pattern.specs.Plain.{plain_segment, plain_segments}
 use Rattle.key_pattern.specs.declared.segment.Segment as item
 

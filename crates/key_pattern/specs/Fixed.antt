@@ -4,7 +4,7 @@ use Rattle.std.specs.List.{join_with_byte}
 use Rattle.std.specs.String.{string_bytes}
 use Rattle.semantics.specs.Texts.{Text, bar}
 use Rattle.semantics.specs.Patterns.{Segment, literal, slot, Pattern, Slots, text_at}
-use Rattle.ranges.specs.Containing.{fixed_texts}
+use Rattle.key_ranges.specs.Containing.{fixed_texts}
 use Rattle.key_pattern.specs.declared.ranging.FixedText.{FixedText}
 
 -- the text of a literal, or that which the slots give

@@ -3,8 +3,8 @@ use Rattle.std.specs.Prelude.{◌≡◌, List, [], ◌∷◌, Option, MatchOptio
 use Rattle.std.specs.Ordering.{is_le}
 use Rattle.semantics.specs.Texts.{Text, text_cmp, has_bar}
 use Rattle.semantics.specs.Patterns.{segments}
-use Rattle.ranges.specs.Ranges.{without_last}
-use Rattle.ranges.specs.Containing.{shared_beginning}
+use Rattle.key_ranges.specs.Ranges.{without_last}
+use Rattle.key_ranges.specs.Containing.{shared_beginning}
 use Rattle.key_pattern.specs.declared.ranging.SharedSegment.{SharedSegment}
 
 -- the segments of a text that ends with `|`; the empty text has none

@@ -1,7 +1,7 @@
 // Patterns of keys: which keys fit, what slots they give, which key slots fill, what slots a range of keys shares, and
 // which range holds the keys that fit under slots.
 //
-// It stands on `memory`, `key_space` and, for its definitions, on `semantics` and `ranges`. The layers above may use all
+// It stands on `out_of_memory`, `key_space` and, for its definitions, on `semantics` and `key_ranges`. The layers above may use all
 // that is public here: contracts see a pattern as the list of its plain segments and slots as a list of 16 options of
 // texts.
 #![tactic(auto)]

@@ -9,7 +9,7 @@ ghost use Rattle.key_pattern.specs.Pieces.{CutsFirst, AddsSegment, Joins};
 
 use crate::segment::Segment;
 use crate::slots::Slots;
-use memory::OutOfMemory;
+use out_of_memory::OutOfMemory;
 use std::alloc::Global;
 
 /// The first segment of a text, and what is left after its `|`, if there is one. Linear in the segment.

@@ -8,14 +8,14 @@ ghost use Rattle.key_pattern.specs.Places.{AreSlots, CanFill};
 use crate::matching::{first_segment, join_texts, take};
 use crate::segment::Segment;
 use crate::slots::Slots;
-use key_space::table::MOST_TABLE_BYTES;
+use key_space::table::MAX_TABLE_BYTES;
 use key_space::{Key, KeyFault};
-use memory::OutOfMemory;
+use out_of_memory::OutOfMemory;
 use std::alloc::Global;
 use std::marker::Model;
 
 /// The most segments of a pattern.
-pub const MOST_SEGMENTS: usize = 16;
+pub const MAX_SEGMENTS: usize = 16;
 
 /// A pattern of keys: 2 to 16 segments, the first of which is the name of a table.
 #[derive(Debug, Drop)]
@@ -40,7 +40,7 @@ fn begins_with_table(segments: &[Segment]) -> bool
     ensures { result ≡ begins_with_table (plain_segments segments.now) }
 {
     match segments.first() {
-        Some(Segment::Literal(text)) => text.len() <= MOST_TABLE_BYTES,
+        Some(Segment::Literal(text)) => text.len() <= MAX_TABLE_BYTES,
         _ => false,
     }
 }
@@ -50,7 +50,7 @@ fn is_pattern(segments: &[Segment]) -> bool
     ensures { result ≡ is_pattern (plain_segments segments.now) }
 {
     2 <= segments.len()
-        && segments.len() <= MOST_SEGMENTS
+        && segments.len() <= MAX_SEGMENTS
         && begins_with_table(segments)
         && are_segments(segments)
 }

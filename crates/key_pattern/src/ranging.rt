@@ -5,9 +5,9 @@ ghost use Rattle.std.specs.String.{string_bytes};
 ghost use Rattle.semantics.specs.Texts.{Text, bar, names_table, text_cmp};
 ghost use Rattle.semantics.specs.Patterns as plain;
 ghost use Rattle.semantics.specs.Patterns.{is_pattern, short};
-ghost use Rattle.ranges.specs.Ranges.{just, prefix_range};
-ghost use Rattle.ranges.specs.Containing.{bind_range, containing};
-ghost use Rattle.ranges.specs.ContainingLaws.{HoldsFitting};
+ghost use Rattle.key_ranges.specs.Ranges.{just, prefix_range};
+ghost use Rattle.key_ranges.specs.Containing.{bind_range, containing};
+ghost use Rattle.key_ranges.specs.ContainingLaws.{HoldsFitting};
 ghost use Rattle.key_pattern.specs.Plain.{plain_segment, plain_segments};
 ghost use Rattle.key_pattern.specs.Shared.{Shares};
 ghost use Rattle.key_pattern.specs.Fixed.{fixed_text, AddsFixed, JoinsFixed};
@@ -16,9 +16,9 @@ use crate::matching::take;
 use crate::pattern::Pattern;
 use crate::segment::Segment;
 use crate::slots::Slots;
-use key_space::key::MOST_KEY_BYTES;
+use key_space::key::MAX_KEY_BYTES;
 use key_space::{Key, KeyFault, Range};
-use memory::OutOfMemory;
+use out_of_memory::OutOfMemory;
 use std::alloc::Global;
 
 /// A segment that two bounds share, and what is left of each behind it.
@@ -129,7 +129,7 @@ fn beginning_range(alloc: Global, mut text: String) -> Result<Option<Range>, Out
     ensures { IfOk result (λ range. range ≡ option_map prefix_range (short (string_bytes text ++ bar ∷ []))) }
 {
     text.push('|')?;
-    if text.len() > MOST_KEY_BYTES {
+    if text.len() > MAX_KEY_BYTES {
         return Ok(None);
     }
     Ok(Some(Range::prefix_range(alloc, text.as_str())?))

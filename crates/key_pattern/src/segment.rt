@@ -4,14 +4,14 @@ ghost use Rattle.std.specs.List.{list_all};
 ghost use Rattle.semantics.specs.Patterns.{is_literal_byte, is_literal, is_segment, segments_meet};
 ghost use Rattle.key_pattern.specs.Plain.{plain_segment};
 
-use memory::OutOfMemory;
+use out_of_memory::OutOfMemory;
 use std::alloc::Global;
 
 /// The number of places that slots may have.
 pub const PLACES: u8 = 16;
 
 /// The most bytes that a slot's width asks for.
-pub const MOST_WIDTH: u8 = 64;
+pub const MAX_WIDTH: u8 = 64;
 
 /// A segment of a pattern.
 #[derive(Debug, Drop)]
@@ -47,7 +47,7 @@ impl Segment {
     {
         match self {
             Segment::Literal(text) => is_literal(text.as_str()),
-            Segment::Slot { place, width } => *place < PLACES && *width <= MOST_WIDTH,
+            Segment::Slot { place, width } => *place < PLACES && *width <= MAX_WIDTH,
         }
     }
 

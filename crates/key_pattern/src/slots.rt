@@ -3,13 +3,13 @@ ghost use Rattle.std.specs.Prelude.{◌≡◌, IfOk, Some, ◌<◌, slice_set, o
 ghost use Rattle.std.specs.Option.{option_copied};
 ghost use Rattle.std.specs.String.{string_bytes};
 ghost use Rattle.semantics.specs.Patterns.{no_slots, text_at, is_segment};
-ghost use Rattle.ranges.specs.Containing.{with_slot, only};
+ghost use Rattle.key_ranges.specs.Containing.{with_slot, only};
 ghost use Rattle.key_pattern.specs.Plain.{plain_segment};
 ghost use Rattle.key_pattern.specs.Places.{AreSlots, IsSegmentText};
 
 use crate::pattern::Pattern;
 use crate::segment::Segment;
-use memory::OutOfMemory;
+use out_of_memory::OutOfMemory;
 use std::alloc::Global;
 use std::marker::Model;
 

@@ -6,7 +6,7 @@ mod ranging;
 
 use super::*;
 use key_space::Key;
-use memory::OutOfMemory;
+use out_of_memory::OutOfMemory;
 use std::alloc::{AllocError, Global};
 use std::process::Abort;
 use std::test::Fail;

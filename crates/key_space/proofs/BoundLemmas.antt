@@ -2,9 +2,9 @@
 use Rattle.std.proofs.Common.{◌≡◌, ◌≢◌, true, nat_eq, [], ◌∷◌, ◌++◌, ◌∙◌, subst}
 use Rattle.std.specs.List.{ends_with}
 use Rattle.semantics.specs.Texts.{Text, bar, brace, is_key, is_range, Range}
-use Rattle.ranges.specs.Ranges.{without_last, meets, later, earlier}
-use Rattle.ranges.proofs.PrefixLemmas.{last_byte, closed_push}
-use Rattle.ranges.proofs.RangeLemmas.{common_is_range, prefix_range_is_range, just_is_range}
+use Rattle.key_ranges.specs.Ranges.{without_last, meets, later, earlier}
+use Rattle.key_ranges.proofs.PrefixLemmas.{last_byte, closed_push}
+use Rattle.key_ranges.proofs.RangeLemmas.{common_is_range, prefix_range_is_range, just_is_range}
 
 -- equal bounds are a range too
 same_bounds : (low high low' high' : Text) → low ≡ low' → high ≡ high' → is_range low' high' ≡ true → is_range low high ≡ true

@@ -4,22 +4,22 @@ ghost use Rattle.std.specs.Cmp.{partial_equiv_from_equiv};
 ghost use Rattle.std.specs.Cmp.Lexicographic.{nat_list_eq_equiv, nat_list_cmp_total, texts_ties, texts_po};
 ghost use Rattle.semantics.specs.Texts.{is_key, table_of, text_cmp, same};
 
-use crate::place::Place;
+use crate::key_bound::KeyBound;
 use crate::table::{find_table, names_table};
-use memory::OutOfMemory;
+use out_of_memory::OutOfMemory;
 use std::alloc::Global;
 use std::cmp::Ordering;
 use std::marker::Model;
 use std::sync::ArcStr;
 
 /// The most bytes of a key.
-pub const MOST_KEY_BYTES: usize = 512;
+pub const MAX_KEY_BYTES: usize = 512;
 
 /// A key: UTF-8 text of at most 512 bytes, which begins with a table's name of 1 to 64 bytes and `|`. Keys are in byte
 /// order. A copy shares the text.
 #[derive(Debug, Drop)]
 pub struct Key {
-    place: Place,
+    place: KeyBound,
 }
 
 impl Model for Key {
@@ -51,12 +51,12 @@ impl Key {
         ensures ok { IfOk result (λ key. (key ≡ text.now) × (is_key text.now ≡ true)) }
         ensures bad_key { (result ≡ Err KeyFault.BadKey) ↔ (is_key text.now ≡ false) }
     {
-        if text.len() > MOST_KEY_BYTES || !names_table(text) {
+        if text.len() > MAX_KEY_BYTES || !names_table(text) {
             return Err(KeyFault::BadKey);
         }
         match ArcStr::from_str(alloc, text) {
             Ok(text) => Ok(Key {
-                place: Place::of(text),
+                place: KeyBound::of(text),
             }),
             Err(_) => Err(KeyFault::OutOfMemory),
         }
@@ -71,7 +71,7 @@ impl Key {
     }
 
     /// The place of the key.
-    pub fn place(&self) -> &Place
+    pub fn place(&self) -> &KeyBound
         ensures place { result.now ≡ self.now }
         ensures is_key { is_key self.now ≡ true }
     {
@@ -79,7 +79,7 @@ impl Key {
     }
 
     /// The key at a place, of which the text is one. The text is shared, and it takes constant time.
-    pub fn at(place: &Place) -> Result<Key, OutOfMemory>
+    pub fn at(place: &KeyBound) -> Result<Key, OutOfMemory>
         requires { is_key place.now ≡ true }
         ensures { IfOk result (λ key. key ≡ place.now) }
     {

@@ -2,26 +2,26 @@
 ghost use Rattle.std.specs.Prelude.{◌≡◌, ◌≤◌, ◌↔◌, ◌<◌, IfOk, length, true, false, [], ◌∷◌, ◌++◌, nat_eq};
 ghost use Rattle.std.specs.List.{ends_with};
 ghost use Rattle.semantics.specs.Texts.{Range as Bounds, bar, is_key, is_range, table_of, within};
-ghost use Rattle.ranges.specs.Ranges.{meets, cut, later, earlier, prefix_range, just};
+ghost use Rattle.key_ranges.specs.Ranges.{meets, cut, later, earlier, prefix_range, just};
 ghost use Rattle.key_space.specs.Parts.{ends_table};
 
 use crate::key::Key;
-use crate::place::Place;
+use crate::key_bound::KeyBound;
 use crate::table::{find_table, is_table_name};
-use memory::OutOfMemory;
+use out_of_memory::OutOfMemory;
 use std::alloc::Global;
 use std::marker::Model;
 use std::sync::ArcStr;
 
 /// The most bytes of a bound.
-pub const MOST_BOUND_BYTES: usize = 513;
+pub const MAX_BOUND_BYTES: usize = 513;
 
 /// A range of keys: those from its first bound on and below its last. For one table T the first bound begins with `T|`,
 /// and the last begins with `T|` or is `T}`; neither has more than 513 bytes. A copy shares both texts.
 #[derive(Debug, Drop)]
 pub struct Range {
-    low: Place,
-    high: Place,
+    low: KeyBound,
+    high: KeyBound,
 }
 
 impl Model for Range {
@@ -61,8 +61,8 @@ fn is_range(low: &str, high: &str) -> bool
     match find_table(low) {
         None => false,
         Some(table) => {
-            low.len() <= MOST_BOUND_BYTES
-                && high.len() <= MOST_BOUND_BYTES
+            low.len() <= MAX_BOUND_BYTES
+                && high.len() <= MAX_BOUND_BYTES
                 && is_table_name(table)
                 && ends_table(table, high)
                 && low <= high
@@ -71,7 +71,7 @@ fn is_range(low: &str, high: &str) -> bool
 }
 
 /// The later of two places. Linear in the shorter text.
-fn later(first: &Place, second: &Place) -> Result<Place, OutOfMemory>
+fn later(first: &KeyBound, second: &KeyBound) -> Result<KeyBound, OutOfMemory>
     ensures { IfOk result (λ place. place ≡ later first.now second.now) }
 {
     if first < second {
@@ -82,7 +82,7 @@ fn later(first: &Place, second: &Place) -> Result<Place, OutOfMemory>
 }
 
 /// The earlier of two places. Linear in the shorter text.
-fn earlier(first: &Place, second: &Place) -> Result<Place, OutOfMemory>
+fn earlier(first: &KeyBound, second: &KeyBound) -> Result<KeyBound, OutOfMemory>
     ensures { IfOk result (λ place. place ≡ earlier first.now second.now) }
 {
     if second < first {
@@ -93,14 +93,14 @@ fn earlier(first: &Place, second: &Place) -> Result<Place, OutOfMemory>
 }
 
 /// The place of a text with an ASCII character behind it. Linear in the text.
-fn followed(alloc: Global, text: &str, end: char) -> Result<Place, OutOfMemory>
+fn followed(alloc: Global, text: &str, end: char) -> Result<KeyBound, OutOfMemory>
     requires { end < 128 }
     ensures { IfOk result (λ place. place ≡ text.now ++ end ∷ []) }
 {
     let mut whole = String::with_capacity(alloc, text.len() + 1)?;
     whole.push_str(text)?;
     whole.push(end)?;
-    Ok(Place::of(ArcStr::from_string(whole)?))
+    Ok(KeyBound::of(ArcStr::from_string(whole)?))
 }
 
 impl Range {
@@ -116,8 +116,8 @@ impl Range {
         }
         match (ArcStr::from_str(alloc, low), ArcStr::from_str(alloc, high)) {
             (Ok(low), Ok(high)) => Ok(Range {
-                low: Place::of(low),
-                high: Place::of(high),
+                low: KeyBound::of(low),
+                high: KeyBound::of(high),
             }),
             _ => Err(RangeFault::OutOfMemory),
         }
@@ -151,7 +151,7 @@ impl Range {
     }
 
     /// The place of the first bound, which shares the text. It takes constant time.
-    pub fn first_place(&self) -> Result<Place, OutOfMemory>
+    pub fn first_place(&self) -> Result<KeyBound, OutOfMemory>
         ensures place { IfOk result (λ place. place ≡ self.now.low) }
         ensures is_range { is_range self.now.low self.now.high ≡ true }
     {
@@ -159,7 +159,7 @@ impl Range {
     }
 
     /// The place of the last bound, which shares the text. It takes constant time.
-    pub fn last_place(&self) -> Result<Place, OutOfMemory>
+    pub fn last_place(&self) -> Result<KeyBound, OutOfMemory>
         ensures { IfOk result (λ place. place ≡ self.now.high) }
     {
         self.high.copy()
@@ -214,7 +214,7 @@ impl Range {
     {
         match prefix.strip_suffix('|') {
             Some(front) => {
-                let low = Place::of(ArcStr::from_str(alloc, prefix)?);
+                let low = KeyBound::of(ArcStr::from_str(alloc, prefix)?);
                 let high = followed(alloc, front, '}')?;
                 Ok(Range { low, high })
             }

@@ -4,7 +4,7 @@ ghost use Rattle.semantics.specs.Texts.{names_table};
 ghost use Rattle.key_space.specs.Parts.{FindsTable, is_table_name};
 
 /// The most bytes of a table's name.
-pub const MOST_TABLE_BYTES: usize = 64;
+pub const MAX_TABLE_BYTES: usize = 64;
 
 /// What stands before the first `|` of the text, which is lent; none exactly where it has no `|`. Linear in what stands
 /// there.
@@ -21,7 +21,7 @@ pub fn find_table(text: &str) -> Option<&str>
 pub fn is_table_name(table: &str) -> bool
     ensures { result ≡ is_table_name table.now }
 {
-    1 <= table.len() && table.len() <= MOST_TABLE_BYTES
+    1 <= table.len() && table.len() <= MAX_TABLE_BYTES
 }
 
 /// Whether the text begins with a table's name of 1 to 64 bytes and `|`.

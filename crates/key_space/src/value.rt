@@ -2,13 +2,13 @@
 ghost use Rattle.std.specs.Prelude.{◌≡◌, ◌↔◌, IfOk, true, false};
 ghost use Rattle.semantics.specs.Texts.{is_value};
 
-use memory::OutOfMemory;
+use out_of_memory::OutOfMemory;
 use std::alloc::Global;
 use std::marker::Model;
 use std::sync::ArcStr;
 
 /// The most bytes of a value.
-pub const MOST_VALUE_BYTES: usize = 65_536;
+pub const MAX_VALUE_BYTES: usize = 65_536;
 
 /// A value: UTF-8 text of at most 65,536 bytes. A copy shares the text.
 #[derive(Debug, Drop)]
@@ -45,7 +45,7 @@ impl Value {
         ensures ok { IfOk result (λ value. (value ≡ text.now) × (is_value text.now ≡ true)) }
         ensures bad_value { (result ≡ Err ValueFault.BadValue) ↔ (is_value text.now ≡ false) }
     {
-        if text.len() > MOST_VALUE_BYTES {
+        if text.len() > MAX_VALUE_BYTES {
             return Err(ValueFault::BadValue);
         }
         match ArcStr::from_str(alloc, text) {

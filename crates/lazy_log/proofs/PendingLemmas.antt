@@ -6,9 +6,9 @@ use Rattle.std.proofs.lemmas.Bool.{false≢true}
 use Rattle.semantics.specs.Texts.{Text, Range, within}
 use Rattle.semantics.specs.Patterns.{Pattern, Slots, bind}
 use Rattle.semantics.proofs.PatternLemmas.{bind_some, segments_of_pattern}
-use Rattle.ranges.specs.Containing.{containing}
-use Rattle.ranges.proofs.ContainingLemmas.{containing_holds}
-use Rattle.ranges.proofs.RangeLemmas.{holders_meet}
+use Rattle.key_ranges.specs.Containing.{containing}
+use Rattle.key_ranges.proofs.ContainingLemmas.{containing_holds}
+use Rattle.key_ranges.proofs.RangeLemmas.{holders_meet}
 use Rattle.lazy_log.specs.Pending.{meets_held, meets_output}
 use Rattle.lazy_log.specs.Held.{slots_of, AreHeld}
 use Rattle.lazy_log.specs.Laws.{CoveredIsMet}

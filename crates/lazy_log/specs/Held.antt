@@ -2,7 +2,7 @@
 use Rattle.std.specs.Prelude.{◌≡◌, List, map}
 use Rattle.std.specs.List.{AllByRecursion}
 use Rattle.semantics.specs.Patterns.{Pattern, Slots}
-use Rattle.ranges.specs.Containing.{containing}
+use Rattle.key_ranges.specs.Containing.{containing}
 use Rattle.lazy_log.specs.declared.log.Noted.{Noted}
 
 -- the slots alone

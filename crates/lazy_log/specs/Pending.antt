@@ -2,8 +2,8 @@
 use Rattle.std.specs.Prelude.{List, Bool, false, Option, Some, None}
 use Rattle.semantics.specs.Texts.{Range}
 use Rattle.semantics.specs.Patterns.{Pattern, Slots}
-use Rattle.ranges.specs.Ranges.{meets}
-use Rattle.ranges.specs.Containing.{containing}
+use Rattle.key_ranges.specs.Ranges.{meets}
+use Rattle.key_ranges.specs.Containing.{containing}
 
 -- an output, and the slots of it that were noted, in the order of noting
 pub record PendingSlots : Type 0 where

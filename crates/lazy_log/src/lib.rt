@@ -1,6 +1,6 @@
 // Which parts of a kept range's output are pending, as slots of the output that were noted.
 //
-// It stands on `memory`, `key_space`, `key_pattern` and, for its definitions, on `semantics` and `ranges`. The layers
+// It stands on `out_of_memory`, `key_space`, `key_pattern` and, for its definitions, on `semantics` and `key_ranges`. The layers
 // above may use `LazyLog`: contracts see it as the record of the output and of the noted slots, in the order of noting.
 // The range that holds every key of the output under the slots is found once, when they are noted, so that no later
 // question takes memory.

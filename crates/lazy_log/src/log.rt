@@ -3,13 +3,13 @@ ghost use Rattle.std.specs.Prelude.{◌≡◌, [], ◌∷◌, ◌++◌, ◌+◌,
 ghost use Rattle.std.specs.Vec.{vec_len, vec_capacity};
 ghost use Rattle.std.specs.List.{list_any};
 ghost use Rattle.semantics.specs.Patterns.{bind};
-ghost use Rattle.ranges.specs.Containing.{containing};
+ghost use Rattle.key_ranges.specs.Containing.{containing};
 ghost use Rattle.lazy_log.specs.Pending.{meets_held, meets_output};
 ghost use Rattle.lazy_log.specs.Held.{slots_of};
 
 use key_pattern::{Pattern, SlotTexts};
 use key_space::{Key, Range};
-use memory::OutOfMemory;
+use out_of_memory::OutOfMemory;
 use std::alloc::Global;
 use std::marker::Model;
 use std::mem;

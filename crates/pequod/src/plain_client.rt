@@ -9,7 +9,7 @@ ghost use Rattle.pequod.specs.Histories.{AreOwn};
 
 use join_model::{Entry, Standing, Write, afresh, value_afresh};
 use key_space::{Key, Range};
-use memory::OutOfMemory;
+use out_of_memory::OutOfMemory;
 use request_codec::{Reply, Request};
 use session::Service;
 use std::alloc::Global;

@@ -14,14 +14,14 @@ pub enum Command<'a> {
 }
 
 /// The most bytes of a file's name.
-const MOST_NAME_BYTES: usize = 255;
+const MAX_NAME_BYTES: usize = 255;
 
 /// Whether a word is a file's name: it has 1 to 255 bytes, and the first is not `-`.
 fn is_file_name(word: &str) -> bool
     ensures { result ≡ is_file_name word.now }
 {
     let bytes = word.as_bytes();
-    !bytes.is_empty() && bytes.len() <= MOST_NAME_BYTES && bytes[0] != b'-'
+    !bytes.is_empty() && bytes.len() <= MAX_NAME_BYTES && bytes[0] != b'-'
 }
 
 /// The command that the words after the program's name form. None exactly where they form none.

@@ -6,7 +6,7 @@ use Rattle.std.specs.Option.{option_map}
 use Rattle.std.specs.Str.{bytes_eq}
 use Rattle.std.specs.String.{string_bytes}
 use Rattle.pq_io.specs.CallLog.{CallLog}
-use Rattle.pq_io.specs.declared.TheConstants.{MOST_FILE_BYTES}
+use Rattle.pq_io.specs.declared.TheConstants.{MAX_FILE_BYTES}
 use Rattle.pq_io.specs.declared.shelf.TakeFault.{TakeFault}
 use Rattle.pq_io.specs.declared.shelf.TakeFault.TheVariants.{Failed, OutOfMemory}
 
@@ -24,7 +24,7 @@ file_of file = (string_bytes file.0, file.1.items)
 
 -- no file has this name, or the first that has it holds more bytes than a shelf gives
 abbrev pub CannotGive : List File → List ℕ → Type 0
-CannotGive files name = MatchOption (bytes_under files name) ⊤ (λ bytes. MOST_FILE_BYTES < length bytes)
+CannotGive files name = MatchOption (bytes_under files name) ⊤ (λ bytes. MAX_FILE_BYTES < length bytes)
 
 -- the call failed, and not for want of memory
 abbrev pub has_failed : {T : Type 0} → Result T TakeFault → Bool

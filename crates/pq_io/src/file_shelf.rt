@@ -2,7 +2,7 @@
 ghost use Rattle.std.specs.Prelude.{◌≡◌, ◌≤◌, None, IfOk, IfSome, vec_len};
 
 use crate::fault_count::FaultCount;
-use crate::{MOST_FILE_BYTES, Shelf, TakeFault};
+use crate::{MAX_FILE_BYTES, Shelf, TakeFault};
 use std::alloc::Global;
 use std::fs;
 use std::io::{Error, ErrorKind, Read};
@@ -74,7 +74,7 @@ fn fault_of(error: &Error) -> TakeFault {
 
 // The bytes of the file at this path.
 fn read_named<R: Files>(rt: &R, alloc: Global, path: &str) -> Result<Vec<u8>, TakeFault>
-    ensures { IfOk result (λ bytes. vec_len bytes ≤ MOST_FILE_BYTES) }
+    ensures { IfOk result (λ bytes. vec_len bytes ≤ MAX_FILE_BYTES) }
 {
     match fs::open(rt, path) {
         Ok(file) => read_all(alloc, file),
@@ -85,12 +85,12 @@ fn read_named<R: Files>(rt: &R, alloc: Global, path: &str) -> Result<Vec<u8>, Ta
 // All the bytes of a reader, where it has no more than a shelf gives. It reads at most one byte past those.
 fn read_all<F: Read + Drop>(alloc: Global, mut file: F) -> Result<Vec<u8>, TakeFault>
     ensures bytes { IfOk result (λ bytes. IfSome (F.remaining file) (λ left. bytes.items ≡ left)) }
-    ensures bound { IfOk result (λ bytes. vec_len bytes ≤ MOST_FILE_BYTES) }
+    ensures bound { IfOk result (λ bytes. vec_len bytes ≤ MAX_FILE_BYTES) }
 {
     let mut bytes = Vec::new(alloc);
     let mut piece = [0; PIECE_BYTES];
-    'pieces: while bytes.len() <= MOST_FILE_BYTES {
-        let room = PIECE_BYTES.min(MOST_FILE_BYTES + 1 - bytes.len());
+    'pieces: while bytes.len() <= MAX_FILE_BYTES {
+        let room = PIECE_BYTES.min(MAX_FILE_BYTES + 1 - bytes.len());
         match file.read(&mut piece[..room]) {
             Ok(0) => return Ok(bytes),
             Ok(count) => bytes.extend_from_slice(&piece[..count])?,

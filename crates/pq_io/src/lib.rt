@@ -34,4 +34,4 @@ pub use standard::{Reading, Writing};
 pub use stream::{Failed, Sink, Source};
 
 /// The most bytes that a shelf gives of a file.
-pub const MOST_FILE_BYTES: usize = 1_048_576;
+pub const MAX_FILE_BYTES: usize = 1_048_576;

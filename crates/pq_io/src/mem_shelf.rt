@@ -6,7 +6,7 @@ ghost use Rattle.pq_io.specs.Faults.{Rose};
 ghost use Rattle.pq_io.specs.Shelf.{CannotGive, bytes_under, file_of, has_failed};
 
 use crate::call_log::Calls;
-use crate::{MOST_FILE_BYTES, Shelf, TakeFault};
+use crate::{MAX_FILE_BYTES, Shelf, TakeFault};
 use std::alloc::Global;
 use std::marker::Model;
 
@@ -42,7 +42,7 @@ fn find_file<'a>(files: &'a [(String, Vec<u8>)], name: &str) -> Option<&'a Vec<u
 impl MemShelf {
     /// A shelf of these files, each a name and its bytes. A call fails exactly where its number, counted
     /// from 1, is in `fails`, where no file has the name, and where the first that has it holds more than
-    /// `MOST_FILE_BYTES` bytes.
+    /// `MAX_FILE_BYTES` bytes.
     pub fn new(files: Vec<(String, Vec<u8>)>, fails: Vec<usize>) -> MemShelf
         ensures { result ≡ record { files = map file_of files.items; log = no_calls fails.items } }
     {
@@ -61,7 +61,7 @@ impl Shelf for MemShelf {
     /// Takes a step for each file up to the one taken, for each byte of it and for each number in `fails`.
     fn take(&mut self, alloc: Global, name: &str) -> Result<Vec<u8>, TakeFault>
         ensures bytes { IfOk result (λ bytes. bytes_under self.old.files name.now ≡ Some bytes.items) }
-        ensures bound { IfOk result (λ bytes. vec_len bytes ≤ MOST_FILE_BYTES) }
+        ensures bound { IfOk result (λ bytes. vec_len bytes ≤ MAX_FILE_BYTES) }
         ensures same_held { self.new.files ≡ self.old.files }
         ensures later { self.old.log.faults ≤ self.new.log.faults }
         ensures cause { result ≡ Err TakeFault.Failed → Rose self.old.log.faults self.new.log.faults }
@@ -71,7 +71,7 @@ impl Shelf for MemShelf {
     {
         self.calls.next()?;
         match find_file(&self.files, name) {
-            Some(bytes) if bytes.len() <= MOST_FILE_BYTES => Ok(bytes.to_vec(alloc)?),
+            Some(bytes) if bytes.len() <= MAX_FILE_BYTES => Ok(bytes.to_vec(alloc)?),
             _ => Err(self.calls.fault().into()),
         }
     }

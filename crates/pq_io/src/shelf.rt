@@ -5,7 +5,7 @@ ghost use Rattle.pq_io.specs.Faults.{Rose};
 ghost use Rattle.pq_io.specs.Shelf.{File, bytes_under};
 ghost use Rattle.pq_io.specs.declared.shelf.TakeFault.TheVariants as faults;
 
-use crate::{Failed, MOST_FILE_BYTES};
+use crate::{Failed, MAX_FILE_BYTES};
 use std::alloc::{AllocError, Global};
 
 /// Why a shelf gave no file.
@@ -41,13 +41,13 @@ pub trait Shelf {
     /// How many calls have failed, up to the last value 2^64 - 1.
     ghost faults: { Self → ℕ };
 
-    /// The bytes of the first file of that name, at most `MOST_FILE_BYTES`. The shelf keeps all that it
+    /// The bytes of the first file of that name, at most `MAX_FILE_BYTES`. The shelf keeps all that it
     /// holds. `Failed`: the count of faults rose; so it does where the file has more bytes than that.
     /// `OutOfMemory`: there was no memory for the bytes.
     fn take(&mut self, alloc: Global, name: &str) -> Result<Vec<u8>, TakeFault>
         ensures bytes { IfOk result (λ bytes. IfSome (held self.old)
             (λ files. bytes_under files name.now ≡ Some bytes.items)) }
-        ensures bound { IfOk result (λ bytes. vec_len bytes ≤ MOST_FILE_BYTES) }
+        ensures bound { IfOk result (λ bytes. vec_len bytes ≤ MAX_FILE_BYTES) }
         ensures same_held { held self.new ≡ held self.old }
         ensures later { faults self.old ≤ faults self.new }
         ensures cause { result ≡ Err TakeFault.Failed → Rose (faults self.old) (faults self.new) };

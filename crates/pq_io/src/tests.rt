@@ -2,7 +2,7 @@
 ghost use Rattle.std.specs.Prelude.{Some};
 
 use crate::{
-    Both, Failed, FileShelf, Link, MOST_FILE_BYTES, MemLink, MemShelf, MemSink, MemSource, Reading,
+    Both, Failed, FileShelf, Link, MAX_FILE_BYTES, MemLink, MemShelf, MemSink, MemSource, Reading,
     Shelf, Sink, Source, TakeFault, Writing, write_link, write_whole,
 };
 use std::alloc::Global;
@@ -222,8 +222,8 @@ fn a_shelf_gives_its_files(rt: HostRuntime) -> Result<(), Fail> {
     let mut files = Vec::new(alloc);
     for (name, count) in [
         ("a", 3),
-        ("most", MOST_FILE_BYTES),
-        ("more", MOST_FILE_BYTES + 1),
+        ("most", MAX_FILE_BYTES),
+        ("more", MAX_FILE_BYTES + 1),
         ("a", 4),
     ] {
         files.push((String::from_str(alloc, name)?, vec![in alloc; b'x'; count]?))?;
@@ -231,7 +231,7 @@ fn a_shelf_gives_its_files(rt: HostRuntime) -> Result<(), Fail> {
     let mut shelf = MemShelf::new(files, [2].to_vec(alloc)?);
     assert_eq!(rt; count_taken(&mut shelf, alloc, "a"), Ok(3));
     assert_eq!(rt; count_taken(&mut shelf, alloc, "a"), Err(TakeFault::Failed));
-    assert_eq!(rt; count_taken(&mut shelf, alloc, "most"), Ok(MOST_FILE_BYTES));
+    assert_eq!(rt; count_taken(&mut shelf, alloc, "most"), Ok(MAX_FILE_BYTES));
     assert_eq!(rt;
         count_taken(&mut shelf, alloc, "more"),
         Err(TakeFault::Failed)
@@ -248,14 +248,14 @@ fn a_shelf_gives_its_files(rt: HostRuntime) -> Result<(), Fail> {
 fn a_shelf_gives_files_of_the_system(rt: HostRuntime) -> Result<(), Fail> {
     let alloc = rt.alloc();
     fs::write(&rt, "joins", b"a|<x> = copy b|<x>")?;
-    fs::write(&rt, "most", vec![in alloc; b'x'; MOST_FILE_BYTES]?)?;
-    fs::write(&rt, "more", vec![in alloc; b'x'; MOST_FILE_BYTES + 1]?)?;
+    fs::write(&rt, "most", vec![in alloc; b'x'; MAX_FILE_BYTES]?)?;
+    fs::write(&rt, "more", vec![in alloc; b'x'; MAX_FILE_BYTES + 1]?)?;
     let mut shelf = FileShelf::new(&rt);
     assert_eq!(rt;
         shelf.take(alloc, "joins")?.as_slice(),
         b"a|<x> = copy b|<x>".as_slice()
     );
-    assert_eq!(rt; count_taken(&mut shelf, alloc, "most"), Ok(MOST_FILE_BYTES));
+    assert_eq!(rt; count_taken(&mut shelf, alloc, "most"), Ok(MAX_FILE_BYTES));
     assert_eq!(rt; shelf.faults(), 0);
     assert_eq!(rt;
         count_taken(&mut shelf, alloc, "more"),

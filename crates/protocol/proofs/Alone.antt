@@ -29,19 +29,19 @@ ByeLast [] = ⊤
 ByeLast (reply ∷ []) = ⊤
 ByeLast (reply ∷ other ∷ replies) = (is_bye reply ≡ false) × ByeLast (other ∷ replies)
 
--- the lines that are skipped, counted from a number, are those whose reply is `memory`
+-- the lines that are starved, counted from a number, are those whose reply is `memory`
 abbrev pub SkipsFrom : (ℕ → Bool) → ℕ → List Reply → Type 0
-SkipsFrom skipped number replies = (i : ℕ) → i < length replies → skipped (number + i) ≡ is_memory (get_or replies i bye)
+SkipsFrom starved number replies = (i : ℕ) → i < length replies → starved (number + i) ≡ is_memory (get_or replies i bye)
 
 -- what is told from a history on, where the entries after it make the view
-pub record GoesOn (view h rest : History) (skipped : ℕ → Bool) (number : ℕ) (lines : List Text) (replies : List Reply) (pairs : List (Request × Reply)) : Type 0 where
+pub record GoesOn (view h rest : History) (starved : ℕ → Bool) (number : ℕ) (lines : List Text) (replies : List Reply) (pairs : List (Request × Reply)) : Type 0 where
   pub whole : view ≡ h ++ rest
   pub own : AreOwn rest
   pub each : AllZip (λ line reply. AnswersLine (request_of line) reply) lines replies
   pub answers : AllZip (Answers view 0) (map (λ p. p.0) pairs) (map (λ p. p.1) pairs)
   pub ordered : InOrder (length h) (length view) (map (λ p. p.1) pairs)
   pub positions : own_positions 0 (length h + 1) rest ≡ done_positions (map (λ p. p.1) pairs)
-  pub skips : SkipsFrom skipped number replies
+  pub skips : SkipsFrom starved number replies
   pub last : ByeLast replies
 
 -- ---- positions
@@ -90,61 +90,61 @@ last_later : (reply : Reply) (replies : List Reply) → ByeLast (reply ∷ repli
 last_later reply [] last = tt
 last_later reply (other ∷ replies) last = last.1
 
--- the rest of the lines is skipped by its own replies
-skips_later : (skipped : ℕ → Bool) (number : ℕ) (reply : Reply) (replies : List Reply) → SkipsFrom skipped number (reply ∷ replies) → SkipsFrom skipped (number + 1) replies
-skips_later skipped number reply replies skips i below =
+-- the rest of the lines is starved by its own replies
+skips_later : (starved : ℕ → Bool) (number : ℕ) (reply : Reply) (replies : List Reply) → SkipsFrom starved number (reply ∷ replies) → SkipsFrom starved (number + 1) replies
+skips_later starved number reply replies skips i below =
     let place : (number + 1) + i ≡ number + suc i = omega arith in
-    ap skipped place ∙ skips (suc i) (omega arith)
+    ap starved place ∙ skips (suc i) (omega arith)
 
--- the first line is skipped where its reply is `memory`
-skips_first : (skipped : ℕ → Bool) (number : ℕ) (reply : Reply) (replies : List Reply) → SkipsFrom skipped number (reply ∷ replies) → skipped number ≡ is_memory reply
-skips_first skipped number reply replies skips =
+-- the first line is starved where its reply is `memory`
+skips_first : (starved : ℕ → Bool) (number : ℕ) (reply : Reply) (replies : List Reply) → SkipsFrom starved number (reply ∷ replies) → starved number ≡ is_memory reply
+skips_first starved number reply replies skips =
     let place : number ≡ number + 0 = omega arith in
-    ap skipped place ∙ skips 0 (omega arith)
+    ap starved place ∙ skips 0 (omega arith)
 
 -- the step of a line that finds no memory
-step_skipped : (skipped : ℕ → Bool) (number : ℕ) (h : History) (line : Text) → skipped number ≡ true → line_step every_form skipped number h line ≡ memory_step h
-step_skipped skipped number h line e = ap (λ (skip : Bool). if skip then memory_step h else step_of (request_of line) h) e
+step_skipped : (starved : ℕ → Bool) (number : ℕ) (h : History) (line : Text) → starved number ≡ true → line_step every_form starved number h line ≡ memory_step h
+step_skipped starved number h line e = ap (λ (skip : Bool). if skip then memory_step h else step_of (request_of line) h) e
 
 -- the step of a line that is read
-step_read : (skipped : ℕ → Bool) (number : ℕ) (h : History) (line : Text) (found : Result Request LineFault) → skipped number ≡ false → request_of line ≡ found →
-    line_step every_form skipped number h line ≡ step_of found h
-step_read skipped number h line found e is =
+step_read : (starved : ℕ → Bool) (number : ℕ) (h : History) (line : Text) (found : Result Request LineFault) → starved number ≡ false → request_of line ≡ found →
+    line_step every_form starved number h line ≡ step_of found h
+step_read starved number h line found e is =
     ap (λ (skip : Bool). if skip then memory_step h else step_of (request_of line) h) e ∙ ap (λ (f : Result Request LineFault). step_of f h) is
 
 -- a step that goes on, and the outcome of the lines after it
-went_on : (skipped : ℕ → Bool) (number : ℕ) (h after view : History) (line : Text) (lines : List Text) (reply : Reply) (replies : List Reply) (over : Bool) →
-    line_step every_form skipped number h line ≡ record { reply = reply; history = after; over = false } →
-    outcome_from every_form skipped (number + 1) after lines ≡ record { replies = replies; history = view; over = over } →
-    outcome_from every_form skipped number h (line ∷ lines) ≡ record { replies = reply ∷ replies; history = view; over = over }
-went_on skipped number h after view line lines reply replies over step rest =
-    ap (λ (s : Step). after_step s.reply s.history s.over (λ last. outcome_from every_form skipped (number + 1) last lines)) step ∙ ap (onto_replies reply) rest
+went_on : (starved : ℕ → Bool) (number : ℕ) (h after view : History) (line : Text) (lines : List Text) (reply : Reply) (replies : List Reply) (over : Bool) →
+    line_step every_form starved number h line ≡ record { reply = reply; history = after; over = false } →
+    outcome_from every_form starved (number + 1) after lines ≡ record { replies = replies; history = view; over = over } →
+    outcome_from every_form starved number h (line ∷ lines) ≡ record { replies = reply ∷ replies; history = view; over = over }
+went_on starved number h after view line lines reply replies over step rest =
+    ap (λ (s : Step). after_step s.reply s.history s.over (λ last. outcome_from every_form starved (number + 1) last lines)) step ∙ ap (onto_replies reply) rest
 
 -- what is to be shown of lines and their replies
 abbrev pub Decides : History → List Text → List Reply → Type 0
 Decides view lines replies =
-    (skipped : ℕ → Bool) (number : ℕ) (h rest : History) → GoesOn view h rest skipped number lines replies (told_pairs lines replies) →
-    outcome_from every_form skipped number h lines ≡ record { replies = replies; history = view; over = list_any is_bye replies }
+    (starved : ℕ → Bool) (number : ℕ) (h rest : History) → GoesOn view h rest starved number lines replies (told_pairs lines replies) →
+    outcome_from every_form starved number h lines ≡ record { replies = replies; history = view; over = list_any is_bye replies }
 
 -- the entries after the history so far are none, where no write enters any more
 view_is : (view h rest : History) → view ≡ h ++ rest → AreOwn rest → own_positions 0 (length h + 1) rest ≡ [] → h ≡ view
 view_is view h rest whole own none = sym (whole ∙ ap (λ more. h ++ more) (none_left (length h + 1) rest own none) ∙ append-nil h)
 
 -- a line that ends the session is the last
-bye_first : (view h rest : History) (skipped : ℕ → Bool) (number : ℕ) (line : Text) (lines : List Text) (replies : List Reply) → request_of line ≡ Ok quit →
-    GoesOn view h rest skipped number (line ∷ lines) (bye ∷ replies) (told_pairs lines replies) →
-    outcome_from every_form skipped number h (line ∷ lines) ≡ record { replies = bye ∷ replies; history = view; over = true }
-bye_first view h rest skipped number line [] [] is g =
-    ap (λ (s : Step). after_step s.reply s.history s.over (λ last. outcome_from every_form skipped (number + 1) last []))
-    (step_read skipped number h line (Ok quit) (skips_first skipped number bye [] g.skips) is)
+bye_first : (view h rest : History) (starved : ℕ → Bool) (number : ℕ) (line : Text) (lines : List Text) (replies : List Reply) → request_of line ≡ Ok quit →
+    GoesOn view h rest starved number (line ∷ lines) (bye ∷ replies) (told_pairs lines replies) →
+    outcome_from every_form starved number h (line ∷ lines) ≡ record { replies = bye ∷ replies; history = view; over = true }
+bye_first view h rest starved number line [] [] is g =
+    ap (λ (s : Step). after_step s.reply s.history s.over (λ last. outcome_from every_form starved (number + 1) last []))
+    (step_read starved number h line (Ok quit) (skips_first starved number bye [] g.skips) is)
     ∙ ap (λ last. record { replies = bye ∷ []; history = last; over = true }) (view_is view h rest g.whole g.own g.positions)
-bye_first view h rest skipped number line (other ∷ lines) [] is g = absurd g.each.1
-bye_first view h rest skipped number line lines (other ∷ replies) is g = let no : true ≡ false = g.last.0 in absurd (cc)
+bye_first view h rest starved number line (other ∷ lines) [] is g = absurd g.each.1
+bye_first view h rest starved number line lines (other ∷ replies) is g = let no : true ≡ false = g.last.0 in absurd (cc)
 
-module _ (view : History) (line : Text) (lines : List Text) (replies : List Reply) (later : Decides view lines replies) (skipped : ℕ → Bool) (number : ℕ) where
+module _ (view : History) (line : Text) (lines : List Text) (replies : List Reply) (later : Decides view lines replies) (starved : ℕ → Bool) (number : ℕ) where
   -- what is told of the first of some lines and of those after it
   abbrev First : History → History → Reply → List (Request × Reply) → Type 0
-  First h rest reply pairs = GoesOn view h rest skipped number (line ∷ lines) (reply ∷ replies) pairs
+  First h rest reply pairs = GoesOn view h rest starved number (line ∷ lines) (reply ∷ replies) pairs
 
   -- the replies that are told of the lines after it
   abbrev told_later : List Reply
@@ -152,15 +152,15 @@ module _ (view : History) (line : Text) (lines : List Text) (replies : List Repl
 
   -- what is to be shown of them
   abbrev Shown : History → Reply → Type 0
-  Shown h reply = outcome_from every_form skipped number h (line ∷ lines) ≡ record { replies = reply ∷ replies; history = view; over = list_any is_bye (reply ∷ replies) }
+  Shown h reply = outcome_from every_form starved number h (line ∷ lines) ≡ record { replies = reply ∷ replies; history = view; over = list_any is_bye (reply ∷ replies) }
 
   -- a line that finds no memory
-  no_memory_first : (h rest : History) (pairs : List (Request × Reply)) → First h rest memory pairs → GoesOn view h rest skipped (number + 1) lines replies (told_pairs lines replies) → Shown h memory
+  no_memory_first : (h rest : History) (pairs : List (Request × Reply)) → First h rest memory pairs → GoesOn view h rest starved (number + 1) lines replies (told_pairs lines replies) → Shown h memory
   no_memory_first h rest pairs g next =
-      went_on skipped number h h view line lines memory replies _ (step_skipped skipped number h line (skips_first skipped number memory replies g.skips)) (later skipped (number + 1) h rest next)
+      went_on starved number h h view line lines memory replies _ (step_skipped starved number h line (skips_first starved number memory replies g.skips)) (later starved (number + 1) h rest next)
 
   -- a line of which nothing is told, and those after it
-  untold : (h rest : History) (reply : Reply) → First h rest reply (told_pairs lines replies) → GoesOn view h rest skipped (number + 1) lines replies (told_pairs lines replies)
+  untold : (h rest : History) (reply : Reply) → First h rest reply (told_pairs lines replies) → GoesOn view h rest starved (number + 1) lines replies (told_pairs lines replies)
   untold h rest reply g = record {
     whole = g.whole;
     own = g.own;
@@ -168,15 +168,15 @@ module _ (view : History) (line : Text) (lines : List Text) (replies : List Repl
     answers = g.answers;
     ordered = g.ordered;
     positions = g.positions;
-    skips = skips_later skipped number reply replies g.skips;
+    skips = skips_later starved number reply replies g.skips;
     last = last_later reply replies g.last;
   }
 
   -- a line that is no request
   unread_first : (h rest : History) (fault : LineFault) → request_of line ≡ Err fault → First h rest (unread fault) (told_pairs lines replies) → Shown h (unread fault)
   unread_first h rest fault is g =
-      went_on skipped number h h view line lines (unread fault) replies _ (step_read skipped number h line (Err fault) (skips_first skipped number (unread fault) replies g.skips) is)
-      (later skipped (number + 1) h rest (untold h rest (unread fault) g))
+      went_on starved number h h view line lines (unread fault) replies _ (step_read starved number h line (Err fault) (skips_first starved number (unread fault) replies g.skips) is)
+      (later starved (number + 1) h rest (untold h rest (unread fault) g))
 
   -- a write that enters is the next entry
   done_first : (h rest : History) (w : Write) (n : ℕ) → request_of line ≡ Ok (write w) → First h rest (done n) ((write w, done n) ∷ told_pairs lines replies) → Shown h (done n)
@@ -194,17 +194,17 @@ module _ (view : History) (line : Text) (lines : List Text) (replies : List Repl
       let entered : verdict w h ≡ None = sym (ap (verdict w) (ap (λ m. take m view) place ∙ prefix_is view h (e ∷ rest) g.whole)) ∙ g.answers.0.1 in
       let size : n ≡ length (h ++ e ∷ []) = omega (arith, length-append h (e ∷ [])) in
       let next_size : length (h ++ e ∷ []) + 1 ≡ (length h + 1) + 1 = omega (arith, length-append h (e ∷ [])) in
-      went_on skipped number h (h ++ e ∷ []) view line lines (done n) replies _
-      (step_read skipped number h line (Ok (write w)) (skips_first skipped number (done n) replies g.skips) is ∙ ap (write_step w h) entered
+      went_on starved number h (h ++ e ∷ []) view line lines (done n) replies _
+      (step_read starved number h line (Ok (write w)) (skips_first starved number (done n) replies g.skips) is ∙ ap (write_step w h) entered
       ∙ ap₂ (λ m (f : Entry). record { reply = done m; history = h ++ f ∷ []; over = false }) here (sym same))
-      (later skipped (number + 1) (h ++ e ∷ []) rest (record {
+      (later starved (number + 1) (h ++ e ∷ []) rest (record {
         whole = g.whole ∙ sym (append_assoc h (e ∷ []) rest);
         own = g.own.1;
         each = g.each.1;
         answers = g.answers.1;
         ordered = subst (λ m. InOrder m (length view) told_later) size g.ordered.2;
         positions = ap (λ m. own_positions 0 m rest) next_size ∙ rest_positions;
-        skips = skips_later skipped number (done n) replies g.skips;
+        skips = skips_later starved number (done n) replies g.skips;
         last = last_later (done n) replies g.last;
       }))
 
@@ -214,17 +214,17 @@ module _ (view : History) (line : Text) (lines : List Text) (replies : List Repl
   refused_first h rest w n cause is g =
       let here : n ≡ length h = position_is view h rest n told_later g.whole g.own g.ordered.0 g.ordered.1 g.ordered.2 g.positions in
       let against : verdict w h ≡ Some cause = sym (ap (verdict w) (ap (λ m. take m view) here ∙ prefix_is view h rest g.whole)) ∙ g.answers.0 in
-      went_on skipped number h h view line lines (refused n cause) replies _
-      (step_read skipped number h line (Ok (write w)) (skips_first skipped number (refused n cause) replies g.skips) is ∙ ap (write_step w h) against
+      went_on starved number h h view line lines (refused n cause) replies _
+      (step_read starved number h line (Ok (write w)) (skips_first starved number (refused n cause) replies g.skips) is ∙ ap (write_step w h) against
       ∙ ap (λ m. record { reply = refused m cause; history = h; over = false }) (sym here))
-      (later skipped (number + 1) h rest (record {
+      (later starved (number + 1) h rest (record {
         whole = g.whole;
         own = g.own;
         each = g.each.1;
         answers = g.answers.1;
         ordered = subst (λ m. InOrder m (length view) told_later) here g.ordered.2;
         positions = g.positions;
-        skips = skips_later skipped number (refused n cause) replies g.skips;
+        skips = skips_later starved number (refused n cause) replies g.skips;
         last = last_later (refused n cause) replies g.last;
       }))
 
@@ -233,23 +233,23 @@ module _ (view : History) (line : Text) (lines : List Text) (replies : List Repl
   answered_first h rest r a is g =
       let here : answer_position a ≡ length h = position_is view h rest (answer_position a) told_later g.whole g.own g.ordered.0 g.ordered.1 g.ordered.2 g.positions in
       let same : a ≡ answer r h = g.answers.0 ∙ ap (answer r) (ap (λ m. take m view) here ∙ prefix_is view h rest g.whole) in
-      went_on skipped number h h view line lines (answered a) replies _
-      (step_read skipped number h line (Ok (read r)) (skips_first skipped number (answered a) replies g.skips) is
+      went_on starved number h h view line lines (answered a) replies _
+      (step_read starved number h line (Ok (read r)) (skips_first starved number (answered a) replies g.skips) is
       ∙ ap (λ b. record { reply = answered b; history = h; over = false }) (sym same))
-      (later skipped (number + 1) h rest (record {
+      (later starved (number + 1) h rest (record {
         whole = g.whole;
         own = g.own;
         each = g.each.1;
         answers = g.answers.1;
         ordered = subst (λ m. InOrder m (length view) told_later) here g.ordered.2;
         positions = g.positions;
-        skips = skips_later skipped number (answered a) replies g.skips;
+        skips = skips_later starved number (answered a) replies g.skips;
         last = last_later (answered a) replies g.last;
       }))
 
   -- a line whose request found no memory, and those after it
   unanswered : (h rest : History) (request : Request) → First h rest memory ((request, memory) ∷ told_pairs lines replies) →
-      GoesOn view h rest skipped (number + 1) lines replies (told_pairs lines replies)
+      GoesOn view h rest starved (number + 1) lines replies (told_pairs lines replies)
   unanswered h rest request g = record {
     whole = g.whole;
     own = g.own;
@@ -257,7 +257,7 @@ module _ (view : History) (line : Text) (lines : List Text) (replies : List Repl
     answers = g.answers.1;
     ordered = g.ordered;
     positions = g.positions;
-    skips = skips_later skipped number memory replies g.skips;
+    skips = skips_later starved number memory replies g.skips;
     last = last_later memory replies g.last;
   }
 
@@ -291,7 +291,7 @@ module _ (view : History) (line : Text) (lines : List Text) (replies : List Repl
   -- a line that ends the session, by what may answer it
   quit_first : (h rest : History) (reply : Reply) → request_of line ≡ Ok quit → First h rest reply (told_pairs lines replies) → (reply ≡ bye) ⊎ (reply ≡ memory) → Shown h reply
   quit_first h rest reply is g (inl same) =
-      subst (Shown h) (sym same) (bye_first view h rest skipped number line lines replies is (subst (λ r. First h rest r (told_pairs lines replies)) same g))
+      subst (Shown h) (sym same) (bye_first view h rest starved number line lines replies is (subst (λ r. First h rest r (told_pairs lines replies)) same g))
   quit_first h rest reply is g (inr same) =
       let h_g = subst (λ r. First h rest r (told_pairs lines replies)) same g in subst (Shown h) (sym same) (no_memory_first h rest _ h_g (untold h rest memory h_g))
 
@@ -317,8 +317,8 @@ module _ (view : History) (line : Text) (lines : List Text) (replies : List Repl
 
 -- what one client alone is told decides the outcome of its lines
 pub alone_outcome : (view : History) (lines : List Text) (replies : List Reply) → Decides view lines replies
-alone_outcome view [] [] skipped number h rest g = ap (λ last. record { replies = []; history = last; over = false }) (view_is view h rest g.whole g.own g.positions)
-alone_outcome view [] (reply ∷ replies) skipped number h rest g = absurd g.each
-alone_outcome view (line ∷ lines) [] skipped number h rest g = absurd g.each
-alone_outcome view (line ∷ lines) (reply ∷ replies) skipped number h rest g =
-    first_by view line lines replies (alone_outcome view lines replies) skipped number h rest reply (request_of line) refl g
+alone_outcome view [] [] starved number h rest g = ap (λ last. record { replies = []; history = last; over = false }) (view_is view h rest g.whole g.own g.positions)
+alone_outcome view [] (reply ∷ replies) starved number h rest g = absurd g.each
+alone_outcome view (line ∷ lines) [] starved number h rest g = absurd g.each
+alone_outcome view (line ∷ lines) (reply ∷ replies) starved number h rest g =
+    first_by view line lines replies (alone_outcome view lines replies) starved number h rest reply (request_of line) refl g

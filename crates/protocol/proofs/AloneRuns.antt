@@ -47,7 +47,7 @@ bye_last-push (reply ∷ replies) last lacks = let parts = or_parts (is_bye repl
 pub HasRun-alone : (after : History) (lines : List Text) (replies : List Reply) → Serves [] after 0 lines replies → AreOwn after → ByeLast replies →
     HasRun every_form lines replies after (list_any is_bye replies)
 unfolding outcome_of
-HasRun-alone after lines replies serves own last skipped by = alone_outcome after lines replies skipped 1 [] after (record {
+HasRun-alone after lines replies serves own last starved by = alone_outcome after lines replies starved 1 [] after (record {
   whole = refl;
   own = own;
   each = serves.each;
@@ -169,15 +169,15 @@ cut_no_memory replies t none =
     ∙ ap (λ line. option_map_or is_memory_line line false) (slice_get_past (map reply_front replies) (length replies) past)
 
 -- what skips by replies and by one more skips by all of them
-skips_push : (skipped : ℕ → Bool) (replies : List Reply) (last : Reply) → SkipsByReplies skipped replies → skipped (1 + length replies) ≡ is_memory last →
-    SkipsByReplies skipped (replies ++ last ∷ [])
-skips_push skipped replies last before at i below = go (cases_lt i (length replies))
+skips_push : (starved : ℕ → Bool) (replies : List Reply) (last : Reply) → SkipsByReplies starved replies → starved (1 + length replies) ≡ is_memory last →
+    SkipsByReplies starved (replies ++ last ∷ [])
+skips_push starved replies last before at i below = go (cases_lt i (length replies))
   where
-    go : (i < length replies) ⊎ (length replies ≤ i) → skipped (1 + i) ≡ is_memory (get_or (replies ++ last ∷ []) i bye)
+    go : (i < length replies) ⊎ (length replies ≤ i) → starved (1 + i) ≡ is_memory (get_or (replies ++ last ∷ []) i bye)
     go (inl lower) = before i lower ∙ ap is_memory (sym (get_or_append_left replies (last ∷ []) bye i lower))
     go (inr upper) =
         let here : i ≡ length replies = omega (arith, length-append replies (last ∷ [])) in
-        ap (λ k. skipped (1 + k)) here ∙ at ∙ ap is_memory (sym (get_or-append_seam replies last [] bye)) ∙ ap (λ k. is_memory (get_or (replies ++ last ∷ []) k bye)) (sym here)
+        ap (λ k. starved (1 + k)) here ∙ at ∙ ap is_memory (sym (get_or-append_seam replies last [] bye)) ∙ ap (λ k. is_memory (get_or (replies ++ last ∷ []) k bye)) (sym here)
 
 -- where the text that was cut is not that of `memory`
 skips_cut : (replies : List Reply) (last : Reply) (t : Text) → has_feed t ≡ false → is_memory last ≡ false → SkipsByReplies (memory_lines (reply_texts replies ++ t)) (replies ++ last ∷ [])
@@ -285,13 +285,13 @@ module _ (bytes written : Text) (left : Option Text) (after : History) (own : Ar
       (HasRun-alone after served.lines (replies ++ last ∷ []) served.serves own (bye_last-push replies last served.no_bye)) cut.2 (cut_reply_feedless last cut.0 cut.1) (is_memory last) refl
 
   -- the transcript of lines before one that is too long
-  long_transcript : (ended : Bool) (skipped : ℕ → Bool) (replies : List Reply) → AllServed alone false replies → (lines_of bytes false).long ≡ true → SkipsByReplies skipped replies →
-      transcript_by every_form bytes ended skipped ≡ reply_texts (replies ++ long ∷ []) ++ []
+  long_transcript : (ended : Bool) (starved : ℕ → Bool) (replies : List Reply) → AllServed alone false replies → (lines_of bytes false).long ≡ true → SkipsByReplies starved replies →
+      transcript_by every_form bytes ended starved ≡ reply_texts (replies ++ long ∷ []) ++ []
   unfolding transcript_by
-  long_transcript ended skipped replies served too_long by =
-      ap (transcript_of_cut every_form skipped) (lines_of-long bytes ended too_long)
+  long_transcript ended starved replies served too_long by =
+      ap (transcript_of_cut every_form starved) (lines_of-long bytes ended too_long)
       ∙ ap (λ (outcome : Outcome). reply_texts outcome.replies ++ long_text (lines_of bytes false).long outcome)
-      (HasRun-alone after (lines_of bytes false).lines replies served.serves own (bye_last-none replies served.no_bye) skipped by)
+      (HasRun-alone after (lines_of bytes false).lines replies served.serves own (bye_last-none replies served.no_bye) starved by)
       ∙ sym (long_mark_last (lines_of bytes false).long (list_any is_bye replies) replies after too_long served.no_bye) ∙ sym (append-nil (reply_texts (replies ++ long ∷ [])))
 
   -- of the mark of a line that is too long a part was written

@@ -25,18 +25,18 @@ after_step-parts reply h false whole first more same =
     ap (onto_replies reply) (same h) ∙ then_part-onto_replies reply (first h).replies (first h).history (first h).over more
 
 -- lines in two parts: the second goes on from the history that the first leaves, with its lines counted on
-pub outcome_from-append : (reading : Reading) (skipped : ℕ → Bool) (first : List Text) (number : ℕ) (h : History) (second : List Text) →
-    outcome_from reading skipped number h (first ++ second)
-    ≡ then_part (outcome_from reading skipped number h first) (λ after. outcome_from reading skipped (number + length first) after second)
-outcome_from-append reading skipped [] number h second =
+pub outcome_from-append : (reading : Reading) (starved : ℕ → Bool) (first : List Text) (number : ℕ) (h : History) (second : List Text) →
+    outcome_from reading starved number h (first ++ second)
+    ≡ then_part (outcome_from reading starved number h first) (λ after. outcome_from reading starved (number + length first) after second)
+outcome_from-append reading starved [] number h second =
     let same : number ≡ number + 0 = omega arith in
-    ap (λ n. outcome_from reading skipped n h second) same
-outcome_from-append reading skipped (line ∷ lines) number h second =
+    ap (λ n. outcome_from reading starved n h second) same
+outcome_from-append reading starved (line ∷ lines) number h second =
     let same : (number + 1) + length lines ≡ number + suc (length lines) = omega arith in
-    let step : Step = line_step reading skipped number h line in
+    let step : Step = line_step reading starved number h line in
     after_step-parts step.reply step.history step.over _ _ _ (λ after.
-    outcome_from-append reading skipped lines (number + 1) after second
-    ∙ ap (λ n. then_part (outcome_from reading skipped (number + 1) after lines) (λ last. outcome_from reading skipped n last second)) same)
+    outcome_from-append reading starved lines (number + 1) after second
+    ∙ ap (λ n. then_part (outcome_from reading starved (number + 1) after lines) (λ last. outcome_from reading starved n last second)) same)
 
 -- ---- one line more
 
@@ -51,13 +51,13 @@ after_step-last reply h true = refl
 after_step-last reply h false = refl
 
 -- a line behind others is a step from the history that they leave, unless they ended the session
-pub outcome_from-push : (reading : Reading) (skipped : ℕ → Bool) (lines : List Text) (number : ℕ) (h : History) (line : Text) →
-    outcome_from reading skipped number h (lines ++ line ∷ [])
-    ≡ then_part (outcome_from reading skipped number h lines) (λ after. outcome_of_step (line_step reading skipped (number + length lines) after line))
-outcome_from-push reading skipped lines number h line =
-    let step = λ (after : History). line_step reading skipped (number + length lines) after line in
-    outcome_from-append reading skipped lines number h (line ∷ [])
-    ∙ ap (then_part (outcome_from reading skipped number h lines)) (λ i after. after_step-last (step after).reply (step after).history (step after).over i)
+pub outcome_from-push : (reading : Reading) (starved : ℕ → Bool) (lines : List Text) (number : ℕ) (h : History) (line : Text) →
+    outcome_from reading starved number h (lines ++ line ∷ [])
+    ≡ then_part (outcome_from reading starved number h lines) (λ after. outcome_of_step (line_step reading starved (number + length lines) after line))
+outcome_from-push reading starved lines number h line =
+    let step = λ (after : History). line_step reading starved (number + length lines) after line in
+    outcome_from-append reading starved lines number h (line ∷ [])
+    ∙ ap (then_part (outcome_from reading starved number h lines)) (λ i after. after_step-last (step after).reply (step after).history (step after).over i)
 
 -- nothing follows a part that is over
 parts_over : (part : Outcome) (more : History → Outcome) (over : Bool) → part.over ≡ over → over ≡ true → both_parts part.replies part.history over more ≡ part
@@ -74,19 +74,19 @@ pub then_part-more : (part : Outcome) (more : History → Outcome) → part.over
 then_part-more part more h = ap (λ over. both_parts part.replies part.history over more) h
 
 -- lines behind the end of the session change nothing
-pub outcome_from-over : (reading : Reading) (skipped : ℕ → Bool) (lines : List Text) (number : ℕ) (h : History) (more : List Text) →
-    (outcome_from reading skipped number h lines).over ≡ true → outcome_from reading skipped number h (lines ++ more) ≡ outcome_from reading skipped number h lines
-outcome_from-over reading skipped lines number h more over = outcome_from-append reading skipped lines number h more ∙ then_part-over (outcome_from reading skipped number h lines) _ over
+pub outcome_from-over : (reading : Reading) (starved : ℕ → Bool) (lines : List Text) (number : ℕ) (h : History) (more : List Text) →
+    (outcome_from reading starved number h lines).over ≡ true → outcome_from reading starved number h (lines ++ more) ≡ outcome_from reading starved number h lines
+outcome_from-over reading starved lines number h more over = outcome_from-append reading starved lines number h more ∙ then_part-over (outcome_from reading starved number h lines) _ over
 
 -- a line behind others that did not end the session: its reply, the history after its step, and whether it ends the session
-pub outcome_from-next : (reading : Reading) (skipped : ℕ → Bool) (lines : List Text) (number : ℕ) (h : History) (line : Text) →
-    (outcome_from reading skipped number h lines).over ≡ false →
-    outcome_from reading skipped number h (lines ++ line ∷ [])
-    ≡ (let part = outcome_from reading skipped number h lines in
-    let step = line_step reading skipped (number + length lines) part.history line in
+pub outcome_from-next : (reading : Reading) (starved : ℕ → Bool) (lines : List Text) (number : ℕ) (h : History) (line : Text) →
+    (outcome_from reading starved number h lines).over ≡ false →
+    outcome_from reading starved number h (lines ++ line ∷ [])
+    ≡ (let part = outcome_from reading starved number h lines in
+    let step = line_step reading starved (number + length lines) part.history line in
     record { replies = part.replies ++ step.reply ∷ []; history = step.history; over = step.over })
-outcome_from-next reading skipped lines number h line going =
-    outcome_from-push reading skipped lines number h line ∙ then_part-more (outcome_from reading skipped number h lines) _ going
+outcome_from-next reading starved lines number h line going =
+    outcome_from-push reading starved lines number h line ∙ then_part-more (outcome_from reading starved number h lines) _ going
 
 -- ---- how many replies there are
 
@@ -96,11 +96,11 @@ onto_few reply h true more n few = omega arith
 onto_few reply h false more n few = omega arith
 
 -- each line has at most one reply
-pub replies-le-lines : (reading : Reading) (skipped : ℕ → Bool) (lines : List Text) (number : ℕ) (h : History) → length (outcome_from reading skipped number h lines).replies ≤ length lines
-replies-le-lines reading skipped [] number h = omega arith
-replies-le-lines reading skipped (line ∷ lines) number h =
-    let step : Step = line_step reading skipped number h line in
-    onto_few step.reply step.history step.over _ (length lines) (replies-le-lines reading skipped lines (number + 1) step.history)
+pub replies-le-lines : (reading : Reading) (starved : ℕ → Bool) (lines : List Text) (number : ℕ) (h : History) → length (outcome_from reading starved number h lines).replies ≤ length lines
+replies-le-lines reading starved [] number h = omega arith
+replies-le-lines reading starved (line ∷ lines) number h =
+    let step : Step = line_step reading starved number h line in
+    onto_few step.reply step.history step.over _ (length lines) (replies-le-lines reading starved lines (number + 1) step.history)
 
 -- a step that does not end the session adds one reply
 onto_all : (reply : Reply) (h : History) (over : Bool) (more : History → Outcome) (n : ℕ) →
@@ -109,9 +109,9 @@ onto_all reply h true more n all going = absurd (cc)
 onto_all reply h false more n all going = ap suc (all going)
 
 -- each line has its reply, unless the session ended
-pub replies-of-lines : (reading : Reading) (skipped : ℕ → Bool) (lines : List Text) (number : ℕ) (h : History) →
-    (outcome_from reading skipped number h lines).over ≡ false → length (outcome_from reading skipped number h lines).replies ≡ length lines
-replies-of-lines reading skipped [] number h going = refl
-replies-of-lines reading skipped (line ∷ lines) number h going =
-    let step : Step = line_step reading skipped number h line in
-    onto_all step.reply step.history step.over _ (length lines) (replies-of-lines reading skipped lines (number + 1) step.history) going
+pub replies-of-lines : (reading : Reading) (starved : ℕ → Bool) (lines : List Text) (number : ℕ) (h : History) →
+    (outcome_from reading starved number h lines).over ≡ false → length (outcome_from reading starved number h lines).replies ≡ length lines
+replies-of-lines reading starved [] number h going = refl
+replies-of-lines reading starved (line ∷ lines) number h going =
+    let step : Step = line_step reading starved number h line in
+    onto_all step.reply step.history step.over _ (length lines) (replies-of-lines reading starved lines (number + 1) step.history) going

@@ -8,6 +8,7 @@ use Rattle.semantics.specs.Joins.{Join}
 use Rattle.semantics.specs.Histories.{Write, put, remove, declare}
 use Rattle.semantics.specs.Answers.{Read, get, scan}
 use Rattle.protocol.specs.JoinText.{read_join}
+use Rattle.protocol.specs.Lines.{Bytes}
 
 -- a request writes, reads, or ends the session
 pub data Request : Type 0 where
@@ -25,7 +26,7 @@ pub data LineFault : Type 0 where
   syntax : ℕ → LineFault
 
 -- the JSON value of a line (RFC 8259), where it has one
-abbrev pub json_of : Text → Option Data
+abbrev pub json_of : Bytes → Option Data
 json_of line = if is_utf8 line then read_json line else None
 
 abbrev pub text_of : Data → Option Text
@@ -101,5 +102,5 @@ request_of_json None = Err json
 request_of_json (Some d) = request_of_value d
 
 -- `Request`: the request that a line is, or the first of `json`, `form`, `key`, `value`, `range` and `syntax` that refuses it
-unfoldable pub request_of : Text → Result Request LineFault
+unfoldable pub request_of : Bytes → Result Request LineFault
 request_of line = request_of_json (json_of line)

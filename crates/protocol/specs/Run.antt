@@ -1,32 +1,32 @@
 -- What `run` does with one client alone, at each end.
 use Rattle.std.specs.Prelude.{◌≡◌, ℕ, ◌+◌, ◌^◌, ◌≤◌, ◌⊎◌, ◌||◌, ◌==◌, [], ◌∷◌, ◌++◌, length, Bool, true, false, Option, Some, None}
 use Rattle.semantics.specs.Texts.{Text}
-use Rattle.protocol.specs.Lines.{lines_of, whole_lines}
+use Rattle.protocol.specs.Lines.{Bytes, lines_of, whole_lines}
 use Rattle.protocol.specs.Requests.{request_of}
 use Rattle.protocol.specs.Transcript.{transcript, memory_lines, outcome_of}
 use Rattle.protocol.specs.Session.{Ending, closed, quit_line, long_line, read_fault, write_fault, spent, no_memory, NothingLeft}
 
 -- the written bytes are the transcript of the bytes, where the lines that were answered `memory` find none
-abbrev pub IsTranscript : Text → Bool → Text → Type 0
+abbrev pub IsTranscript : Bytes → Bool → Bytes → Type 0
 IsTranscript bytes ended written = written ≡ transcript bytes ended (memory_lines written)
 
 -- the text begins with the first one
-abbrev pub BeginsText : Text → Text → Type 0
-BeginsText front text = (rest : Text) × (text ≡ front ++ rest)
+abbrev pub BeginsText : Bytes → Bytes → Type 0
+BeginsText front text = (rest : Bytes) × (text ≡ front ++ rest)
 
 -- one line more finds no memory: the one whose reply was not written whole
-abbrev pub memory_lines_and_next : Text → ℕ → Bool
+abbrev pub memory_lines_and_next : Bytes → ℕ → Bool
 memory_lines_and_next written number = memory_lines written number || (number == length (whole_lines written) + 1)
 
 -- the written bytes begin the transcript, where the reply that was cut may be `memory`
-abbrev pub BeginsTranscript : Text → Bool → Text → Type 0
+abbrev pub BeginsTranscript : Bytes → Bool → Bytes → Type 0
 BeginsTranscript bytes ended written =
     BeginsText written (transcript bytes ended (memory_lines written))
     ⊎ BeginsText written (transcript bytes ended (memory_lines_and_next written))
 
 -- the fold over the lines that have ended came to `quit`
 abbrev pub QuitsBefore : Text → (ℕ → Bool) → Type 0
-QuitsBefore bytes skipped = (outcome_of (λ h line. request_of line) skipped (lines_of bytes false).lines).over ≡ true
+QuitsBefore bytes starved = (outcome_of (λ h line. request_of line) starved (lines_of bytes false).lines).over ≡ true
 
 -- whether nothing is left in a source, as far as it tells
 abbrev pub is_drained : Option Text → Bool

@@ -14,10 +14,10 @@ both_parts replies h false more = record { replies = replies ++ (more h).replies
 
 -- lines in two parts: the second goes on from the history that the first leaves, with its lines counted on
 abbrev pub OutcomeOfParts : Type 0
-OutcomeOfParts = (reading : Reading) (skipped : ℕ → Bool) (number : ℕ) (h : History) (first second : List Text) →
-    outcome_from reading skipped number h (first ++ second)
-    ≡ (let part = outcome_from reading skipped number h first in
-    both_parts part.replies part.history part.over (λ after. outcome_from reading skipped (number + length first) after second))
+OutcomeOfParts = (reading : Reading) (starved : ℕ → Bool) (number : ℕ) (h : History) (first second : List Bytes) →
+    outcome_from reading starved number h (first ++ second)
+    ≡ (let part = outcome_from reading starved number h first in
+    both_parts part.replies part.history part.over (λ after. outcome_from reading starved (number + length first) after second))
 
 -- what is told from one view to a second, and from that to a third, is told from the first to the third
 abbrev pub ToldComposes : Type 0

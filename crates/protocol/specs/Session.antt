@@ -1,9 +1,8 @@
 -- What is served on one link: the lines that are taken, their replies, and the bytes that are written, at each end.
 use Rattle.std.specs.Prelude.{◌≡◌, ℕ, ◌^◌, ◌<◌, ◌≤◌, ◌⊎◌, List, [], ◌∷◌, ◌++◌, length, map, take, Bool, true, false, Option, Some, None, Result, Ok, Err, ⊤}
 use Rattle.std.specs.List.{AllZip, list_any}
-use Rattle.semantics.specs.Texts.{Text}
 use Rattle.semantics.specs.Histories.{History}
-use Rattle.protocol.specs.Lines.{lines_of}
+use Rattle.protocol.specs.Lines.{Bytes, lines_of}
 use Rattle.protocol.specs.Requests.{Request, write, read, quit, LineFault, request_of}
 use Rattle.protocol.specs.Replies.{Reply, done, answered, refused, unread, long, memory, bye, reply_text}
 use Rattle.protocol.specs.Told.{Told}
@@ -24,19 +23,19 @@ told_of (Ok (read r)) reply = (read r, reply) ∷ []
 told_of (Ok quit) reply = []
 
 -- the writes and reads among lines, with their replies
-abbrev pub told_pairs : List Text → List Reply → List (Request × Reply)
+abbrev pub told_pairs : List Bytes → List Reply → List (Request × Reply)
 told_pairs [] replies = []
 told_pairs (line ∷ lines) [] = []
 told_pairs (line ∷ lines) (reply ∷ replies) = told_of (request_of line) reply ++ told_pairs lines replies
 
 -- each line has one reply, in order, and `Told` holds for the writes and reads among them
-pub record Serves (before after : History) (client : ℕ) (lines : List Text) (replies : List Reply) : Type 0 where
+pub record Serves (before after : History) (client : ℕ) (lines : List Bytes) (replies : List Reply) : Type 0 where
   pub each : AllZip (λ line reply. AnswersLine (request_of line) reply) lines replies
   pub told : Told before after client (map (λ p. p.0) (told_pairs lines replies)) (map (λ p. p.1) (told_pairs lines replies))
 
 -- the lines are the first ones of the bytes
-abbrev pub BeginLines : Text → Bool → List Text → Type 0
-BeginLines bytes ended lines = (rest : List Text) × ((lines_of bytes ended).lines ≡ lines ++ rest)
+abbrev pub BeginLines : Bytes → Bool → List Bytes → Type 0
+BeginLines bytes ended lines = (rest : List Bytes) × ((lines_of bytes ended).lines ≡ lines ++ rest)
 
 abbrev pub is_bye : Reply → Bool
 is_bye (done n) = false
@@ -52,7 +51,7 @@ abbrev pub NoBye : List Reply → Type 0
 NoBye replies = list_any is_bye replies ≡ false
 
 -- where it is told what is left, nothing is
-abbrev pub NothingLeft : Option Text → Type 0
+abbrev pub NothingLeft : Option Bytes → Type 0
 NothingLeft None = ⊤
 NothingLeft (Some bytes) = bytes ≡ []
 
@@ -71,9 +70,9 @@ pub record Link : Type 0 where
   pub before : History
   pub after : History
   pub client : ℕ
-  pub bytes : Text
-  pub written : Text
-  pub left : Option Text
+  pub bytes : Bytes
+  pub written : Bytes
+  pub left : Option Bytes
 
 -- every line was answered, none of them by `bye`, and the texts of the replies were written
 pub record AllServed (link : Link) (ended : Bool) (replies : List Reply) : Type 0 where
@@ -84,13 +83,13 @@ pub record AllServed (link : Link) (ended : Bool) (replies : List Reply) : Type 
 pub record ServedTo (link : Link) (replies : List Reply) (last : Reply) : Type 0 where
   pub ended : Bool
   pub at_end : ended ≡ true → NothingLeft link.left
-  pub lines : List Text
+  pub lines : List Bytes
   pub begin : BeginLines link.bytes ended lines
   pub serves : Serves link.before link.after link.client lines (replies ++ last ∷ [])
   pub no_bye : NoBye replies
 
 -- of the last text a part that is not the whole was written, after the texts of the replies before
-abbrev pub CutsText : Text → List Reply → Reply → Type 0
+abbrev pub CutsText : Bytes → List Reply → Reply → Type 0
 CutsText written replies last = (n : ℕ) × (n < length (reply_text last)) × (written ≡ reply_texts replies ++ take n (reply_text last))
 
 -- how a link is left at each end

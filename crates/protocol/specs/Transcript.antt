@@ -5,13 +5,13 @@ use Rattle.semantics.specs.Texts.{Text, same}
 use Rattle.semantics.specs.Histories.{Write, History}
 use Rattle.semantics.specs.Verdicts.{Cause, verdict}
 use Rattle.semantics.specs.Answers.{answer}
-use Rattle.protocol.specs.Lines.{Cut, lines_of, whole_lines}
+use Rattle.protocol.specs.Lines.{Bytes, Cut, lines_of, whole_lines}
 use Rattle.protocol.specs.Requests.{Request, write, read, quit, LineFault, request_of}
 use Rattle.protocol.specs.Replies.{Reply, done, answered, refused, unread, long, memory, bye, reply_text}
 
 -- a reading says what a line asks for after a history, or why it asks for nothing
 abbrev pub Reading : Type 0
-Reading = History → Text → Result Request LineFault
+Reading = History → Bytes → Result Request LineFault
 
 -- a reply, the history after it, and whether it ends the session
 pub record Step : Type 0 where
@@ -35,9 +35,9 @@ step_of (Ok quit) h = record { reply = bye; history = h; over = true }
 abbrev pub memory_step : History → Step
 memory_step h = record { reply = memory; history = h; over = false }
 
--- the step of a line with a number, where the lines that are skipped find no memory
-abbrev pub line_step : Reading → (ℕ → Bool) → ℕ → History → Text → Step
-line_step reading skipped number h line = if skipped number then memory_step h else step_of (reading h line) h
+-- the step of a line with a number, where the lines that are starved find no memory
+abbrev pub line_step : Reading → (ℕ → Bool) → ℕ → History → Bytes → Step
+line_step reading starved number h line = if starved number then memory_step h else step_of (reading h line) h
 
 -- the replies to lines, the history after them, and whether the session ended
 pub record Outcome : Type 0 where
@@ -54,15 +54,15 @@ after_step reply h true more = record { replies = reply ∷ []; history = h; ove
 after_step reply h false more = onto_replies reply (more h)
 
 -- the fold over lines, which are counted from a number
-abbrev pub outcome_from : Reading → (ℕ → Bool) → ℕ → History → List Text → Outcome
-outcome_from reading skipped number h [] = record { replies = []; history = h; over = false }
-outcome_from reading skipped number h (line ∷ lines) =
-    after_step (line_step reading skipped number h line).reply (line_step reading skipped number h line).history (line_step reading skipped number h line).over
-    (λ after. outcome_from reading skipped (number + 1) after lines)
+abbrev pub outcome_from : Reading → (ℕ → Bool) → ℕ → History → List Bytes → Outcome
+outcome_from reading starved number h [] = record { replies = []; history = h; over = false }
+outcome_from reading starved number h (line ∷ lines) =
+    after_step (line_step reading starved number h line).reply (line_step reading starved number h line).history (line_step reading starved number h line).over
+    (λ after. outcome_from reading starved (number + 1) after lines)
 
 -- the outcome of lines from the empty history; lines are counted from 1
-unfoldable pub outcome_of : Reading → (ℕ → Bool) → List Text → Outcome
-outcome_of reading skipped lines = outcome_from reading skipped 1 [] lines
+unfoldable pub outcome_of : Reading → (ℕ → Bool) → List Bytes → Outcome
+outcome_of reading starved lines = outcome_from reading starved 1 [] lines
 
 abbrev pub reply_texts : List Reply → Text
 reply_texts = flat_map reply_text
@@ -72,24 +72,24 @@ abbrev pub long_text : Bool → Outcome → Text
 long_text marked outcome = if marked && not outcome.over then reply_text long else []
 
 abbrev pub transcript_of_cut : Reading → (ℕ → Bool) → Cut → Text
-transcript_of_cut reading skipped cut =
-    reply_texts (outcome_of reading skipped cut.lines).replies ++ long_text cut.long (outcome_of reading skipped cut.lines)
+transcript_of_cut reading starved cut =
+    reply_texts (outcome_of reading starved cut.lines).replies ++ long_text cut.long (outcome_of reading starved cut.lines)
 
 -- `Transcript` under a reading: the texts of the replies to the lines of the bytes, where the numbered lines find no memory
-unfoldable pub transcript_by : Reading → Text → Bool → (ℕ → Bool) → Text
-transcript_by reading bytes ended skipped = transcript_of_cut reading skipped (lines_of bytes ended)
+unfoldable pub transcript_by : Reading → Bytes → Bool → (ℕ → Bool) → Text
+transcript_by reading bytes ended starved = transcript_of_cut reading starved (lines_of bytes ended)
 
 -- `Transcript`: every form of a request is read
-abbrev pub transcript : Text → Bool → (ℕ → Bool) → Text
+abbrev pub transcript : Bytes → Bool → (ℕ → Bool) → Text
 transcript = transcript_by (λ h line. request_of line)
 
 -- ---- which lines found no memory, by what was written
 
 -- whether a line with its byte 10 is the text of `memory`
-abbrev pub is_memory_line : Text → Bool
+abbrev pub is_memory_line : Bytes → Bool
 is_memory_line line = same (line ++ 10 ∷ []) (reply_text memory)
 
 -- whether the whole line with a number, counted from 1, of a written text is the text of `memory`
-unfoldable pub memory_lines : Text → ℕ → Bool
+unfoldable pub memory_lines : Bytes → ℕ → Bool
 memory_lines written zero = false
 memory_lines written (suc i) = option_map_or is_memory_line (slice_get (whole_lines written) i) false

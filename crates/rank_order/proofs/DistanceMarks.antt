@@ -8,8 +8,8 @@ use Rattle.std.proofs.lemmas.List.Folds.{list_any-append}
 use Rattle.semantics.specs.Graphs.{Edges, reads, AreVertices}
 use Rattle.semantics.proofs.Members.{IsIn-from_list_any, list_any-from_IsIn}
 use Rattle.semantics.proofs.GraphReadings.{AreVertices-get_or, edge-from_reads, reads-from_edge, reads-below}
-use Rattle.rank_order.specs.Ways.{HasWay, IsDistance, AreDistances, is_at_distance}
-use Rattle.rank_order.proofs.WaySteps.{HasWay-cons, next-from_HasWay, distance-from_is_at, is_at-from_distance, HasWay-from_is_at, is_at-from_HasWay}
+use Rattle.rank_order.specs.Walks.{HasWalk, IsDistance, AreDistances, is_at_distance}
+use Rattle.rank_order.proofs.WalkSteps.{HasWalk-cons, next-from_HasWalk, distance-from_is_at, is_at-from_distance, HasWalk-from_is_at, is_at-from_HasWalk}
 
 -- whether an edge is a step from the vertex to one at the distance
 abbrev pub is_step : List ℕ → ℕ → ℕ → ℕ → ℕ × ℕ → Bool
@@ -106,27 +106,27 @@ IsMarked-mark goal steps distances done marked e g h m z t =
         let old = IsMarkedAt-skip goal steps distances done marked e a (m.each a k) (λ s _ _. ne (eqb-true e.0 a s)) in
         record { kept = λ p. other ∙ old.kept p; new = λ y u. other ∙ old.new y u; none = λ y u. other ∙ old.none y u }
 
--- a step from a vertex is among the edges, where it has a way of one step more and no shorter one
-step-from_HasWay : (edges : Edges) (goal steps : ℕ) (distances : List ℕ) (a : ℕ) → AreVertices (length distances) edges → AreDistances edges goal steps distances → a < length distances →
-    slice_index distances a ≡ 0 → HasWay edges goal (suc steps) a → list_any (is_step distances goal steps a) edges ≡ true
-step-from_HasWay edges goal steps distances a v d k z w =
-    let next = next-from_HasWay edges goal steps a w in
+-- a step from a vertex is among the edges, where it has a walk of one step more and no shorter one
+step-from_HasWalk : (edges : Edges) (goal steps : ℕ) (distances : List ℕ) (a : ℕ) → AreVertices (length distances) edges → AreDistances edges goal steps distances → a < length distances →
+    slice_index distances a ≡ 0 → HasWalk edges goal (suc steps) a → list_any (is_step distances goal steps a) edges ≡ true
+step-from_HasWalk edges goal steps distances a v d k z w =
+    let next = next-from_HasWalk edges goal steps a w in
     let below = reads-below (length distances) edges a next.0 v next.1 in
-    let shorter = λ (j : ℕ) (lt : j < steps) (u : HasWay edges goal (suc j) a). let f = (d a k).least (suc j) (omega arith) (omega arith) u in let no_distance : ⊥ = omega (arith, f.0) in no_distance in
-    let near = is_at-from_HasWay edges goal steps distances steps a next.0 d below.1 (omega arith) next.1 shorter next.2 in
+    let shorter = λ (j : ℕ) (lt : j < steps) (u : HasWalk edges goal (suc j) a). let f = (d a k).least (suc j) (omega arith) (omega arith) u in let no_distance : ⊥ = omega (arith, f.0) in no_distance in
+    let near = is_at-from_HasWalk edges goal steps distances steps a next.0 d below.1 (omega arith) next.1 shorter next.2 in
     let edge = edge-from_reads edges a next.0 next.1 in
     list_any-from_IsIn (is_step distances goal steps a) edge.0 edges
     (and_from (eqb edge.0.0 a) (is_at_distance distances goal steps edge.0.1) (eq-eqb edge.0.0 a edge.2) (subst (λ b. is_at_distance distances goal steps b ≡ true) (sym edge.3) near)) edge.1
 
--- a step among the edges makes a way of one step more
-HasWay-from_step : (edges : Edges) (goal steps : ℕ) (distances : List ℕ) (a : ℕ) → AreVertices (length distances) edges → AreDistances edges goal steps distances →
-    list_any (is_step distances goal steps a) edges ≡ true → HasWay edges goal (suc steps) a
-HasWay-from_step edges goal steps distances a v d t =
+-- a step among the edges makes a walk of one step more
+HasWalk-from_step : (edges : Edges) (goal steps : ℕ) (distances : List ℕ) (a : ℕ) → AreVertices (length distances) edges → AreDistances edges goal steps distances →
+    list_any (is_step distances goal steps a) edges ≡ true → HasWalk edges goal (suc steps) a
+HasWalk-from_step edges goal steps distances a v d t =
     let found = IsIn-from_list_any (is_step distances goal steps a) edges t in
     let both = and_parts (eqb found.0.0 a) (is_at_distance distances goal steps found.0.1) found.2 in
     let read = subst (λ w. reads edges w found.0.1 ≡ true) (eqb-true found.0.0 a both.0) (reads-from_edge edges found.0 found.1) in
     let below = reads-below (length distances) edges a found.0.1 v read in
-    HasWay-cons edges goal steps a found.0.1 read (HasWay-from_is_at edges goal steps distances steps found.0.1 d below.1 both.1)
+    HasWalk-cons edges goal steps a found.0.1 read (HasWalk-from_is_at edges goal steps distances steps found.0.1 d below.1 both.1)
 
 -- a distance that was known stays
 IsDistance-kept : (edges : Edges) (goal steps a distance : ℕ) → 0 < distance → IsDistance edges goal steps a distance → IsDistance edges goal (suc steps) a distance
@@ -139,7 +139,7 @@ IsDistance-kept edges goal steps a distance some d =
     }
 
 -- a distance that is found
-IsDistance-new : (edges : Edges) (goal steps a : ℕ) → IsDistance edges goal steps a 0 → HasWay edges goal (suc steps) a → IsDistance edges goal (suc steps) a (suc steps)
+IsDistance-new : (edges : Edges) (goal steps a : ℕ) → IsDistance edges goal steps a 0 → HasWalk edges goal (suc steps) a → IsDistance edges goal (suc steps) a (suc steps)
 IsDistance-new edges goal steps a d w =
     record {
       within = omega arith;
@@ -148,12 +148,12 @@ IsDistance-new edges goal steps a d w =
     }
 
 -- no distance is found
-IsDistance-none : (edges : Edges) (goal steps a : ℕ) → IsDistance edges goal steps a 0 → (HasWay edges goal (suc steps) a → ⊥) → IsDistance edges goal (suc steps) a 0
+IsDistance-none : (edges : Edges) (goal steps a : ℕ) → IsDistance edges goal steps a 0 → (HasWalk edges goal (suc steps) a → ⊥) → IsDistance edges goal (suc steps) a 0
 IsDistance-none edges goal steps a d none =
     record {
       within = omega arith;
       has_way = λ p. absurd (lt_irrefl 0 p);
-      least = λ j p q u. elim (cases_lt steps j) [ inl lt ↦ (let e : j ≡ suc steps = omega arith in absurd (none (subst (λ k. HasWay edges goal k a) e u))) | inr le ↦ d.least j p le u ];
+      least = λ j p q u. elim (cases_lt steps j) [ inl lt ↦ (let e : j ≡ suc steps = omega arith in absurd (none (subst (λ k. HasWalk edges goal k a) e u))) | inr le ↦ d.least j p le u ];
     }
 
 -- after a round over all edges the marks are the distances of one step more
@@ -165,9 +165,9 @@ AreDistances-round edges goal steps distances marked v d m a k =
     elim (cases_eq (slice_index distances a) 0) [
       | inl z ↦ (let old = subst (λ w. IsDistance edges goal steps a w) z (d a low) in
           elim (cases_Bool (list_any (is_step distances goal steps a) edges)) [
-            | inl t ↦ subst (λ w. IsDistance edges goal (suc steps) a w) (sym (here.new z t)) (IsDistance-new edges goal steps a old (HasWay-from_step edges goal steps distances a v d t))
+            | inl t ↦ subst (λ w. IsDistance edges goal (suc steps) a w) (sym (here.new z t)) (IsDistance-new edges goal steps a old (HasWalk-from_step edges goal steps distances a v d t))
             | inr t ↦ subst (λ w. IsDistance edges goal (suc steps) a w) (sym (here.none z t))
-                (IsDistance-none edges goal steps a old (λ w. false≢true (sym t ∙ step-from_HasWay edges goal steps distances a v d low z w)))
+                (IsDistance-none edges goal steps a old (λ w. false≢true (sym t ∙ step-from_HasWalk edges goal steps distances a v d low z w)))
           ])
       | inr nz ↦ (let some : 0 < slice_index distances a = omega arith in
           subst (λ w. IsDistance edges goal (suc steps) a w) (sym (here.kept some)) (IsDistance-kept edges goal steps a (slice_index distances a) some (d a low)))

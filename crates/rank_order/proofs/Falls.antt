@@ -1,6 +1,6 @@
 -- Readings whose edges lead down, but for those at one vertex.
 use Rattle.std.proofs.Common.{◌≡◌, ◌≢◌, ℕ, suc, ◌<◌, ◌⊎◌, inl, inr, List, [], ◌∷◌, length, get_or, slice_index, Contains, true, sym, ap, subst, ◌∙◌, arith}
-use Rattle.semantics.specs.Graphs.{Edges, reads, AreVertices, LeadsTo, BeginsWith}
+use Rattle.semantics.specs.Graphs.{Edges, reads, AreVertices, IsWalkTo, BeginsWith}
 use Rattle.semantics.proofs.Members.{IsIn, IsIn-cases, Contains-from_IsIn}
 use Rattle.semantics.proofs.GraphReadings.{edge-from_reads}
 use Rattle.rank_order.specs.Answers.{EachCycleMeets}
@@ -38,12 +38,12 @@ falls-from_reads n start heights edges a b h r p q =
     down : (x y : ℕ) → (x ≢ start → y ≢ start → slice_index heights y < slice_index heights x) → x ≡ a → y ≡ b → slice_index heights b < slice_index heights a
     down x y f s t = subst (λ w. slice_index heights w < slice_index heights a) t (subst (λ w. slice_index heights y < slice_index heights w) s (f (λ e. p (sym s ∙ e)) (λ e. q (sym t ∙ e))))
 
--- a way that does not touch the start leads down
-falls-from_way : (n start : ℕ) (heights : List ℕ) (edges : Edges) (goal x : ℕ) (way : List ℕ) → AreFalls n start heights edges → LeadsTo edges goal (x ∷ way) → goal ≢ start →
-    (IsIn start (x ∷ way) → ⊥) → slice_index heights goal < slice_index heights x
-falls-from_way n start heights edges goal x [] h l g absent = falls-from_reads n start heights edges x goal h l (λ e. absent (inl (sym e))) g
-falls-from_way n start heights edges goal x (y ∷ way) h l g absent =
-    let rest = falls-from_way n start heights edges goal y way h l.1 g (λ m. absent (inr m)) in
+-- a walk that does not touch the start leads down
+falls-from_walk : (n start : ℕ) (heights : List ℕ) (edges : Edges) (goal x : ℕ) (walk : List ℕ) → AreFalls n start heights edges → IsWalkTo edges goal (x ∷ walk) → goal ≢ start →
+    (IsIn start (x ∷ walk) → ⊥) → slice_index heights goal < slice_index heights x
+falls-from_walk n start heights edges goal x [] h l g absent = falls-from_reads n start heights edges x goal h l (λ e. absent (inl (sym e))) g
+falls-from_walk n start heights edges goal x (y ∷ walk) h l g absent =
+    let rest = falls-from_walk n start heights edges goal y walk h l.1 g (λ m. absent (inr m)) in
     let here = falls-from_reads n start heights edges x y h l.0 (λ e. absent (inl (sym e))) (λ e. absent (inr (inl (sym e)))) in
     omega arith
 
@@ -51,10 +51,10 @@ falls-from_way n start heights edges goal x (y ∷ way) h l g absent =
 pub EachCycleMeets-from_falls : (n start : ℕ) (heights : List ℕ) (edges : Edges) → AreFalls n start heights edges → EachCycleMeets edges start
 EachCycleMeets-from_falls n start heights edges h a cycle c = by_list a cycle c.begins c.closes (IsIn-cases start cycle)
   where
-    by_list : (a : ℕ) (cycle : List ℕ) → BeginsWith a cycle → LeadsTo edges a cycle → (IsIn start cycle) ⊎ (IsIn start cycle → ⊥) → Contains cycle start
+    by_list : (a : ℕ) (cycle : List ℕ) → BeginsWith a cycle → IsWalkTo edges a cycle → (IsIn start cycle) ⊎ (IsIn start cycle → ⊥) → Contains cycle start
     by_list a cycle b l (inl m) = Contains-from_IsIn start cycle m
     by_list a [] b l (inr absent) = absurd b
-    by_list a (x ∷ way) b l (inr absent) =
-        let down = falls-from_way n start heights edges a x way h l (λ e. absent (inl (sym e ∙ b))) absent in
+    by_list a (x ∷ walk) b l (inr absent) =
+        let down = falls-from_walk n start heights edges a x walk h l (λ e. absent (inl (sym e ∙ b))) absent in
         let same = ap (slice_index heights) b in
         absurd (omega arith)

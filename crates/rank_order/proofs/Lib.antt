@@ -1,6 +1,6 @@
-pub mod WaySteps
+pub mod WalkSteps
 pub mod DistanceMarks
 pub mod RankRaises
-pub mod LeastWays
+pub mod LeastWalks
 pub mod Falls
 pub mod JoinedReadings

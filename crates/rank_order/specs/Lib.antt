@@ -1,3 +1,3 @@
-pub mod Ways
+pub mod Walks
 pub mod Raises
 pub mod Answers

@@ -1,12 +1,12 @@
 // The ranks of a reading, or its cycle.
 ghost use Rattle.std.specs.Prelude.{◌≡◌, ◌<◌, ◌↔◌, IfOk};
-ghost use Rattle.semantics.specs.Graphs.{AreVertices, IsAcyclic, IsShownCycle, ranks};
+ghost use Rattle.semantics.specs.Graphs.{AreVertices, IsAcyclic, IsLeastCycle, ranks};
 ghost use Rattle.rank_order.specs.Answers.{EachCycleMeets, IsRanks, IfRanks, IfCycle};
 
 use crate::distances::distances_to;
 use crate::levels::find_ranks;
-use crate::walk::shown_cycle;
-use memory::OutOfMemory;
+use crate::walk::least_cycle;
+use out_of_memory::OutOfMemory;
 use std::alloc::Global;
 
 /// What `ranks` finds.
@@ -18,7 +18,7 @@ pub enum Ranked {
     Cycle(Vec<usize>),
 }
 
-/// The ranks of the vertices below `n`, of which `a` reads `b` for each edge `(a, b)`, or the cycle that is shown where
+/// The ranks of the vertices below `n`, of which `a` reads `b` for each edge `(a, b)`, or the least cycle where
 /// there is one: the shortest through `start`, beginning there, and among the shortest the least.
 ///
 /// Every cycle must go through `start`, as it does where `start` was added to a reading without one. `OutOfMemory` is the
@@ -37,11 +37,11 @@ pub fn ranks(
     // Ranks come exactly where there is no cycle, and a cycle exactly where there is one.
     ensures acyclic { IfOk result (λ r. IsRanks r ↔ IsAcyclic edges.now) }
     ensures ranks { IfOk result (λ r. IfRanks r (λ found. found ≡ ranks n edges.now)) }
-    ensures cycle { IfOk result (λ r. IfCycle r (IsShownCycle edges.now start)) }
+    ensures cycle { IfOk result (λ r. IfCycle r (IsLeastCycle edges.now start)) }
 {
     let distances = distances_to(alloc, n, edges, start)?;
     if distances[start] == 0 {
         return Ok(Ranked::Ranks(find_ranks(alloc, n, edges)?));
     }
-    Ok(Ranked::Cycle(shown_cycle(alloc, edges, &distances, start)?))
+    Ok(Ranked::Cycle(least_cycle(alloc, edges, &distances, start)?))
 }

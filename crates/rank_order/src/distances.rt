@@ -1,9 +1,9 @@
 // The distances of vertices from a goal, found breadth first backwards.
 ghost use Rattle.std.specs.Prelude.{◌≡◌, ◌+◌, ◌<◌, length, IfOk, vec_len};
 ghost use Rattle.semantics.specs.Graphs.{AreVertices};
-ghost use Rattle.rank_order.specs.Ways.{AreDistances, is_at_distance};
+ghost use Rattle.rank_order.specs.Walks.{AreDistances, is_at_distance};
 
-use memory::OutOfMemory;
+use out_of_memory::OutOfMemory;
 use std::alloc::Global;
 
 /// Whether a vertex is so many steps before the goal, by the distances that are known; the goal itself is at none.
@@ -32,7 +32,7 @@ pub fn mark_round(distances: &mut [usize], edges: &[(usize, usize)], goal: usize
     }
 }
 
-/// The distance of each vertex below `n` from the goal, 0 where no way leads there. Each edge is looked at `n` times.
+/// The distance of each vertex below `n` from the goal, 0 where no walk leads there. Each edge is looked at `n` times.
 pub fn distances_to(
     alloc: Global,
     n: usize,

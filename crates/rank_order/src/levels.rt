@@ -3,7 +3,7 @@ ghost use Rattle.std.specs.Prelude.{◌≡◌, ◌<◌, length, IfOk, All};
 ghost use Rattle.semantics.specs.Graphs.{AreVertices, ranks};
 ghost use Rattle.rank_order.specs.Raises.{raised};
 
-use memory::OutOfMemory;
+use out_of_memory::OutOfMemory;
 use std::alloc::Global;
 
 /// At each vertex one more than the greatest of the numbers that stand at what it reads, 0 where it reads nothing.

@@ -116,7 +116,7 @@ fn shows_the_shortest_and_least_cycle(rt: HostRuntime) -> Result<(), Fail> {
             &[1, 0, 0, 0, 0],
             &[4, 3],
         ),
-        // The least vertex that is read leads back by a longer way.
+        // The least vertex that is read leads back by a longer walk.
         (
             &[(5, 0), (0, 1), (1, 2), (2, 5), (5, 3), (3, 4), (4, 5)],
             5,

@@ -1,10 +1,10 @@
 // The walk along the shortest cycle, by the least vertex at each step.
 ghost use Rattle.std.specs.Prelude.{◌≡◌, ◌<◌, length, min, slice_index, IfOk, MatchOption};
-ghost use Rattle.semantics.specs.Graphs.{AreVertices, IsShownCycle};
-ghost use Rattle.rank_order.specs.Ways.{AreDistances, IsLeastNext, HasNoNext};
+ghost use Rattle.semantics.specs.Graphs.{AreVertices, IsLeastCycle};
+ghost use Rattle.rank_order.specs.Walks.{AreDistances, IsLeastNext, HasNoNext};
 
 use crate::distances::is_at;
-use memory::OutOfMemory;
+use out_of_memory::OutOfMemory;
 use std::alloc::Global;
 
 /// The lesser of a vertex and the least one so far, if there is one.
@@ -40,7 +40,7 @@ fn next_towards(
 
 /// The shortest cycle through `start`, and among the shortest the least, by the distances from `start`. Each edge is
 /// looked at once for each vertex of the cycle.
-pub fn shown_cycle(
+pub fn least_cycle(
     alloc: Global,
     edges: &[(usize, usize)],
     distances: &[usize],
@@ -50,7 +50,7 @@ pub fn shown_cycle(
     requires start_in { start < length distances.now }
     requires distances { AreDistances edges.now start (length distances.now) distances.now }
     requires cycle { 0 < slice_index distances.now start }
-    ensures { IfOk result (λ c. IsShownCycle edges.now start c.items) }
+    ensures { IfOk result (λ c. IsLeastCycle edges.now start c.items) }
 {
     let mut cycle = Vec::new(alloc);
     let mut vertex = start;

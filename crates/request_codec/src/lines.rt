@@ -4,12 +4,12 @@ ghost use Rattle.std.specs.List.{list_any};
 ghost use Rattle.protocol.specs.Lines.{line_limit};
 ghost use Rattle.request_codec.specs.Feeding.{is_feed, before_feed, fed, fed_by, line_fed, ends};
 
-use memory::OutOfMemory;
+use out_of_memory::OutOfMemory;
 use std::alloc::Global;
 use std::marker::Model;
 
 /// The most bytes of a line, without the byte 10 that ends it.
-pub const MOST_LINE_BYTES: usize = 1_048_576;
+pub const MAX_LINE_BYTES: usize = 1_048_576;
 
 /// The byte that ends a line.
 pub const LINE_END: u8 = b'\n';
@@ -90,7 +90,7 @@ impl Lines {
     pub fn new(alloc: Global) -> Result<Lines, OutOfMemory>
         ensures { IfOk result (λ lines. lines ≡ record { line = []; ended = false }) }
     {
-        let bytes = Vec::with_capacity(alloc, MOST_LINE_BYTES)?;
+        let bytes = Vec::with_capacity(alloc, MAX_LINE_BYTES)?;
         Ok(Lines {
             bytes,
             ended: false,
@@ -109,7 +109,7 @@ impl Lines {
         ensures ended { self.new.ended ≡ ends result }
     {
         let before = before_line_end(piece);
-        let room = MOST_LINE_BYTES - self.bytes.len();
+        let room = MAX_LINE_BYTES - self.bytes.len();
         let fed = make_fed(before, room, piece.len());
         fill(&mut self.bytes, &piece[..before.min(room)]);
         self.ended = fed != Fed::More;

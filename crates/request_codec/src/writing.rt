@@ -13,7 +13,7 @@ use crate::lines::LINE_END;
 use crate::reply::Reply;
 use crate::request::LineFault;
 use join_types::{Cause, Pair};
-use memory::OutOfMemory;
+use out_of_memory::OutOfMemory;
 use serde_json::Value;
 use std::alloc::Global;
 

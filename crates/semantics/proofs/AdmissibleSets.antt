@@ -4,48 +4,48 @@ use Rattle.std.specs.List.{AllByRecursion, list_any}
 use Rattle.std.proofs.lemmas.Bool.{or_parts, not-false, false≢true}
 use Rattle.semantics.specs.Patterns.{overlaps}
 use Rattle.semantics.specs.Joins.{Join, keeps_slot_rule, keeps_source_rule}
-use Rattle.semantics.specs.Histories.{Write, put, remove, declare, Entry, History, Standing, joins_after, joins_from, joins_of}
-use Rattle.semantics.specs.Graphs.{LeadsTo, IsCycle, HasNoCycle, IsAcyclic, IsShownCycle, shown_cycle}
+use Rattle.semantics.specs.Histories.{Write, put, remove, declare, Entry, History, DeclaredJoin, joins_after, joins_from, joins_of}
+use Rattle.semantics.specs.Graphs.{IsWalkTo, IsCycle, HasNoCycle, IsAcyclic, IsLeastCycle, least_cycle}
 use Rattle.semantics.specs.States.{reading, ranks_of, KeepsRules, IsAdmissible}
 use Rattle.semantics.specs.Verdicts.{full, late, joined, join_cause, write_cause, verdict, AllEntered}
 use Rattle.semantics.specs.AdmissibleLaws.{JoinedIsAdmissible}
 use Rattle.semantics.specs.StateLaws.{EnteredIsAdmissible}
 use Rattle.semantics.proofs.Members.{IsIn, IsIn-cases, AllByRecursion-append}
-use Rattle.semantics.proofs.GraphCycles.{LeadsTo-below, cycle-from_member}
-use Rattle.semantics.proofs.GraphShown.{cycle_is_shown_lem}
+use Rattle.semantics.proofs.GraphCycles.{IsWalkTo-below, cycle-from_member}
+use Rattle.semantics.proofs.GraphLeast.{cycle_is_least_lem}
 use Rattle.semantics.proofs.JoinSets.{first_cause-None, test-from_None, option-from_None, AllByRecursion-from_find, AreApart-joined}
 use Rattle.semantics.proofs.JoinReadings.{AreVertices-reading, reads-joined}
 
 -- a set with one more join has one more
-pub length-joined : (joins : List Standing) (position : ℕ) (j : Join) → length (joined joins position j) ≡ length joins + 1
+pub length-joined : (joins : List DeclaredJoin) (position : ℕ) (j : Join) → length (joined joins position j) ≡ length joins + 1
 length-joined joins position j = length-append joins (record { position = position; join = j } ∷ [])
 
--- a way among earlier joins is one of the earlier set's reading
-pub LeadsTo-earlier : (joins : List Standing) (position : ℕ) (j : Join) (goal : ℕ) (way : List ℕ) → LeadsTo (reading (joined joins position j)) goal way →
-    goal < length joins → ((q : ℕ) → IsIn q way → q < length joins) → LeadsTo (reading joins) goal way
-LeadsTo-earlier joins position j goal [] l g below = l
-LeadsTo-earlier joins position j goal (a ∷ []) l g below = reads-joined joins position j a goal l (below a (inl refl)) g
-LeadsTo-earlier joins position j goal (a ∷ b ∷ way) l g below = (
+-- a walk among earlier joins is one of the earlier set's reading
+pub IsWalkTo-earlier : (joins : List DeclaredJoin) (position : ℕ) (j : Join) (goal : ℕ) (walk : List ℕ) → IsWalkTo (reading (joined joins position j)) goal walk →
+    goal < length joins → ((q : ℕ) → IsIn q walk → q < length joins) → IsWalkTo (reading joins) goal walk
+IsWalkTo-earlier joins position j goal [] l g below = l
+IsWalkTo-earlier joins position j goal (a ∷ []) l g below = reads-joined joins position j a goal l (below a (inl refl)) g
+IsWalkTo-earlier joins position j goal (a ∷ b ∷ walk) l g below = (
   reads-joined joins position j a b l.0 (below a (inl refl)) (below b (inr (inl refl))),
-  LeadsTo-earlier joins position j goal (b ∷ way) l.1 g (λ q m. below q (inr m)),
+  IsWalkTo-earlier joins position j goal (b ∷ walk) l.1 g (λ q m. below q (inr m)),
 )
 
 -- a cycle of the larger set that does not go through its last join is one of the earlier set
-earlier_cycle : (joins : List Standing) (position : ℕ) (j : Join) (start : ℕ) (cycle : List ℕ) → IsCycle (reading (joined joins position j)) start cycle →
+earlier_cycle : (joins : List DeclaredJoin) (position : ℕ) (j : Join) (start : ℕ) (cycle : List ℕ) → IsCycle (reading (joined joins position j)) start cycle →
     (IsIn (length joins) cycle → ⊥) → IsCycle (reading joins) start cycle
 earlier_cycle joins position j start [] c absent = absurd c.begins
 earlier_cycle joins position j start (x ∷ cycle) c absent =
     let below : (q : ℕ) → IsIn q (x ∷ cycle) → q < length joins = λ q m.
     let apart : q ≢ length joins = λ e. absent (subst (λ z. IsIn z (x ∷ cycle)) e m) in
-    let within = LeadsTo-below (length (joined joins position j)) (reading (joined joins position j)) start (x ∷ cycle) (AreVertices-reading (joined joins position j)) c.closes q m in
+    let within = IsWalkTo-below (length (joined joins position j)) (reading (joined joins position j)) start (x ∷ cycle) (AreVertices-reading (joined joins position j)) c.closes q m in
     omega (arith, length-joined joins position j) in
     record {
       begins = c.begins;
-      closes = LeadsTo-earlier joins position j start (x ∷ cycle) c.closes (subst (λ z. z < length joins) (sym c.begins) (below x (inl refl))) below;
+      closes = IsWalkTo-earlier joins position j start (x ∷ cycle) c.closes (subst (λ z. z < length joins) (sym c.begins) (below x (inl refl))) below;
     }
 
 -- where the earlier set's reading has no cycle, each one of the larger set goes through the last join
-pub last-from_cycle : (joins : List Standing) (position : ℕ) (j : Join) (start : ℕ) (cycle : List ℕ) → IsAcyclic (reading joins) →
+pub last-from_cycle : (joins : List DeclaredJoin) (position : ℕ) (j : Join) (start : ℕ) (cycle : List ℕ) → IsAcyclic (reading joins) →
     IsCycle (reading (joined joins position j)) start cycle → IsIn (length joins) cycle
 last-from_cycle joins position j start cycle earlier c =
     elim (IsIn-cases (length joins) cycle) [
@@ -54,20 +54,20 @@ last-from_cycle joins position j start cycle earlier c =
     ]
 
 -- the larger set's reading has no cycle where the earlier one's has none and none goes through the last join
-pub IsAcyclic-joined : (joins : List Standing) (position : ℕ) (j : Join) → IsAcyclic (reading joins) → HasNoCycle (reading (joined joins position j)) (length joins) →
+pub IsAcyclic-joined : (joins : List DeclaredJoin) (position : ℕ) (j : Join) → IsAcyclic (reading joins) → HasNoCycle (reading (joined joins position j)) (length joins) →
     IsAcyclic (reading (joined joins position j))
 IsAcyclic-joined joins position j earlier last start cycle c =
     let found = cycle-from_member (reading (joined joins position j)) start (length joins) cycle c (last-from_cycle joins position j start cycle earlier c) in
     last found.0 found.1
 
--- where no cycle is shown none goes through the vertex
-pub HasNoCycle-from_None : (joins : List Standing) (position : ℕ) (j : Join) →
-    shown_cycle (length (joined joins position j)) (reading (joined joins position j)) (length joins) ≡ None → HasNoCycle (reading (joined joins position j)) (length joins)
+-- where no cycle is the least none goes through the vertex
+pub HasNoCycle-from_None : (joins : List DeclaredJoin) (position : ℕ) (j : Join) →
+    least_cycle (length (joined joins position j)) (reading (joined joins position j)) (length joins) ≡ None → HasNoCycle (reading (joined joins position j)) (length joins)
 HasNoCycle-from_None joins position j e =
     let edges = reading (joined joins position j) in
     let n = length (joined joins position j) in
-    subst (λ o. MatchOption o (HasNoCycle edges (length joins)) (IsShownCycle edges (length joins))) e
-    (cycle_is_shown_lem n edges (length joins) (AreVertices-reading (joined joins position j)) (omega (arith, length-joined joins position j)))
+    subst (λ o. MatchOption o (HasNoCycle edges (length joins)) (IsLeastCycle edges (length joins))) e
+    (cycle_is_least_lem n edges (length joins) (AreVertices-reading (joined joins position j)) (omega (arith, length-joined joins position j)))
 
 -- ranks of which none is above 7 are each at most 7
 pub AreShallow-from_test : (rs : List ℕ) → list_any (nat_lt 7) rs ≡ false → AllByRecursion (λ r. r ≤ 7) rs
@@ -99,13 +99,13 @@ unfolding reading
 IsAdmissible-nil =
     record { rules = tt; apart = tt; acyclic = λ start cycle c. nothing_leads start cycle c.closes; shallow = tt; few = omega arith }
   where
-    nothing_leads : (goal : ℕ) (way : List ℕ) → LeadsTo [] goal way → ⊥
+    nothing_leads : (goal : ℕ) (walk : List ℕ) → IsWalkTo [] goal walk → ⊥
     nothing_leads goal [] l = l
     nothing_leads goal (a ∷ []) l = false≢true l
-    nothing_leads goal (a ∷ b ∷ way) l = false≢true l.0
+    nothing_leads goal (a ∷ b ∷ walk) l = false≢true l.0
 
 -- the joins after two histories in a row
-pub joins_from-append : (position : ℕ) (joins : List Standing) (xs ys : History) → joins_from position joins (xs ++ ys) ≡ joins_from (position + length xs) (joins_from position joins xs) ys
+pub joins_from-append : (position : ℕ) (joins : List DeclaredJoin) (xs ys : History) → joins_from position joins (xs ++ ys) ≡ joins_from (position + length xs) (joins_from position joins xs) ys
 joins_from-append position joins [] ys = let same : position ≡ position + 0 = omega arith in ap (λ p. joins_from p joins ys) same
 joins_from-append position joins (e ∷ xs) ys =
     let rest = joins_from-append (position + 1) (joins_after position e.write joins) xs ys in

@@ -3,7 +3,7 @@ use Rattle.std.proofs.Common.{◌≡◌, ℕ, zero, suc, ◌+◌, ◌<◌, ◌�
 use Rattle.std.proofs.lemmas.List.Sums.{fold_push}
 use Rattle.std.proofs.lemmas.Option.{none-some, same_Some, slice_get_within}
 use Rattle.semantics.specs.Texts.{Text, Table, value_at}
-use Rattle.semantics.specs.Histories.{Write, put, remove, declare, Entry, History, Standing, joins_after, joins_from, joins_of, base_after, base_of, is_computed, visible}
+use Rattle.semantics.specs.Histories.{Write, put, remove, declare, Entry, History, DeclaredJoin, joins_after, joins_from, joins_of, base_after, base_of, is_computed, visible}
 use Rattle.semantics.proofs.TableLemmas.{IsAscending, ascending-with_pair, ascending-pairs_where, value_at-pairs_where}
 use Rattle.semantics.proofs.MergedLemmas.{ascending-without_key}
 
@@ -14,7 +14,7 @@ pub base_of-push : (h : History) (e : Entry) → base_of (h ++ e ∷ []) ≡ bas
 base_of-push h e = fold_push (λ (table : Table) (x : Entry). base_after x.write table) [] h e
 
 -- the joins that stand after entries that begin at a position, and one entry more
-pub joins_from-push : (position : ℕ) (joins : List Standing) (h : History) (e : Entry) →
+pub joins_from-push : (position : ℕ) (joins : List DeclaredJoin) (h : History) (e : Entry) →
     joins_from position joins (h ++ e ∷ []) ≡ joins_after (position + length h) e.write (joins_from position joins h)
 joins_from-push position joins [] e = ap (λ n. joins_after n e.write joins) (omega arith)
 joins_from-push position joins (first ∷ h) e =
@@ -53,16 +53,16 @@ value_at-visible key h = value_at-pairs_where (λ k. not (is_computed (joins_of 
 -- ---- positions
 
 -- positions ascend: each is from the first bound on and below the second, and below each later one
-pub record Ascend (low high : ℕ) (joins : List Standing) : Type 0 where
-  pub between : (i : ℕ) (s : Standing) → slice_get joins i ≡ Some s → (low ≤ s.position) × (s.position < high)
-  pub ascend : (i k : ℕ) (s t : Standing) → i < k → slice_get joins i ≡ Some s → slice_get joins k ≡ Some t → s.position < t.position
+pub record Ascend (low high : ℕ) (joins : List DeclaredJoin) : Type 0 where
+  pub between : (i : ℕ) (s : DeclaredJoin) → slice_get joins i ≡ Some s → (low ≤ s.position) × (s.position < high)
+  pub ascend : (i k : ℕ) (s t : DeclaredJoin) → i < k → slice_get joins i ≡ Some s → slice_get joins k ≡ Some t → s.position < t.position
 
 -- no joins
 ascend-nil : (low high : ℕ) → Ascend low high []
 ascend-nil low high = record { between = λ i s at. absurd (none-some s at); ascend = λ i k s t less at there. absurd (none-some s at) }
 
 -- an upper bound may be greater
-ascend_up : (low high more : ℕ) (joins : List Standing) → high ≤ more → Ascend low high joins → Ascend low more joins
+ascend_up : (low high more : ℕ) (joins : List DeclaredJoin) → high ≤ more → Ascend low high joins → Ascend low more joins
 ascend_up low high more joins up a = record { between = λ i s at. let b = a.between i s at in (b.0, omega arith); ascend = a.ascend }
 
 -- the element at a place of a list with one more is the last one, or one of the others
@@ -73,15 +73,15 @@ slice_get_push (z ∷ xs) x zero y at = inl at
 slice_get_push (z ∷ xs) x (suc i) y at = ⊎_elim inl (λ e. inr (ap suc e.0, e.1)) (slice_get_push xs x i y at)
 
 -- one join more at the upper bound
-ascend-push : (low high : ℕ) (joins : List Standing) (s : Standing) → low ≤ high → s.position ≡ high → Ascend low high joins → Ascend low (high + 1) (joins ++ s ∷ [])
+ascend-push : (low high : ℕ) (joins : List DeclaredJoin) (s : DeclaredJoin) → low ≤ high → s.position ≡ high → Ascend low high joins → Ascend low (high + 1) (joins ++ s ∷ [])
 ascend-push low high joins s up at_high a = record {
   between = λ i t at.
-      ⊎_elim (λ e. let b = a.between i t e in (b.0, omega arith)) (λ e. let p = ap (λ (x : Standing). x.position) e.1 in (omega arith, omega arith)) (slice_get_push joins s i t at);
+      ⊎_elim (λ e. let b = a.between i t e in (b.0, omega arith)) (λ e. let p = ap (λ (x : DeclaredJoin). x.position) e.1 in (omega arith, omega arith)) (slice_get_push joins s i t at);
   ascend = λ i k t u less at there.
       ⊎_elim
       (λ e. ⊎_elim
       (λ f. a.ascend i k t u less e f)
-      (λ f. let b = a.between i t e in let p = ap (λ (x : Standing). x.position) f.1 in omega arith)
+      (λ f. let b = a.between i t e in let p = ap (λ (x : DeclaredJoin). x.position) f.1 in omega arith)
       (slice_get_push joins s k u there))
       (λ e. ⊎_elim
       (λ f. let w = slice_get_within joins k u f in absurd (omega arith))
@@ -91,13 +91,13 @@ ascend-push low high joins s up at_high a = record {
 }
 
 -- a write leaves positions ascending
-ascend-joins_after : (low position : ℕ) (write : Write) (joins : List Standing) → low ≤ position → Ascend low position joins → Ascend low (position + 1) (joins_after position write joins)
+ascend-joins_after : (low position : ℕ) (write : Write) (joins : List DeclaredJoin) → low ≤ position → Ascend low position joins → Ascend low (position + 1) (joins_after position write joins)
 ascend-joins_after low position (put k v) joins up a = ascend_up low position (position + 1) joins (omega arith) a
 ascend-joins_after low position (remove k) joins up a = ascend_up low position (position + 1) joins (omega arith) a
 ascend-joins_after low position (declare j) joins up a = ascend-push low position joins _ up refl a
 
 -- writes leave positions ascending
-ascend-joins_from : (low position : ℕ) (h : History) (joins : List Standing) → low ≤ position → Ascend low position joins → Ascend low (position + length h) (joins_from position joins h)
+ascend-joins_from : (low position : ℕ) (h : History) (joins : List DeclaredJoin) → low ≤ position → Ascend low position joins → Ascend low (position + length h) (joins_from position joins h)
 ascend-joins_from low position [] joins up a = ascend_up low position (position + 0) joins (omega arith) a
 ascend-joins_from low position (e ∷ h) joins up a =
     ascend_up low (position + 1 + length h) (position + suc (length h)) _ (omega arith)

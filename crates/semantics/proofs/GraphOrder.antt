@@ -1,38 +1,38 @@
--- The order of ways: `ways` lists them ascending.
+-- The order of walks: `walks` lists them ascending.
 use Rattle.std.proofs.Common.{◌≡◌, ℕ, zero, suc, ◌+◌, ◌<◌, inl, inr, List, [], ◌∷◌, ◌++◌, map, filter, flat_map, Bool, true, Some, Less, nat_cmp, is_le, ltb, lt-ltb, refl, sym, ap, subst, ◌∙◌, arith}
 use Rattle.std.specs.List.{range_with_len, AllByRecursion}
 use Rattle.std.specs.Ordering.{ordering_then}
 use Rattle.std.specs.Cmp.Lexicographic.{slice_cmp}
 use Rattle.std.proofs.lemmas.Bool.{cond_both, cond-true}
 use Rattle.std.proofs.lemmas.Cmp.{nat_cmp_total, nat_list_cmp_total, tied_itself}
-use Rattle.semantics.specs.Graphs.{Edges, reads, read_by, vertices, BeginsWith, ways, first_of}
+use Rattle.semantics.specs.Graphs.{Edges, reads, read_by, vertices, BeginsWith, walks, first_of}
 use Rattle.semantics.proofs.Members.{IsIn, IsIn-append_cases, IsIn-from_flat_map, IsIn-from_filter, IsIn-from_range_with_len, AllByRecursion-at, AllByRecursion-from_IsIn, IsIn-from_map}
-use Rattle.semantics.proofs.GraphWays.{IsWay-from_ways}
+use Rattle.semantics.proofs.GraphWalks.{IsWalk-from_walks}
 
 -- the first list is not greater, compared number by number
 abbrev pub IsLe : List ℕ → List ℕ → Type 0
-IsLe way other = is_le (slice_cmp nat_cmp way other) ≡ true
+IsLe walk other = is_le (slice_cmp nat_cmp walk other) ≡ true
 
 -- a list is not greater than itself
-pub IsLe-refl : (way : List ℕ) → IsLe way way
-IsLe-refl way = ap is_le (tied_itself nat_list_cmp_total way)
+pub IsLe-refl : (walk : List ℕ) → IsLe walk walk
+IsLe-refl walk = ap is_le (tied_itself nat_list_cmp_total walk)
 
 -- of lists that begin alike the rest decides
-pub IsLe-cons : (a : ℕ) (way other : List ℕ) → IsLe way other → IsLe (a ∷ way) (a ∷ other)
-IsLe-cons a way other h = ap (λ o. is_le (ordering_then o (slice_cmp nat_cmp way other))) (tied_itself nat_cmp_total a) ∙ h
+pub IsLe-cons : (a : ℕ) (walk other : List ℕ) → IsLe walk other → IsLe (a ∷ walk) (a ∷ other)
+IsLe-cons a walk other h = ap (λ o. is_le (ordering_then o (slice_cmp nat_cmp walk other))) (tied_itself nat_cmp_total a) ∙ h
 
 -- a list with a lesser first number is not greater
-pub IsLe-first : (a b : ℕ) (way other : List ℕ) → a < b → BeginsWith a way → BeginsWith b other → IsLe way other
+pub IsLe-first : (a b : ℕ) (walk other : List ℕ) → a < b → BeginsWith a walk → BeginsWith b other → IsLe walk other
 IsLe-first a b [] other h s t = absurd s
-IsLe-first a b (x ∷ way) [] h s t = absurd t
-IsLe-first a b (x ∷ way) (y ∷ other) h s t =
+IsLe-first a b (x ∷ walk) [] h s t = absurd t
+IsLe-first a b (x ∷ walk) (y ∷ other) h s t =
     let less : nat_cmp x y ≡ Less = cond-true (ltb x y) Less _ (lt-ltb x y (omega arith)) in
-    ap (λ o. is_le (ordering_then o (slice_cmp nat_cmp way other))) less
+    ap (λ o. is_le (ordering_then o (slice_cmp nat_cmp walk other))) less
 
 -- the lists ascend
 abbrev pub AreAscending : List (List ℕ) → Type 0
 AreAscending [] = Unit {0}
-AreAscending (way ∷ ways) = AllByRecursion (IsLe way) ways × AreAscending ways
+AreAscending (walk ∷ walks) = AllByRecursion (IsLe walk) walks × AreAscending walks
 
 -- the numbers rise
 abbrev pub AreRising : List ℕ → Type 0
@@ -69,11 +69,11 @@ AreAscending-append (x ∷ xs) ys h k le = (
 )
 
 -- one number in front of each of lists that ascend
-pub AreAscending-map : (a : ℕ) (ws : List (List ℕ)) → AreAscending ws → AreAscending (map (λ way. a ∷ way) ws)
+pub AreAscending-map : (a : ℕ) (ws : List (List ℕ)) → AreAscending ws → AreAscending (map (λ walk. a ∷ walk) ws)
 AreAscending-map a [] h = tt
 AreAscending-map a (w ∷ ws) h = (
-  AllByRecursion-from_IsIn (IsLe (a ∷ w)) (map (λ way. a ∷ way) ws)
-      (λ v m. let r = IsIn-from_map (λ way. a ∷ way) v ws m in
+  AllByRecursion-from_IsIn (IsLe (a ∷ w)) (map (λ walk. a ∷ walk) ws)
+      (λ v m. let r = IsIn-from_map (λ walk. a ∷ walk) v ws m in
       subst (λ z. IsLe (a ∷ w) z) (sym r.2) (IsLe-cons a w r.0 (AllByRecursion-at (IsLe w) r.0 ws h.0 r.1))),
   AreAscending-map a ws h.1,
 )
@@ -87,15 +87,15 @@ AreAscending-flat_map f (b ∷ bs) asc beg rise =
     (λ x y m n. let r = IsIn-from_flat_map f y bs n in
     IsLe-first b r.0 x y (AllByRecursion-at (λ c. b < c) r.0 bs rise.0 r.1) (beg b x m) (beg r.0 y r.2))
 
--- the ways of so many vertices ascend
-pub AreAscending-ways : (n : ℕ) (edges : Edges) (goal k a : ℕ) → AreAscending (ways n edges goal k a)
-AreAscending-ways n edges goal zero a = tt
-AreAscending-ways n edges goal (suc zero) a =
+-- the walks of so many vertices ascend
+pub AreAscending-walks : (n : ℕ) (edges : Edges) (goal k a : ℕ) → AreAscending (walks n edges goal k a)
+AreAscending-walks n edges goal zero a = tt
+AreAscending-walks n edges goal (suc zero) a =
     cond_both (reads edges a goal) ((a ∷ []) ∷ []) [] (λ ws. AreAscending ws) (λ _. (tt, tt)) (λ _. tt)
-AreAscending-ways n edges goal (suc (suc more)) a =
-    AreAscending-map a (flat_map (ways n edges goal (suc more)) (read_by n edges a))
-    (AreAscending-flat_map (ways n edges goal (suc more)) (read_by n edges a) (AreAscending-ways n edges goal (suc more))
-    (λ b w m. (IsWay-from_ways n edges goal (suc more) b w m).begins) (AreRising-read_by n edges a))
+AreAscending-walks n edges goal (suc (suc more)) a =
+    AreAscending-map a (flat_map (walks n edges goal (suc more)) (read_by n edges a))
+    (AreAscending-flat_map (walks n edges goal (suc more)) (read_by n edges a) (AreAscending-walks n edges goal (suc more))
+    (λ b w m. (IsWalk-from_walks n edges goal (suc more) b w m).begins) (AreRising-read_by n edges a))
 
 -- the first is one of the lists
 pub IsIn-first_of : (ws : List (List ℕ)) (w : List ℕ) → first_of ws ≡ Some w → IsIn w ws

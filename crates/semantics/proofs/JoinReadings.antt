@@ -3,7 +3,7 @@ use Rattle.std.proofs.Common.{◌≡◌, ℕ, ◌+◌, ◌<◌, inl, inr, List, 
 use Rattle.std.specs.List.{enumerate_from}
 use Rattle.std.proofs.lemmas.Bool.{cond-true}
 use Rattle.semantics.specs.Joins.{Join, reads_output}
-use Rattle.semantics.specs.Histories.{Standing}
+use Rattle.semantics.specs.Histories.{DeclaredJoin}
 use Rattle.semantics.specs.Graphs.{Edges, reads, AreVertices}
 use Rattle.semantics.specs.States.{reading}
 use Rattle.semantics.specs.Verdicts.{joined}
@@ -12,15 +12,15 @@ use Rattle.semantics.proofs.GraphReadings.{edge-from_reads, reads-from_edge}
 use Rattle.semantics.proofs.JoinSets.{test-from_Some}
 
 -- an edge of a reading: a numbered join that reads another
-pub record IsReading (joins : List Standing) (e : ℕ × ℕ) : Type 0 where
-  pub reader : Standing
-  pub read : Standing
+pub record IsReading (joins : List DeclaredJoin) (e : ℕ × ℕ) : Type 0 where
+  pub reader : DeclaredJoin
+  pub read : DeclaredJoin
   pub reader_in : IsIn (e.0, reader) (enumerate_from 0 joins)
   pub read_in : IsIn (e.1, read) (enumerate_from 0 joins)
   pub reads_it : reads_output reader.join read.join ≡ true
 
 -- what an edge of the reading says
-pub IsReading-from_edge : (joins : List Standing) (e : ℕ × ℕ) → IsIn e (reading joins) → IsReading joins e
+pub IsReading-from_edge : (joins : List DeclaredJoin) (e : ℕ × ℕ) → IsIn e (reading joins) → IsReading joins e
 unfolding reading
 IsReading-from_edge joins e m =
     let outer = IsIn-from_flat_map (λ a. filter_map (λ b. if reads_output a.1.join b.1.join then Some (a.0, b.0) else None) (enumerate_from 0 joins)) e (enumerate_from 0 joins) m in
@@ -29,10 +29,10 @@ IsReading-from_edge joins e m =
     subst (λ f. IsReading joins f) (sym told.1) (record { reader = outer.0.1; read = inner.0.1; reader_in = outer.1; read_in = inner.1; reads_it = told.0 })
 
 -- a numbered join that reads another makes an edge
-pub edge-from_IsReading : (joins : List Standing) (e : ℕ × ℕ) → IsReading joins e → IsIn e (reading joins)
+pub edge-from_IsReading : (joins : List DeclaredJoin) (e : ℕ × ℕ) → IsReading joins e → IsIn e (reading joins)
 unfolding reading
 edge-from_IsReading joins e r =
-    let edge = λ (a : ℕ × Standing) (b : ℕ × Standing). if reads_output a.1.join b.1.join then Some (a.0, b.0) else None in
+    let edge = λ (a : ℕ × DeclaredJoin) (b : ℕ × DeclaredJoin). if reads_output a.1.join b.1.join then Some (a.0, b.0) else None in
     IsIn-flat_map (λ a. filter_map (edge a) (enumerate_from 0 joins)) (e.0, r.reader) e (enumerate_from 0 joins) r.reader_in
     (IsIn-filter_map (edge (e.0, r.reader)) (e.1, r.read) e (enumerate_from 0 joins)
     (cond-true (reads_output r.reader.join r.read.join) (Some (e.0, e.1)) None r.reads_it) r.read_in)
@@ -43,7 +43,7 @@ AreVertices-from_IsIn n [] h = tt
 AreVertices-from_IsIn n (e ∷ edges) h = let here = h e (inl refl) in (here.0, here.1, AreVertices-from_IsIn n edges (λ f m. h f (inr m)))
 
 -- a reading is over the numbers of its joins
-pub AreVertices-reading : (joins : List Standing) → AreVertices (length joins) (reading joins)
+pub AreVertices-reading : (joins : List DeclaredJoin) → AreVertices (length joins) (reading joins)
 AreVertices-reading joins =
     AreVertices-from_IsIn (length joins) (reading joins)
     (λ e m.
@@ -53,12 +53,12 @@ AreVertices-reading joins =
     (omega (arith, low.1), omega (arith, high.1)))
 
 -- between earlier joins the reading with one more is as it was
-pub reads-joined : (joins : List Standing) (position : ℕ) (j : Join) (a b : ℕ) → reads (reading (joined joins position j)) a b ≡ true → a < length joins → b < length joins →
+pub reads-joined : (joins : List DeclaredJoin) (position : ℕ) (j : Join) (a b : ℕ) → reads (reading (joined joins position j)) a b ≡ true → a < length joins → b < length joins →
     reads (reading joins) a b ≡ true
 reads-joined joins position j a b h low high =
     let found = edge-from_reads (reading (joined joins position j)) a b h in
     let e = found.0 in
-    let last : List Standing = record { position = position; join = j } ∷ [] in
+    let last : List DeclaredJoin = record { position = position; join = j } ∷ [] in
     let r = IsReading-from_edge (joined joins position j) e found.1 in
     let old : IsReading joins e = record {
       reader = r.reader;

@@ -5,7 +5,7 @@ use Rattle.std.proofs.lemmas.Bool.{cases_Bool, or_cases, or_left, or_right, and_
 use Rattle.std.proofs.lemmas.Slice.Eq.{bytes_eq-Decides}
 use Rattle.semantics.specs.Patterns.{Segment, literal, slot, Pattern, segments_meet, overlaps}
 use Rattle.semantics.specs.Joins.{Join}
-use Rattle.semantics.specs.Histories.{Standing}
+use Rattle.semantics.specs.Histories.{DeclaredJoin}
 use Rattle.semantics.specs.States.{AreApart}
 use Rattle.semantics.specs.Verdicts.{Cause, first_cause, joined}
 
@@ -70,7 +70,7 @@ AllByRecursion-from_find p (x ∷ xs) h = elim (cases_Bool (p x)) [ inl e ↦ ab
     rest false x o e h = h
 
 -- joins whose outputs are apart, and one whose output is apart from each
-pub AreApart-joined : (joins : List Standing) (position : ℕ) (j : Join) → AreApart joins → AllByRecursion (λ s. overlaps j.output s.join.output ≡ false) joins → AreApart (joined joins position j)
+pub AreApart-joined : (joins : List DeclaredJoin) (position : ℕ) (j : Join) → AreApart joins → AllByRecursion (λ s. overlaps j.output s.join.output ≡ false) joins → AreApart (joined joins position j)
 AreApart-joined [] position j h k = (tt, tt)
 AreApart-joined (s ∷ joins) position j h k = (
   AllByRecursion-last (λ other. overlaps s.join.output other.join.output ≡ false) joins (record { position = position; join = j }) h.0 (overlaps-sym_false j.output s.join.output k.0),

@@ -14,11 +14,11 @@ pub mod OfRankLemmas
 pub mod StateLemmas
 pub mod Members
 pub mod GraphReadings
-pub mod GraphWays
+pub mod GraphWalks
 pub mod GraphOrder
 pub mod GraphCycles
 pub mod GraphRanks
-pub mod GraphShown
+pub mod GraphLeast
 pub mod JoinSets
 pub mod JoinReadings
 pub mod AdmissibleSets

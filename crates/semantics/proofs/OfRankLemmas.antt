@@ -10,7 +10,7 @@ use Rattle.std.proofs.lemmas.List.FromFn.{length-map-range_with_len}
 use Rattle.std.proofs.lemmas.Option.{none-some, same_Some, slice_get_within, slice_get-get_or, get_or_from_slice_get}
 use Rattle.semantics.specs.Texts.{Text}
 use Rattle.semantics.specs.Patterns.{Segment, literal, slot, Pattern, fits, segments_meet, overlaps}
-use Rattle.semantics.specs.Histories.{Standing}
+use Rattle.semantics.specs.Histories.{DeclaredJoin}
 use Rattle.semantics.specs.Graphs.{rank}
 use Rattle.semantics.specs.States.{reading, ranks_of, of_rank, AreApart}
 use Rattle.semantics.proofs.PatternLemmas.{fits_overlap}
@@ -35,12 +35,12 @@ list_any_true_at p xs i x at e = list_any_at p xs i x (slice_get_within xs i x a
 -- ---- the joins beside a number
 
 -- the joins beside the number r
-abbrev pub picked : ℕ → List ℕ → List Standing → List Standing
+abbrev pub picked : ℕ → List ℕ → List DeclaredJoin → List DeclaredJoin
 picked r ranks joins = map (λ p. p.1) (filter (λ p. p.0 == r) (zip ranks joins))
 
 -- what holds of each join beside r holds of each that is picked
-pub all_picked : (P : Standing → Type 0) (r : ℕ) (ranks : List ℕ) (joins : List Standing) →
-    ((i : ℕ) (s : Standing) → slice_get ranks i ≡ Some r → slice_get joins i ≡ Some s → P s) → AllByRecursion P (picked r ranks joins)
+pub all_picked : (P : DeclaredJoin → Type 0) (r : ℕ) (ranks : List ℕ) (joins : List DeclaredJoin) →
+    ((i : ℕ) (s : DeclaredJoin) → slice_get ranks i ≡ Some r → slice_get joins i ≡ Some s → P s) → AllByRecursion P (picked r ranks joins)
 all_picked P r [] joins each = tt
 all_picked P r (n ∷ ranks) [] each = tt
 all_picked P r (n ∷ ranks) (s ∷ joins) each =
@@ -51,24 +51,24 @@ all_picked P r (n ∷ ranks) (s ∷ joins) each =
     ] refl
 
 -- the joins that are picked around one of them, each of which is beside r at another place
-pub record Around (P : Standing → Type 0) (r : ℕ) (ranks : List ℕ) (joins : List Standing) (s : Standing) : Type 0 where
-  pub before : List Standing
-  pub after : List Standing
+pub record Around (P : DeclaredJoin → Type 0) (r : ℕ) (ranks : List ℕ) (joins : List DeclaredJoin) (s : DeclaredJoin) : Type 0 where
+  pub before : List DeclaredJoin
+  pub after : List DeclaredJoin
   pub split : picked r ranks joins ≡ before ++ s ∷ after
   pub earlier : AllByRecursion P before
   pub later : AllByRecursion P after
 
 -- a join beside r is picked, and what holds of the joins beside r at other places holds of all others that are
-pub picked_around : (P : Standing → Type 0) (r : ℕ) (ranks : List ℕ) (joins : List Standing) (i : ℕ) (s : Standing) →
+pub picked_around : (P : DeclaredJoin → Type 0) (r : ℕ) (ranks : List ℕ) (joins : List DeclaredJoin) (i : ℕ) (s : DeclaredJoin) →
     slice_get ranks i ≡ Some r → slice_get joins i ≡ Some s →
-    ((k : ℕ) (t : Standing) → (k ≡ i → ⊥) → slice_get ranks k ≡ Some r → slice_get joins k ≡ Some t → P t) → Around P r ranks joins s
+    ((k : ℕ) (t : DeclaredJoin) → (k ≡ i → ⊥) → slice_get ranks k ≡ Some r → slice_get joins k ≡ Some t → P t) → Around P r ranks joins s
 picked_around P r [] joins i s beside at others = absurd (none-some r beside)
 picked_around P r (n ∷ ranks) [] i s beside at others = absurd (none-some s at)
 picked_around P r (n ∷ ranks) (x ∷ joins) zero s beside at others = record {
   before = [];
   after = picked r ranks joins;
   split =
-      ap (map (λ (p : ℕ × Standing). p.1)) (cond-true (n == r) ((n, x) ∷ filter (λ p. p.0 == r) (zip ranks joins)) (filter (λ p. p.0 == r) (zip ranks joins)) (eq-eqb n r (same_Some n r beside)))
+      ap (map (λ (p : ℕ × DeclaredJoin). p.1)) (cond-true (n == r) ((n, x) ∷ filter (λ p. p.0 == r) (zip ranks joins)) (filter (λ p. p.0 == r) (zip ranks joins)) (eq-eqb n r (same_Some n r beside)))
       ∙ ap (λ y. y ∷ picked r ranks joins) (same_Some x s at);
   earlier = tt;
   later = all_picked P r ranks joins (λ k t. others (suc k) t (λ e. absurd (omega arith)));
@@ -80,7 +80,7 @@ picked_around P r (n ∷ ranks) (x ∷ joins) (suc i) s beside at others =
         before = x ∷ rest.before;
         after = rest.after;
         split =
-            ap (map (λ (p : ℕ × Standing). p.1)) (cond-true (n == r) ((n, x) ∷ filter (λ p. p.0 == r) (zip ranks joins)) (filter (λ p. p.0 == r) (zip ranks joins)) e)
+            ap (map (λ (p : ℕ × DeclaredJoin). p.1)) (cond-true (n == r) ((n, x) ∷ filter (λ p. p.0 == r) (zip ranks joins)) (filter (λ p. p.0 == r) (zip ranks joins)) e)
             ∙ ap (λ ys. x ∷ ys) rest.split;
         earlier = (others 0 x (λ z. absurd (omega arith)) (ap Some (eqb-true n r e)) refl, rest.earlier);
         later = rest.later;
@@ -89,7 +89,7 @@ picked_around P r (n ∷ ranks) (x ∷ joins) (suc i) s beside at others =
         before = rest.before;
         after = rest.after;
         split =
-            ap (map (λ (p : ℕ × Standing). p.1)) (cond-false (n == r) ((n, x) ∷ filter (λ p. p.0 == r) (zip ranks joins)) (filter (λ p. p.0 == r) (zip ranks joins)) e)
+            ap (map (λ (p : ℕ × DeclaredJoin). p.1)) (cond-false (n == r) ((n, x) ∷ filter (λ p. p.0 == r) (zip ranks joins)) (filter (λ p. p.0 == r) (zip ranks joins)) e)
             ∙ rest.split;
         earlier = rest.earlier;
         later = rest.later;
@@ -99,21 +99,21 @@ picked_around P r (n ∷ ranks) (x ∷ joins) (suc i) s beside at others =
 -- ---- the joins of a rank
 
 -- each join that stands has a rank
-pub length-ranks_of : (joins : List Standing) → length (ranks_of joins) ≡ length joins
+pub length-ranks_of : (joins : List DeclaredJoin) → length (ranks_of joins) ≡ length joins
 length-ranks_of joins = length-map-range_with_len (rank (length joins) (reading joins)) 0 (length joins)
 
 -- the rank of a join that stands, as an element
-pub rank_at : (joins : List Standing) (i : ℕ) (s : Standing) → slice_get joins i ≡ Some s → slice_get (ranks_of joins) i ≡ Some (slice_index (ranks_of joins) i)
+pub rank_at : (joins : List DeclaredJoin) (i : ℕ) (s : DeclaredJoin) → slice_get joins i ≡ Some s → slice_get (ranks_of joins) i ≡ Some (slice_index (ranks_of joins) i)
 rank_at joins i s at = slice_get-get_or (ranks_of joins) i 0 (let b = slice_get_within joins i s at in omega (arith, length-ranks_of joins))
 
 -- each join of a rank stands, and has that rank
-pub record HasRank (r : ℕ) (joins : List Standing) (s : Standing) : Type 0 where
+pub record HasRank (r : ℕ) (joins : List DeclaredJoin) (s : DeclaredJoin) : Type 0 where
   pub place : ℕ
   pub stands : slice_get joins place ≡ Some s
   pub ranked : slice_index (ranks_of joins) place ≡ r
 
 -- the joins of a rank stand, and have that rank
-pub of_rank-members : (r : ℕ) (joins : List Standing) (s : Standing) → Contains (of_rank r joins) s → HasRank r joins s
+pub of_rank-members : (r : ℕ) (joins : List DeclaredJoin) (s : DeclaredJoin) → Contains (of_rank r joins) s → HasRank r joins s
 of_rank-members r joins s has =
     All-contains (HasRank r joins) (of_rank r joins) s
     (All-from_recursion (HasRank r joins) (of_rank r joins)
@@ -121,7 +121,7 @@ of_rank-members r joins s has =
     (λ i t beside at. record { place = i; stands = at; ranked = get_or_from_slice_get (ranks_of joins) i r 0 beside }))) has
 
 -- each join that stands is among those of its rank
-pub of_rank_has : (joins : List Standing) (i : ℕ) (s : Standing) → slice_get joins i ≡ Some s → Contains (of_rank (slice_index (ranks_of joins) i) joins) s
+pub of_rank_has : (joins : List DeclaredJoin) (i : ℕ) (s : DeclaredJoin) → slice_get joins i ≡ Some s → Contains (of_rank (slice_index (ranks_of joins) i) joins) s
 of_rank_has joins i s at =
     let r = slice_index (ranks_of joins) i in
     let around = picked_around (λ t. Unit {0}) r (ranks_of joins) joins i s (rank_at joins i s at) at (λ k t apart beside there. tt) in
@@ -153,7 +153,7 @@ overlaps_symmetric (s ∷ p) (t ∷ q) = λ i. segments_meet_symmetric s t i && 
 -- ---- outputs that are apart
 
 -- an output does not overlap a later one
-pub apart_at : (joins : List Standing) (i k : ℕ) (s t : Standing) → AreApart joins → i < k → slice_get joins i ≡ Some s → slice_get joins k ≡ Some t →
+pub apart_at : (joins : List DeclaredJoin) (i k : ℕ) (s t : DeclaredJoin) → AreApart joins → i < k → slice_get joins i ≡ Some s → slice_get joins k ≡ Some t →
     overlaps s.join.output t.join.output ≡ false
 apart_at [] i k s t apart less at there = absurd (none-some s at)
 apart_at (x ∷ joins) i zero s t apart less at there = absurd (omega arith)
@@ -163,7 +163,7 @@ apart_at (x ∷ joins) zero (suc k) s t apart less at there =
 apart_at (x ∷ joins) (suc i) (suc k) s t apart less at there = apart_at joins i k s t apart.1 (omega arith) at there
 
 -- where outputs are apart, a key fits the output of one join alone
-pub one_output : (joins : List Standing) (i k : ℕ) (s t : Standing) (key : Text) → AreApart joins →
+pub one_output : (joins : List DeclaredJoin) (i k : ℕ) (s t : DeclaredJoin) (key : Text) → AreApart joins →
     slice_get joins i ≡ Some s → slice_get joins k ≡ Some t → fits s.join.output key ≡ true → fits t.join.output key ≡ true → i ≡ k
 one_output joins i k s t key apart at there fit fits' =
     let meet = fits_overlap s.join.output t.join.output key fit fits' in

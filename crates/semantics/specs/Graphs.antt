@@ -1,4 +1,4 @@
--- Readings as graphs: ranks, ways and the cycle that is shown.
+-- Readings as graphs: ranks, walks and the least cycle.
 use Rattle.std.specs.Prelude.{◌≡◌, ℕ, zero, suc, ◌<◌, ◌⊎◌, ◌&&◌, ◌==◌, List, [], ◌∷◌, length, map, filter, flat_map, fold, max, Bool, true, if◌then◌else◌, Option, Some, None}
 use Rattle.std.specs.List.{list_any, range_with_len}
 use Rattle.std.specs.Ordering.{nat_cmp, is_le}
@@ -29,7 +29,7 @@ abbrev pub rank_within : ℕ → ℕ → Edges → ℕ → ℕ
 rank_within zero n edges a = 0
 rank_within (suc deeper) n edges a = greatest (map (λ b. suc (rank_within deeper n edges b)) (read_by n edges a))
 
--- the rank: 0 where nothing is read, otherwise one more than the greatest that is read; a way without a cycle has at most n vertices
+-- the rank: 0 where nothing is read, otherwise one more than the greatest that is read; a walk without a cycle has at most n vertices
 unfoldable pub rank : ℕ → Edges → ℕ → ℕ
 rank n edges a = rank_within n n edges a
 
@@ -37,30 +37,30 @@ rank n edges a = rank_within n n edges a
 abbrev pub ranks : ℕ → Edges → List ℕ
 ranks n edges = map (rank n edges) (vertices n)
 
--- ---- ways and cycles, as relations
+-- ---- walks and cycles, as relations
 
--- each vertex of the way reads the next, and the last reads the goal
-abbrev pub LeadsTo : Edges → ℕ → List ℕ → Type 0
-LeadsTo edges goal [] = ⊥
-LeadsTo edges goal (a ∷ []) = reads edges a goal ≡ true
-LeadsTo edges goal (a ∷ b ∷ way) = (reads edges a b ≡ true) × LeadsTo edges goal (b ∷ way)
+-- each vertex of the walk reads the next, and the last reads the goal
+abbrev pub IsWalkTo : Edges → ℕ → List ℕ → Type 0
+IsWalkTo edges goal [] = ⊥
+IsWalkTo edges goal (a ∷ []) = reads edges a goal ≡ true
+IsWalkTo edges goal (a ∷ b ∷ walk) = (reads edges a b ≡ true) × IsWalkTo edges goal (b ∷ walk)
 
 -- the list begins with the vertex
 abbrev pub BeginsWith : ℕ → List ℕ → Type 0
 BeginsWith a [] = ⊥
-BeginsWith a (b ∷ way) = a ≡ b
+BeginsWith a (b ∷ walk) = a ≡ b
 
 -- a cycle through a vertex: it begins there, each vertex reads the next, and the last reads the first
 pub record IsCycle (edges : Edges) (start : ℕ) (cycle : List ℕ) : Type 0 where
   pub begins : BeginsWith start cycle
-  pub closes : LeadsTo edges start cycle
+  pub closes : IsWalkTo edges start cycle
 
 -- the first list is shorter, or as long and not greater, compared number by number
 abbrev pub IsNotAfter : List ℕ → List ℕ → Type 0
-IsNotAfter way other = (length way < length other) ⊎ ((length way ≡ length other) × (is_le (slice_cmp nat_cmp way other) ≡ true))
+IsNotAfter walk other = (length walk < length other) ⊎ ((length walk ≡ length other) × (is_le (slice_cmp nat_cmp walk other) ≡ true))
 
 -- the shortest cycle through a vertex, and among the shortest the least
-pub record IsShownCycle (edges : Edges) (start : ℕ) (cycle : List ℕ) : Type 0 where
+pub record IsLeastCycle (edges : Edges) (start : ℕ) (cycle : List ℕ) : Type 0 where
   pub is_cycle : IsCycle edges start cycle
   pub least : (other : List ℕ) → IsCycle edges start other → IsNotAfter cycle other
 
@@ -77,18 +77,18 @@ abbrev pub AreVertices : ℕ → Edges → Type 0
 AreVertices n [] = Unit {0}
 AreVertices n (e ∷ es) = (e.0 < n) × (e.1 < n) × AreVertices n es
 
--- ---- the cycle that is shown, computed
+-- ---- the least cycle, computed
 
--- the ways of so many vertices from a vertex to the goal, in order
-abbrev pub ways : ℕ → Edges → ℕ → ℕ → ℕ → List (List ℕ)
-ways n edges goal zero a = []
-ways n edges goal (suc zero) a = if reads edges a goal then (a ∷ []) ∷ [] else []
-ways n edges goal (suc (suc more)) a = map (λ way. a ∷ way) (flat_map (ways n edges goal (suc more)) (read_by n edges a))
+-- the walks of so many vertices from a vertex to the goal, in order
+abbrev pub walks : ℕ → Edges → ℕ → ℕ → ℕ → List (List ℕ)
+walks n edges goal zero a = []
+walks n edges goal (suc zero) a = if reads edges a goal then (a ∷ []) ∷ [] else []
+walks n edges goal (suc (suc more)) a = map (λ walk. a ∷ walk) (flat_map (walks n edges goal (suc more)) (read_by n edges a))
 
 abbrev pub first_of : List (List ℕ) → Option (List ℕ)
 first_of [] = None
-first_of (way ∷ ways) = Some way
+first_of (walk ∷ walks) = Some walk
 
--- the first way of the least length back to the vertex; the lengths are tried upwards
-unfoldable pub shown_cycle : ℕ → Edges → ℕ → Option (List ℕ)
-shown_cycle n edges start = first_of (flat_map (λ more. ways n edges start (suc more) start) (vertices n))
+-- the first walk of the least length back to the vertex; the lengths are tried upwards
+unfoldable pub least_cycle : ℕ → Edges → ℕ → Option (List ℕ)
+least_cycle n edges start = first_of (flat_map (λ more. walks n edges start (suc more) start) (vertices n))

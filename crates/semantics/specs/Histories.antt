@@ -20,23 +20,23 @@ abbrev pub History : Type 0
 History = List Entry
 
 -- a join that stands is named by the position of its declaration
-pub record Standing : Type 0 where
+pub record DeclaredJoin : Type 0 where
   pub position : ℕ
   pub join : Join
 
 -- the joins that stand after a write that enters at a position
-abbrev pub joins_after : ℕ → Write → List Standing → List Standing
+abbrev pub joins_after : ℕ → Write → List DeclaredJoin → List DeclaredJoin
 joins_after position (put k v) joins = joins
 joins_after position (remove k) joins = joins
 joins_after position (declare j) joins = joins ++ record { position = position; join = j } ∷ []
 
 -- the joins that stand after entries that begin at a position
-abbrev pub joins_from : ℕ → List Standing → History → List Standing
+abbrev pub joins_from : ℕ → List DeclaredJoin → History → List DeclaredJoin
 joins_from position joins [] = joins
 joins_from position joins (e ∷ es) = joins_from (position + 1) (joins_after position e.write joins) es
 
 -- `Joins`: the joins that stand after the history, in order of position
-abbrev pub joins_of : History → List Standing
+abbrev pub joins_of : History → List DeclaredJoin
 joins_of h = joins_from 1 [] h
 
 -- the base pairs after a write
@@ -50,7 +50,7 @@ abbrev pub base_of : History → Table
 base_of h = fold (λ table e. base_after e.write table) [] h
 
 -- whether a key fits the output of a join that stands
-abbrev pub is_computed : List Standing → Text → Bool
+abbrev pub is_computed : List DeclaredJoin → Text → Bool
 is_computed joins key = list_any (λ s. fits s.join.output key) joins
 
 -- `Visible`: the base pairs that no output hides

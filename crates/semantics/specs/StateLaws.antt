@@ -5,7 +5,7 @@ use Rattle.std.specs.FinMap.Entries.{is_sorted}
 use Rattle.semantics.specs.Texts.{Text, text_cmp, value_at}
 use Rattle.semantics.specs.Patterns.{fits}
 use Rattle.semantics.specs.Joins.{is_join}
-use Rattle.semantics.specs.Histories.{History, Standing, joins_of, is_computed, visible}
+use Rattle.semantics.specs.Histories.{History, DeclaredJoin, joins_of, is_computed, visible}
 use Rattle.semantics.specs.Outputs.{out}
 use Rattle.semantics.specs.States.{IsAdmissible, ranks_of, below, state}
 use Rattle.semantics.specs.Verdicts.{AllEntered}
@@ -20,7 +20,7 @@ EnteredIsAdmissible = (h : History) → AllEntered h → IsAdmissible (joins_of 
 
 -- at a key that fits an output, the state is what that join makes over the state below its rank
 abbrev pub StateOfOutput : Type 0
-StateOfOutput = (h : History) (i : ℕ) (s : Standing) (key : Text) → IsAdmissible (joins_of h) → DeclaresJoins h →
+StateOfOutput = (h : History) (i : ℕ) (s : DeclaredJoin) (key : Text) → IsAdmissible (joins_of h) → DeclaresJoins h →
     slice_get (joins_of h) i ≡ Some s → fits s.join.output key ≡ true →
     value_at key (state h) ≡ value_at key (out s.join (below h (slice_index (ranks_of (joins_of h)) i)))
 

@@ -7,7 +7,7 @@ use Rattle.std.specs.Ordering.{nat_cmp, is_lt, is_le}
 use Rattle.std.specs.Cmp.Lexicographic.{slice_cmp}
 use Rattle.std.specs.FinMap.Entries.{put, find, where_key}
 
--- a text is the list of its bytes; texts are UTF-8 (RFC 3629), since every reader takes a `&str`, so that no test below asks it again
+-- a text is the list of its bytes; the texts of keys, values and joins are UTF-8 (RFC 3629), since the calls that read them take a `&str`, so that no test below asks it again
 abbrev pub Text : Type 0
 Text = List ℕ
 

@@ -4,8 +4,8 @@ use Rattle.std.specs.List.{list_any}
 use Rattle.semantics.specs.Texts.{Text}
 use Rattle.semantics.specs.Patterns.{fits, overlaps}
 use Rattle.semantics.specs.Joins.{Join, keeps_slot_rule, keeps_source_rule}
-use Rattle.semantics.specs.Histories.{Write, put, remove, declare, Entry, History, Standing, joins_of}
-use Rattle.semantics.specs.Graphs.{shown_cycle}
+use Rattle.semantics.specs.Histories.{Write, put, remove, declare, Entry, History, DeclaredJoin, joins_of}
+use Rattle.semantics.specs.Graphs.{least_cycle}
 use Rattle.semantics.specs.States.{reading, ranks_of}
 
 -- why a write is refused, with what the refusal carries
@@ -37,31 +37,31 @@ is_change (remove k) = true
 is_change (declare j) = false
 
 -- the position of the first join of a set that passes a test
-abbrev first_position : (Join → Bool) → List Standing → Option ℕ
+abbrev first_position : (Join → Bool) → List DeclaredJoin → Option ℕ
 first_position test joins = option_map (λ s. s.position) (find (λ s. test s.join) joins)
 
 -- `computed`: the key fits the output of a join that stands
-abbrev pub computed_cause : Text → List Standing → Option Cause
+abbrev pub computed_cause : Text → List DeclaredJoin → Option Cause
 computed_cause key joins = option_map computed (first_position (λ j. fits j.output key) joins)
 
 -- `clash`: the output overlaps that of a join that stands
-abbrev pub clash_cause : Join → List Standing → Option Cause
+abbrev pub clash_cause : Join → List DeclaredJoin → Option Cause
 clash_cause j joins = option_map clash (first_position (λ other. overlaps j.output other.output) joins)
 
 -- the position of the join with a number
-abbrev pub position_at : List Standing → ℕ → ℕ
+abbrev pub position_at : List DeclaredJoin → ℕ → ℕ
 position_at joins i = unwrap_or (option_map (λ s. s.position) (slice_get joins i)) 0
 
 -- `cycle`: the reading with the new join, which stands last, has a cycle; the shortest and least one is carried as positions
-abbrev pub cycle_cause : ℕ → List Standing → Option Cause
-cycle_cause last joins = option_map (λ c. cycle (map (position_at joins) c)) (shown_cycle (length joins) (reading joins) last)
+abbrev pub cycle_cause : ℕ → List DeclaredJoin → Option Cause
+cycle_cause last joins = option_map (λ c. cycle (map (position_at joins) c)) (least_cycle (length joins) (reading joins) last)
 
 -- the set with a new join at a position
-abbrev pub joined : List Standing → ℕ → Join → List Standing
+abbrev pub joined : List DeclaredJoin → ℕ → Join → List DeclaredJoin
 joined joins position j = joins ++ record { position = position; join = j } ∷ []
 
 -- why a join may not be added to a set at a position
-unfoldable pub join_cause : List Standing → ℕ → Join → Option Cause
+unfoldable pub join_cause : List DeclaredJoin → ℕ → Join → Option Cause
 join_cause joins position j =
     first_cause (cause_if (not (keeps_slot_rule j)) slots
     ∷ cause_if (not (keeps_source_rule j)) sources

@@ -17,7 +17,7 @@ use std::sync::Wait;
 use std::thread::Threads;
 
 /// The most reads that give bytes in one call: 2^40.
-const MOST_READS: u64 = 1_099_511_627_776;
+const MAX_READS: u64 = 1_099_511_627_776;
 
 /// The most bytes of one read.
 const PIECE_BYTES: usize = 16_384;
@@ -159,7 +159,7 @@ pub fn serve_link<R: Threads + Wait + Sync, S: Service, L: Link>(
         Err(_) => return End::OutOfMemory,
     };
     let mut piece = [0; PIECE_BYTES];
-    for _ in 0..MOST_READS {
+    for _ in 0..MAX_READS {
         match link.read(&mut piece) {
             Ok(0) => return serve_last(rt, alloc, service, link, lines.line()),
             Ok(count) => match take_piece(rt, alloc, service, link, &mut lines, &piece[..count]) {

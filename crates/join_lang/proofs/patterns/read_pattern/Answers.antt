@@ -4,8 +4,8 @@ use Rattle.key_pattern.specs.Plain.{plain_segments}
 use Rattle.join_lang.proofs.SegmentLemmas.{too_long, no_segments, pattern_by}
 use Rattle.join_lang.proofs.patterns.read_pattern.Goals as goal
 
-pub returns-then-token-gt-MOST_PATTERN_BYTES : goal.returns-then-token-gt-MOST_PATTERN_BYTES
-returns-then-token-gt-MOST_PATTERN_BYTES c = too_long c.args.names.now c.args.token.now (omega arith)
+pub returns-then-token-gt-MAX_PATTERN_BYTES : goal.returns-then-token-gt-MAX_PATTERN_BYTES
+returns-then-token-gt-MAX_PATTERN_BYTES c = too_long c.args.names.now c.args.token.now (omega arith)
 
 pub returns-in-Some : goal.returns-in-Some
 returns-in-Some c =

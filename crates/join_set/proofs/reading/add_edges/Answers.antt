@@ -1,13 +1,13 @@
 use Rattle.std.proofs.Common.{◌≤◌, ◌∙◌, length, true, false, sym, ap, append-nil, arith}
 use Rattle.semantics.specs.Joins.{reads_output}
-use Rattle.semantics.specs.Histories.{Standing}
+use Rattle.semantics.specs.Histories.{DeclaredJoin}
 use Rattle.join_set.proofs.ReadingLemmas.{edges_step, edges_last}
 use Rattle.join_set.proofs.reading.add_edges.Goals as goal
 use Rattle.join_set.proofs.reading.add_edges.Goals.{then-reads_output+in_ok-push, else-reads_output}
 
 pub loop-other-preserved : goal.loop-other-preserved
 loop-other-preserved c =
-    let at = ap (λ (s : Standing). reads_output c.args.reader.now s.join) (sym c.stands.view_is) ∙ sym c.reads_output.ensures in
+    let at = ap (λ (s : DeclaredJoin). reads_output c.args.reader.now s.join) (sym c.stands.view_is) ∙ sym c.reads_output.ensures in
     elim c.if-reads_output.branch [
       | then-reads_output+in_ok-push w ↦
           (let step = edges_step c.args.number c.args.reader.now c.args.joins.now c.loop-other.other c.index-joins-other.result true c.args.edges.now.items c.loop-other.edges.items c.loop-other-test.true c.index-joins-other.is (at ∙ w.if-reads_output.true) c.loop-other.invariant in

@@ -29,13 +29,13 @@ returns-then-are_deep-clause-err c =
     c.in_ok-ranks.ensures.ok.acyclic
     (sym (ap (λ rs. list_any (nat_lt 7) rs) (c.as_slice.ensures.value ∙ c.in_ok-ranks.ensures.ok.exact)) ∙ sym c.are_deep.ensures ∙ c.if-are_deep.true)
 
-pub returns-then-joins-ge-MOST_JOINS-clause-err : goal.returns-then-joins-ge-MOST_JOINS-clause-err
-returns-then-joins-ge-MOST_JOINS-clause-err c =
+pub returns-then-joins-ge-MAX_JOINS-clause-err : goal.returns-then-joins-ge-MAX_JOINS-clause-err
+returns-then-joins-ge-MAX_JOINS-clause-err c =
     cause-many c.args.joins.now c.args.at c.args.join.now (sym c.keeps_slot_rule.ensures ∙ c.if-not-keeps_slot_rule.false) (sym c.keeps_source_rule.ensures ∙ c.if-not-keeps_source_rule.false)
     (sym c.clash.ensures ∙ c.in_default.is)
     c.in_ok-ranks.ensures.ok.acyclic
     (sym (ap (λ rs. list_any (nat_lt 7) rs) (c.as_slice.ensures.value ∙ c.in_ok-ranks.ensures.ok.exact)) ∙ sym c.are_deep.ensures ∙ c.if-are_deep.false)
-    (le-leb 64 (length c.args.joins.now) c.if-joins-ge-MOST_JOINS.true)
+    (le-leb 64 (length c.args.joins.now) c.if-joins-ge-MAX_JOINS.true)
 
 pub returns-clause-free : goal.returns-clause-free
 returns-clause-free c =
@@ -43,4 +43,4 @@ returns-clause-free c =
     (sym c.clash.ensures ∙ c.in_default.is)
     c.in_ok-ranks.ensures.ok.acyclic
     (sym (ap (λ rs. list_any (nat_lt 7) rs) (c.as_slice.ensures.value ∙ c.in_ok-ranks.ensures.ok.exact)) ∙ sym c.are_deep.ensures ∙ c.if-are_deep.false)
-    (few_below 64 (length c.args.joins.now) c.if-joins-ge-MOST_JOINS.false)
+    (few_below 64 (length c.args.joins.now) c.if-joins-ge-MAX_JOINS.false)

@@ -1,5 +1,5 @@
 use Rattle.std.proofs.Common.{arith}
-use Rattle.rank_order.proofs.LeastWays.{IsAcyclic-from_distance}
+use Rattle.rank_order.proofs.LeastWalks.{IsAcyclic-from_distance}
 use Rattle.rank_order.proofs.answer.ranks.Goals as goal
 
 pub returns-then-index-eq0-clause-acyclic : goal.returns-then-index-eq0-clause-acyclic

@@ -1,5 +1,5 @@
 use Rattle.std.proofs.Common.{◌≡◌, subst, arith}
-use Rattle.rank_order.specs.Ways.{AreDistances}
+use Rattle.rank_order.specs.Walks.{AreDistances}
 use Rattle.rank_order.proofs.distances.distances_to.Goals as goal
 
 pub returns-clause-distances : goal.returns-clause-distances

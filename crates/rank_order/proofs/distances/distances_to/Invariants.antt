@@ -1,5 +1,5 @@
 use Rattle.std.proofs.Common.{◌≡◌, length}
-use Rattle.rank_order.specs.Ways.{AreDistances}
+use Rattle.rank_order.specs.Walks.{AreDistances}
 use Rattle.rank_order.proofs.distances.distances_to.Given as goal
 
 abbrev pub invariant-loop-steps : goal.invariant-loop-steps

@@ -1,7 +1,7 @@
 use Rattle.std.proofs.Common.{◌≡◌, suc, ◌+◌, take_all, sym, subst, ◌∙◌, arith}
 use Rattle.std.proofs.lemmas.Bool.{both_ways}
 use Rattle.semantics.proofs.GraphReadings.{AreVertices-get_or}
-use Rattle.rank_order.specs.Ways.{AreDistances}
+use Rattle.rank_order.specs.Walks.{AreDistances}
 use Rattle.rank_order.proofs.DistanceMarks.{IsMarked, IsMarked-mark_more, IsMarked-skip_more, AreDistances-round}
 use Rattle.rank_order.proofs.distances.mark_round.Goals as goal
 use Rattle.rank_order.proofs.distances.mark_round.Goals.{then-distances-reader-eq0+then-is_at, else-distances-reader-eq0, else-distances-reader-eq0-via-then-distances-reader-eq0+else-is_at, else-distances-reader-eq0-via-else-distances-reader-eq0}

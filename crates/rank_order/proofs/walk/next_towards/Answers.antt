@@ -1,7 +1,7 @@
 use Rattle.std.proofs.Common.{◌+◌, take, take_all, sym, subst, ◌∙◌, arith}
 use Rattle.std.proofs.lemmas.Bool.{both_ways}
 use Rattle.semantics.proofs.GraphReadings.{AreVertices-get_or}
-use Rattle.rank_order.proofs.LeastWays.{IsLeastSoFar, IsLeastSoFar-step_more, IsLeastSoFar-other_more, next-from_IsLeastSoFar}
+use Rattle.rank_order.proofs.LeastWalks.{IsLeastSoFar, IsLeastSoFar-step_more, IsLeastSoFar-other_more, next-from_IsLeastSoFar}
 use Rattle.rank_order.proofs.walk.next_towards.Goals as goal
 use Rattle.rank_order.proofs.walk.next_towards.Goals.{then-reader-vertex+then-is_at, else-reader-vertex, else-reader-vertex-via-then-reader-vertex+else-is_at, else-reader-vertex-via-else-reader-vertex}
 

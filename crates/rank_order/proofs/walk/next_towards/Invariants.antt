@@ -1,5 +1,5 @@
 use Rattle.std.proofs.Common.{take}
-use Rattle.rank_order.proofs.LeastWays.{IsLeastSoFar}
+use Rattle.rank_order.proofs.LeastWalks.{IsLeastSoFar}
 use Rattle.rank_order.proofs.walk.next_towards.Given as goal
 
 abbrev pub invariant-loop-reader : goal.invariant-loop-reader

@@ -1,5 +1,5 @@
-use Rattle.semantics.proofs.GraphShown.{cycle_is_shown_lem}
-use Rattle.semantics.proofs.graph_laws.cycle_is_shown.Goals as goal
+use Rattle.semantics.proofs.GraphLeast.{cycle_is_least_lem}
+use Rattle.semantics.proofs.graph_laws.cycle_is_least.Goals as goal
 
 pub returns : goal.returns
-returns c = cycle_is_shown_lem
+returns c = cycle_is_least_lem

@@ -1,8 +1,8 @@
 use Rattle.std.proofs.Common.{◌<◌, length, sym, ap, ◌∙◌, arith, rules}
 use Rattle.std.proofs.lemmas.List.{length-map}
 use Rattle.semantics.specs.Patterns.{Pattern}
-use Rattle.ranges.specs.Containing.{bind_range}
-use Rattle.ranges.proofs.RangeLemmas.{bounds_of}
+use Rattle.key_ranges.specs.Containing.{bind_range}
+use Rattle.key_ranges.proofs.RangeLemmas.{bounds_of}
 use Rattle.key_pattern.specs.Plain.{plain_segment, plain_segments}
 use Rattle.key_pattern.specs.Shared.{shared_segments}
 use Rattle.key_pattern.proofs.SharedLemmas.{first-shared}

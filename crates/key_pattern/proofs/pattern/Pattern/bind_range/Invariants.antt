@@ -1,7 +1,7 @@
 use Rattle.std.proofs.Common.{◌≡◌, true, drop}
 use Rattle.std.specs.Ordering.{is_le}
 use Rattle.semantics.specs.Texts.{text_cmp}
-use Rattle.ranges.specs.Containing.{take_first, bind_range}
+use Rattle.key_ranges.specs.Containing.{take_first, bind_range}
 use denote.Shadow.{shadow}
 use denote.Text.{Utf8}
 use Rattle.key_pattern.specs.Plain.{plain_segments}

@@ -3,9 +3,9 @@ use Rattle.std.specs.String.{string_bytes}
 use Rattle.std.proofs.lemmas.Result.{IfOk-weaker}
 use Rattle.semantics.specs.Texts.{bar, names_table}
 use Rattle.semantics.specs.Patterns.{short}
-use Rattle.ranges.specs.Ranges.{just, prefix_range}
-use Rattle.ranges.specs.Containing.{fixed_texts, containing}
-use Rattle.ranges.proofs.ContainingLemmas.{all_fixed_name, fixed_name}
+use Rattle.key_ranges.specs.Ranges.{just, prefix_range}
+use Rattle.key_ranges.specs.Containing.{fixed_texts, containing}
+use Rattle.key_ranges.proofs.ContainingLemmas.{all_fixed_name, fixed_name}
 use Rattle.key_pattern.specs.Fixed.{JoinsFixed}
 use Rattle.key_pattern.proofs.FixedLemmas.{containing_whole, containing_beginning, holds_from_exact}
 use Rattle.key_pattern.proofs.pattern.Pattern.containing.Goals as goal

@@ -1,7 +1,7 @@
 use Rattle.std.proofs.Common.{◌<◌, ◌≤◌, length, fold, ap, ◌∙◌, arith}
 use Rattle.std.proofs.lemmas.List.{length-map, take_all}
 use Rattle.semantics.specs.Patterns.{no_slots}
-use Rattle.ranges.specs.Containing.{with_slot, only}
+use Rattle.key_ranges.specs.Containing.{with_slot, only}
 use Rattle.key_pattern.specs.Plain.{plain_segment, plain_segments}
 use Rattle.key_pattern.proofs.WalkLemmas.{seen_at, segment_at, folded_more}
 use Rattle.key_pattern.proofs.slots.Slots.only.Goals as goal

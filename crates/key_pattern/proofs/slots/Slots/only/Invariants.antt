@@ -1,6 +1,6 @@
 use Rattle.std.proofs.Common.{◌≡◌, take, fold}
 use Rattle.semantics.specs.Patterns.{no_slots}
-use Rattle.ranges.specs.Containing.{with_slot}
+use Rattle.key_ranges.specs.Containing.{with_slot}
 use Rattle.key_pattern.specs.Plain.{plain_segments}
 use Rattle.key_pattern.proofs.slots.Slots.only.Given as goal
 

@@ -1,5 +1,0 @@
-use Rattle.evaluation.proofs.UnchangedLemmas.{bare_is_base}
-use Rattle.evaluation.proofs.change_laws.bare_is_base.Goals as goal
-
-pub returns : goal.returns
-returns c = bare_is_base

@@ -1,5 +1,0 @@
-use Rattle.evaluation.proofs.ContributionLemmas.{followed_are_listed}
-use Rattle.evaluation.proofs.contribution_laws.followed_are_listed.Goals as goal
-
-pub returns : goal.returns
-returns c = followed_are_listed

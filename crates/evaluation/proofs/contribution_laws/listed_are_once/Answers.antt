@@ -1,5 +1,0 @@
-use Rattle.evaluation.proofs.ContributionLemmas.{listed_are_once}
-use Rattle.evaluation.proofs.contribution_laws.listed_are_once.Goals as goal
-
-pub returns : goal.returns
-returns c = listed_are_once

@@ -1,5 +1,0 @@
-use Rattle.evaluation.proofs.ContributionLemmas.{listed_make_output}
-use Rattle.evaluation.proofs.contribution_laws.listed_make_output.Goals as goal
-
-pub returns : goal.returns
-returns c = listed_make_output

@@ -1,5 +1,0 @@
-use Rattle.evaluation.proofs.GoesOnLemmas.{first_has_need}
-use Rattle.evaluation.proofs.path_laws.first_has_need.Goals as goal
-
-pub returns : goal.returns
-returns c = first_has_need

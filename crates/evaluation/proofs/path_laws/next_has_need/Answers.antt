@@ -1,5 +1,0 @@
-use Rattle.evaluation.proofs.GoesOnLemmas.{next_has_need}
-use Rattle.evaluation.proofs.path_laws.next_has_need.Goals as goal
-
-pub returns : goal.returns
-returns c = next_has_need

@@ -1,5 +1,0 @@
-use Rattle.evaluation.proofs.AskedLemmas.{followed_fits}
-use Rattle.evaluation.proofs.tree_laws.followed_fits.Goals as goal
-
-pub returns : goal.returns
-returns c = followed_fits

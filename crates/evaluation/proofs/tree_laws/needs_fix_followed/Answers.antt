@@ -1,5 +1,0 @@
-use Rattle.evaluation.proofs.NeedLemmas.{needs_fix_followed}
-use Rattle.evaluation.proofs.tree_laws.needs_fix_followed.Goals as goal
-
-pub returns : goal.returns
-returns c = needs_fix_followed

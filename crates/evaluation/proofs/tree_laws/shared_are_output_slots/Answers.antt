@@ -1,5 +1,0 @@
-use Rattle.evaluation.proofs.AskedLemmas.{shared_are_output_slots}
-use Rattle.evaluation.proofs.tree_laws.shared_are_output_slots.Goals as goal
-
-pub returns : goal.returns
-returns c = shared_are_output_slots

@@ -1,7 +1,0 @@
-use Rattle.std.proofs.Common.{refl}
-use Rattle.evaluation.proofs.Computes.{definitions_on_literals}
-use Rattle.evaluation.proofs.worked.other_width.Goals as goal
-
-pub returns : goal.returns
-unfolding definitions_on_literals
-returns c = refl

@@ -1,0 +1,5 @@
+use Rattle.range_evaluation.proofs.ContributionLemmas.{listed_are_once}
+use Rattle.range_evaluation.proofs.contribution_laws.listed_are_once.Goals as goal
+
+pub returns : goal.returns
+returns c = listed_are_once

@@ -1,0 +1,42 @@
+-- Laws on what changes between two positions.
+use Rattle.std.specs.Prelude.{◌≡◌, ℕ, ◌<◌, ◌≤◌, ◌↔◌, take, slice_get, Contains, true}
+use Rattle.std.specs.List.Sorted.{IsStrictlySortedBy}
+use Rattle.std.specs.Option.{IsSomeAnd}
+use Rattle.semantics.specs.Texts.{Text, text_cmp, table_of, is_range, Range, within, pairs_within}
+use Rattle.semantics.specs.Patterns.{Pattern, is_pattern, fits}
+use Rattle.semantics.specs.Histories.{Write, put, remove, declare, History, joins_of, base_of}
+use Rattle.semantics.specs.States.{below}
+use Rattle.semantics.specs.StateLaws.{DeclaresJoins}
+use Rattle.range_evaluation.specs.Changes.{changed_keys, Same, has_table, is_bare}
+
+-- the write puts or removes the key
+abbrev pub Writes : Write → Text → Type 0
+Writes (put k v) key = k ≡ key
+Writes (remove k) key = k ≡ key
+Writes (declare j) key = ⊥
+
+-- one of the entries q + 1 to p puts or removes the key; entry x + 1 stands at place x of the history
+abbrev pub IsWrittenBetween : ℕ → ℕ → History → Text → Type 0
+IsWrittenBetween q p h key = (x : ℕ) × (q ≤ x) × (x < p) × IsSomeAnd (slice_get h x) (λ e. Writes e.write key)
+
+-- the changed keys ascend, each once
+abbrev pub ChangedKeysAscend : Type 0
+ChangedKeysAscend = (q p : ℕ) (r : Range) (h : History) → IsStrictlySortedBy text_cmp (changed_keys q p r h)
+
+-- the changed keys are those keys of the range that one of the entries q + 1 to p puts or removes
+abbrev pub ChangedKeysAreWritten : Type 0
+ChangedKeysAreWritten = (q p : ℕ) (r : Range) (h : History) (key : Text) → Contains (changed_keys q p r h) key ↔ ((within r key ≡ true) × IsWrittenBetween q p h key)
+
+-- at a key of a bare range that is not among the changed ones the state is the same at all positions from q to p
+abbrev pub UnchangedIsSame : Type 0
+UnchangedIsSame = (h : History) (q p rank : ℕ) (r : Range) (key : Text) → DeclaresJoins h → is_range r.low r.high ≡ true → is_bare r (joins_of (take p h)) ≡ true →
+    within r key ≡ true → (Contains (changed_keys q p r h) key → ⊥) → Same h q p rank key
+
+-- of the keys that fit a pattern each is of the pattern's table
+abbrev pub TableOfFitting : Type 0
+TableOfFitting = (p : Pattern) (table key : Text) → is_pattern p ≡ true → fits p key ≡ true → (has_table p table ≡ true) ↔ (table_of key ≡ table)
+
+-- in a bare range the state with the joins of ranks below any one is the base pairs
+abbrev pub BareIsBase : Type 0
+BareIsBase = (h : History) (rank : ℕ) (r : Range) → DeclaresJoins h → is_range r.low r.high ≡ true → is_bare r (joins_of h) ≡ true →
+    pairs_within r (below h rank) ≡ pairs_within r (base_of h)

@@ -1,0 +1,27 @@
+// Laws on what changes between two positions.
+ghost use Rattle.range_evaluation.specs.ChangeLaws.{ChangedKeysAscend, ChangedKeysAreWritten, UnchangedIsSame, TableOfFitting, BareIsBase};
+
+/// The changed keys of a range ascend, each once.
+pub fn changed_keys_ascend()
+    ensures { ChangedKeysAscend }
+{}
+
+/// The changed keys of a range are its keys that one of the entries between the positions puts or removes.
+pub fn changed_keys_are_written()
+    ensures { ChangedKeysAreWritten }
+{}
+
+/// At a key of a bare range that is not among the changed ones the state is the same at all positions between the two.
+pub fn unchanged_is_same()
+    ensures { UnchangedIsSame }
+{}
+
+/// Of the keys that fit a pattern each is of the pattern's table.
+pub fn table_of_fitting()
+    ensures { TableOfFitting }
+{}
+
+/// In a bare range the state with the joins of ranks below any one is the base pairs.
+pub fn bare_is_base()
+    ensures { BareIsBase }
+{}

@@ -1,5 +1,0 @@
-use Rattle.ranges.proofs.BindRangeLemmas.{bind_range_gives_slots}
-use Rattle.ranges.proofs.containing_laws.bind_range_gives_slots.Goals as goal
-
-pub returns : goal.returns
-returns c = bind_range_gives_slots

@@ -1,5 +1,0 @@
-use Rattle.ranges.proofs.ContainingLemmas.{containing_holds}
-use Rattle.ranges.proofs.containing_laws.containing_holds.Goals as goal
-
-pub returns : goal.returns
-returns c = containing_holds

@@ -1,5 +1,0 @@
-use Rattle.ranges.proofs.ExactLemmas.{containing_is_exact}
-use Rattle.ranges.proofs.containing_laws.containing_is_exact.Goals as goal
-
-pub returns : goal.returns
-returns c = containing_is_exact

@@ -1,5 +1,0 @@
-use Rattle.ranges.proofs.ContainingLemmas.{containing_is_range}
-use Rattle.ranges.proofs.containing_laws.containing_is_range.Goals as goal
-
-pub returns : goal.returns
-returns c = containing_is_range

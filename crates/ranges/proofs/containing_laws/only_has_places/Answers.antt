@@ -1,5 +1,0 @@
-use Rattle.ranges.proofs.OnlyLemmas.{only_has_places}
-use Rattle.ranges.proofs.containing_laws.only_has_places.Goals as goal
-
-pub returns : goal.returns
-returns c = only_has_places

@@ -1,5 +1,0 @@
-use Rattle.ranges.proofs.RangeLemmas.{holders_meet}
-use Rattle.ranges.proofs.range_laws.holders_meet.Goals as goal
-
-pub returns : goal.returns
-returns c = holders_meet

@@ -1,5 +1,0 @@
-use Rattle.ranges.proofs.PrefixLemmas.{within-just}
-use Rattle.ranges.proofs.range_laws.just_holds.Goals as goal
-
-pub returns : goal.returns
-returns c = within-just

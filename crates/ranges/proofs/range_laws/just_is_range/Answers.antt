@@ -1,5 +1,0 @@
-use Rattle.ranges.proofs.RangeLemmas.{just_is_range}
-use Rattle.ranges.proofs.range_laws.just_is_range.Goals as goal
-
-pub returns : goal.returns
-returns c = just_is_range

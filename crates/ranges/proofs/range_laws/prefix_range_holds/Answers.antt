@@ -1,5 +1,0 @@
-use Rattle.ranges.proofs.PrefixLemmas.{within-prefix_range}
-use Rattle.ranges.proofs.range_laws.prefix_range_holds.Goals as goal
-
-pub returns : goal.returns
-returns c = within-prefix_range

@@ -1,5 +1,0 @@
-use Rattle.ranges.proofs.RangeLemmas.{prefix_range_is_range}
-use Rattle.ranges.proofs.range_laws.prefix_range_is_range.Goals as goal
-
-pub returns : goal.returns
-returns c = prefix_range_is_range

@@ -1,7 +1,0 @@
-use Rattle.std.proofs.Common.{refl}
-use Rattle.rows.proofs.Computes.{definitions_on_literals}
-use Rattle.rows.proofs.refusal_rows.clashes.Goals as goal
-
-pub returns : goal.returns
-unfolding definitions_on_literals
-returns c = refl

@@ -1,0 +1,12 @@
+// Further laws on the sets of joins that may stand.
+ghost use Rattle.semantics_laws.specs.AdmissibleLaws.{JoinsWhereAdmissible, DeclaresWhereAdmissible};
+
+/// A join has no cause against it exactly where the admissible set stays admissible with it.
+pub fn joins_where_admissible()
+    ensures { JoinsWhereAdmissible }
+{}
+
+/// Where the joins that stand are admissible, the verdict of a declaration is none exactly where the history has room, no put or remove has entered before, and the joins are admissible with the new one.
+pub fn declares_where_admissible()
+    ensures { DeclaresWhereAdmissible }
+{}

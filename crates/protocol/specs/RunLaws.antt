@@ -1,6 +1,6 @@
 -- Laws on runs: transcripts in two parts, and what a client is told in two parts.
 use Rattle.std.specs.Prelude.{◌≡◌, ℕ, ◌+◌, List, ◌++◌, length, Bool, true, false}
-use Rattle.semantics.specs.Texts.{Text}
+use Rattle.protocol.specs.Lines.{Bytes}
 use Rattle.semantics.specs.Histories.{History}
 use Rattle.protocol.specs.Requests.{Request}
 use Rattle.protocol.specs.Replies.{Reply}

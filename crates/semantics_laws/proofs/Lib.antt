@@ -2,4 +2,5 @@ pub mod TableKeys
 pub mod FitLemmas
 pub mod OrderLemmas
 pub mod AdmissibleSets
+pub mod ReadingLemmas
 pub mod KindLemmas

@@ -3,3 +3,4 @@ pub mod OutputLaws
 pub mod StateLaws
 pub mod KindLaws
 pub mod AdmissibleLaws
+pub mod ReadingLaws

@@ -8,4 +8,5 @@
 pub mod admissible_laws;
 pub mod output_laws;
 pub mod pattern_laws;
+pub mod reading_laws;
 pub mod state_laws;

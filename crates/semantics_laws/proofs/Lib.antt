@@ -3,4 +3,5 @@ pub mod FitLemmas
 pub mod OrderLemmas
 pub mod AdmissibleSets
 pub mod ReadingLemmas
+pub mod FixedPointLemmas
 pub mod KindLemmas

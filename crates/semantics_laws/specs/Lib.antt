@@ -4,3 +4,4 @@ pub mod StateLaws
 pub mod KindLaws
 pub mod AdmissibleLaws
 pub mod ReadingLaws
+pub mod FixedPointLaws

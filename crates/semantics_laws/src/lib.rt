@@ -6,6 +6,7 @@
 #![tactic(auto)]
 
 pub mod admissible_laws;
+pub mod fixed_point_laws;
 pub mod output_laws;
 pub mod pattern_laws;
 pub mod reading_laws;

@@ -1,13 +1,13 @@
 -- The state is what the joins make of the state itself: what a source reads stands below the join's rank.
-use Rattle.std.proofs.Common.{◌≡◌, ℕ, zero, suc, ◌+◌, ◌<◌, ◌≤◌, ◌⊎◌, inl, inr, ⊎_elim, List, [], ◌∷◌, length, map, fold, max, true, false, cond, Contains, slice_get, slice_index, Option, Some, None, refl, sym, ap, subst, ◌∙◌, arith}
-use Rattle.std.proofs.lemmas.Bool.{cases_Bool, cases_lt, cond_both}
+use Rattle.std.proofs.Common.{◌≡◌, ℕ, zero, suc, ◌<◌, ◌≤◌, ◌⊎◌, inl, inr, ⊎_elim, List, [], ◌∷◌, length, map, fold, max, true, false, cond, slice_get, slice_index, Option, Some, None, refl, sym, ap, ◌∙◌, arith}
+use Rattle.std.proofs.lemmas.Bool.{cases_Bool}
 use Rattle.std.proofs.lemmas.List.FromFn.{get_or-map-range_with_len}
-use Rattle.std.proofs.lemmas.Option.{slice_get_within, slice_get-get_or}
+use Rattle.std.proofs.lemmas.Option.{slice_get_within}
 use Rattle.semantics.specs.Texts.{Text, Table, value_at, pairs_where}
-use Rattle.semantics.specs.Patterns.{fits, overlaps}
-use Rattle.semantics.specs.Histories.{History, DeclaredJoin, joins_of, is_computed, visible}
+use Rattle.semantics.specs.Patterns.{fits}
+use Rattle.semantics.specs.Histories.{History, DeclaredJoin, joins_of, is_computed}
 use Rattle.semantics.specs.Outputs.{out}
-use Rattle.semantics.specs.Graphs.{Edges, reads, read_by, greatest, rank, IsAcyclic, AreVertices}
+use Rattle.semantics.specs.Graphs.{Edges, reads, read_by, rank, IsAcyclic, AreVertices}
 use Rattle.semantics.specs.States.{reading, ranks_of, below, state, IsAdmissible}
 use Rattle.semantics.specs.OutputLaws.{fits_source}
 use Rattle.semantics.specs.StateLaws.{DeclaresJoins}

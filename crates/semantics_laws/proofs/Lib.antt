@@ -5,3 +5,4 @@ pub mod AdmissibleSets
 pub mod ReadingLemmas
 pub mod FixedPointLemmas
 pub mod KindLemmas
+pub mod IntegerLemmas

@@ -1,5 +1,5 @@
 -- Which edges a reading has, that a least cycle repeats no vertex, and what the cause `cycle` carries.
-use Rattle.std.proofs.Common.{◌≡◌, ℕ, zero, suc, ◌+◌, ◌-◌, ◌<◌, ◌≤◌, ◌⊎◌, inl, inr, List, [], ◌∷◌, ◌++◌, length, map, Bool, true, false, eqb, ne_eqb, eq-eqb, Contains, slice_get, Option, Some, None, MatchOption, option_map, unwrap_or, not, nat_lt, nat_le, ◌^◌, if◌then◌else◌, refl, sym, ap, ap₂, subst, ◌∙◌, arith}
+use Rattle.std.proofs.Common.{◌≡◌, ℕ, zero, suc, ◌+◌, ◌-◌, ◌<◌, ◌⊎◌, inl, inr, List, [], ◌∷◌, length, map, Bool, true, false, eqb, ne_eqb, eq-eqb, Contains, slice_get, Option, Some, None, MatchOption, option_map, unwrap_or, not, nat_lt, nat_le, ◌^◌, if◌then◌else◌, refl, sym, ap, ap₂, subst, ◌∙◌, arith}
 use Rattle.std.specs.List.{IsDistinct, AllByRecursion, enumerate_from, list_any}
 use Rattle.std.proofs.lemmas.Bool.{true≢false}
 use Rattle.std.proofs.lemmas.Option.{none-some, same_Some}

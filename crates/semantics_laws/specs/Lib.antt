@@ -5,3 +5,4 @@ pub mod KindLaws
 pub mod AdmissibleLaws
 pub mod ReadingLaws
 pub mod FixedPointLaws
+pub mod IntegerLaws

@@ -7,6 +7,7 @@
 
 pub mod admissible_laws;
 pub mod fixed_point_laws;
+pub mod integer_laws;
 pub mod output_laws;
 pub mod pattern_laws;
 pub mod reading_laws;

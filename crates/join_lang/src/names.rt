@@ -44,7 +44,7 @@ impl Names {
     /// The place of a name, which is added where it is new; none exactly where it would be the seventeenth. Linear in
     /// the names.
     ///
-    /// `OutOfMemory` comes only where none is found for a new name.
+    /// It may report that it found no memory for a new name.
     pub fn place_of(&mut self, name: &str) -> Result<Option<u8>, OutOfMemory>
         ensures { IfOk result (λ place. Finds (place_among self.old name.now) place self.new) }
     {

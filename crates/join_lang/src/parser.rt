@@ -135,12 +135,11 @@ fn read_tokens(alloc: Global, end: usize, mut tokens: Tokens<'_>) -> Result<Join
     })
 }
 
-/// The join that a text is. One walk over the text, which takes each token once; linear in it, with the names for each
-/// slot.
+/// The join that a text is. It reads each token once: linear in the text, with the names for each slot.
 ///
 /// `Syntax` comes exactly where the text is no join: `at` is the offset of the first byte of the first token that is not
 /// accepted in its place, the text's length where a token is wanted at its end, and 4,096 where the text has more bytes.
-/// `OutOfMemory` comes only where none is found for what the join holds.
+/// It may report that it found no memory for what the join holds.
 pub fn parse(alloc: Global, text: &str) -> Result<Join, ParseFault>
     ensures ok { IfOk result (λ join. read_join text.now ≡ Ok join) }
     ensures fault { IfErr result (IsFaultOf (read_join text.now)) }

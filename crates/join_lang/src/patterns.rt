@@ -70,7 +70,7 @@ fn read_segments(
 /// The pattern that a token is, if it is one of at most 512 bytes. Names that it brings are added. Linear in the token,
 /// with the names for each slot.
 ///
-/// `OutOfMemory` comes only where none is found for the pattern or a new name.
+/// It may report that it found no memory for the pattern or a new name.
 pub fn read_pattern(
     alloc: Global,
     names: &mut Names,

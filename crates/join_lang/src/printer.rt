@@ -99,7 +99,7 @@ fn push_sources(
 
 /// The canonical text of a join: one space between tokens, none before or after, and no `push`. Linear in the text.
 ///
-/// `OutOfMemory` comes only where none is found for the text.
+/// It may report that it found no memory for the text.
 pub fn print(alloc: Global, join: &Join) -> Result<String, OutOfMemory>
     ensures { IfOk result (λ text. string_bytes text ≡ canonical_text join.now) }
 {

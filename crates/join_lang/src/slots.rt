@@ -72,7 +72,7 @@ fn slot_named(names: &mut Names, name: &str, width: u8) -> Result<Option<Segment
 
 /// The slot of which this stands between `<` and `>`, if it is one. Linear in the text and in the names.
 ///
-/// `OutOfMemory` comes only where none is found for a new name.
+/// It may report that it found no memory for a new name.
 pub fn read_slot(names: &mut Names, body: &str) -> Result<Option<Segment>, OutOfMemory>
     ensures { IfOk result (λ found. Finds (slot_of_body names.old body.now) (option_map plain_segment found) names.new) }
 {

@@ -37,8 +37,8 @@ pub fn state_below(alloc: Global, entries: &[Entry], rank: u8) -> Result<Table, 
     Ok(table)
 }
 
-/// The state after the entries, each of which entered at its place: what stands with the joins of all ranks. It costs what
-/// `state_below` does.
+/// The state after the entries, each of which entered at its place: what stands with the joins of all ranks, at the cost
+/// of `state_below`.
 pub fn state(alloc: Global, entries: &[Entry]) -> Result<Table, OutOfMemory>
     requires { AllEntered entries.now }
     ensures { IfOk result (λ table. table ≡ state entries.now) }
@@ -47,7 +47,7 @@ pub fn state(alloc: Global, entries: &[Entry]) -> Result<Table, OutOfMemory>
 }
 
 /// Copies of the pairs that stand after the entries with the joins of ranks below this one alone, of those whose keys lie
-/// in the range, in order. It costs what `state_below` does.
+/// in the range, in order, at the cost of `state_below`.
 pub fn afresh_below(
     alloc: Global,
     entries: &[Entry],
@@ -61,7 +61,7 @@ pub fn afresh_below(
     state_below(alloc, entries, rank)?.within(alloc, range)
 }
 
-/// Copies of the pairs of the state after the entries whose keys lie in the range, in order. It costs what `state` does.
+/// Copies of the pairs of the state after the entries whose keys lie in the range, in order, at the cost of `state`.
 pub fn afresh(alloc: Global, entries: &[Entry], range: &Range) -> Result<Vec<Pair>, OutOfMemory>
     requires { AllEntered entries.now }
     ensures { IfOk result (λ pairs. pairs.items ≡ pairs_within range.now (state entries.now)) }
@@ -69,7 +69,7 @@ pub fn afresh(alloc: Global, entries: &[Entry], range: &Range) -> Result<Vec<Pai
     state(alloc, entries)?.within(alloc, range)
 }
 
-/// A copy of the value at the key in the state after the entries. It costs what `state` does.
+/// A copy of the value at the key in the state after the entries, at the cost of `state`.
 pub fn value_afresh(
     alloc: Global,
     entries: &[Entry],

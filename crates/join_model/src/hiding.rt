@@ -6,7 +6,7 @@ ghost use Rattle.semantics.specs.Histories.{is_computed};
 use join_output::Table;
 use join_set::JoinSet;
 
-/// Leaves out the pairs whose keys fit the output of a join that stands. It looks at each key for each join.
+/// Leaves out the pairs whose keys fit the output of a join that stands. Each key is matched against each output.
 pub fn hide_computed(table: &mut Table, joins: &JoinSet)
     ensures { table.new ≡ pairs_where (λ key. not (is_computed joins.now key)) table.old }
 {

@@ -20,7 +20,7 @@ pub struct Left {
     pub base: Table,
 }
 
-/// The write is made on the base pairs, of which a declaration changes none. Logarithmic in the table.
+/// Applies the write to the base pairs, of which a declaration changes none. Logarithmic in the table.
 pub fn apply(base: &mut Table, write: &Write) -> Result<(), OutOfMemory>
     ensures ok { OnOk result (base.new ≡ base_after (plain_write write.now) base.old) }
     ensures err { OnErr result (base.new ≡ base.old) }
@@ -33,8 +33,8 @@ pub fn apply(base: &mut Table, write: &Write) -> Result<(), OutOfMemory>
     Ok(())
 }
 
-/// What the entries leave, each of which entered at its place. A put or remove costs a look at the table, and a
-/// declaration holds each join against each.
+/// What the entries leave, each of which entered at its place. A put or remove searches the table, and a declaration
+/// compares each join with each.
 pub fn replay(alloc: Global, entries: &[Entry]) -> Result<Left, OutOfMemory>
     requires { AllEntered entries.now }
     ensures { IfOk result (IsLeftBy entries.now) }

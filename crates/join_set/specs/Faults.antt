@@ -4,7 +4,7 @@ use Rattle.semantics.specs.Verdicts as plain
 use Rattle.join_set.specs.declared.fault.AddFault.{AddFault}
 use Rattle.join_set.specs.declared.fault.AddFault.TheVariants.{Slots, Sources, Clash, Cycle, Deep, Many, OutOfMemory}
 
--- the fault is the cause; want of memory says nothing of it
+-- the fault is the cause; that no memory was found says nothing of it
 abbrev pub IsFaultOf : AddFault → Option plain.Cause → Type 0
 IsFaultOf Slots cause = cause ≡ Some plain.slots
 IsFaultOf Sources cause = cause ≡ Some plain.sources
@@ -14,7 +14,7 @@ IsFaultOf Deep cause = cause ≡ Some plain.deep
 IsFaultOf Many cause = cause ≡ Some plain.many
 IsFaultOf OutOfMemory cause = Unit {0}
 
--- the cause that the fault is; none is want of memory
+-- the cause that the fault is; none where no memory was found
 abbrev pub plain_fault : AddFault → Option plain.Cause
 plain_fault Slots = Some plain.slots
 plain_fault Sources = Some plain.sources

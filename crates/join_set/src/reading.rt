@@ -32,7 +32,7 @@ fn add_edges(
     Ok(())
 }
 
-/// The reading of the set with the new join, which has the last number. Each join is held against each.
+/// The reading of the set with the new join, which has the last number. Each join is compared with each.
 pub fn edges(
     alloc: Global,
     joins: &[Stands],

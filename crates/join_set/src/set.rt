@@ -122,7 +122,7 @@ impl JoinSet {
     }
 
     /// Why the join may not be added at a position, tried in the order of `AddFault`'s variants, or nothing. Each join is
-    /// held against each.
+    /// compared with each.
     pub fn refuses(&self, at: u64, join: &Join) -> Result<(), AddFault>
         ensures ok { OnOk result (join_cause self.now at join.now ≡ None) }
         ensures err { IfErr result (λ fault. IsFaultOf fault (join_cause self.now at join.now)) }
@@ -136,8 +136,8 @@ impl JoinSet {
     /// It is refused by the first that holds: `Slots` and `Sources` where it breaks that rule, `Clash` where its output
     /// overlaps that of a join, with the least position of such a join, `Cycle` where the reading with it has a cycle,
     /// with the positions of the shortest and least through it, `Deep` where some rank would be above 7, and `Many` where
-    /// 64 joins stand. Those and `OutOfMemory` leave the set as it was. The reading is made again: each join is held
-    /// against each.
+    /// 64 joins stand. After an error the set is unchanged. The reading is computed anew: each join is compared with
+    /// each.
     pub fn add(&mut self, at: u64, join: Join) -> Result<(), AddFault>
         requires { AreBelow at self.old }
         ensures added { OnOk result (self.new ≡ joined self.old at join) }

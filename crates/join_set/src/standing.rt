@@ -69,8 +69,8 @@ impl Standing {
         self.entries
     }
 
-    /// The verdict of the write after the history: why it may not enter, or nothing. A put or remove costs a look at the
-    /// key for each join, and a declaration holds each join against each.
+    /// The verdict of the write after the history: why it may not enter, or nothing. A put or remove matches the
+    /// key against each output, and a declaration compares each join with each.
     pub fn judge(&self, write: &Write) -> Result<Option<Cause>, OutOfMemory>
         ensures exact { IfOk result (λ found. option_map plain_cause found ≡ cause_over self.now (plain_write write.now)) }
         ensures verdict { IfOk result (λ found. (h : History) → StandsFor self.now h → option_map plain_cause found ≡ verdict (plain_write write.now) h) }
@@ -99,8 +99,8 @@ impl Standing {
         }
     }
 
-    /// The write enters, which has no cause against it. On `OutOfMemory` nothing has entered. A put or remove takes
-    /// constant time. A declaration copies the join and holds each join against each, as `judge` has done before.
+    /// Enters the write, which no cause refuses. After `OutOfMemory` nothing is changed. A put or remove takes constant
+    /// time. A declaration copies the join and compares each join with each, as `judge` does.
     pub fn enter(&mut self, write: &Write) -> Result<(), OutOfMemory>
         requires { cause_over self.old (plain_write write.now) ≡ None }
         ensures exact { OnOk result (self.new ≡ summary_after self.old (plain_write write.now)) }
@@ -110,7 +110,7 @@ impl Standing {
         self.take(write)
     }
 
-    /// The write enters.
+    /// Enters the write.
     fn take(&mut self, write: &Write) -> Result<(), OutOfMemory>
         requires { cause_over self.old (plain_write write.now) ≡ None }
         ensures ok { OnOk result (self.new ≡ summary_after self.old (plain_write write.now)) }
@@ -129,7 +129,7 @@ impl Standing {
         }
     }
 
-    /// A put or remove enters.
+    /// Enters a put or remove.
     fn take_change(&mut self)
         requires { self.old.length < 2 ^ 48 - 1 }
         ensures { self.new ≡ record { joins = self.old.joins; length = self.old.length + 1; changed = true } }
@@ -138,7 +138,7 @@ impl Standing {
         self.entries += 1;
     }
 
-    /// A declaration enters.
+    /// Enters a declaration.
     fn take_join(&mut self, join: &Join) -> Result<(), OutOfMemory>
         requires room { self.old.length < 2 ^ 48 - 1 }
         requires free { join_cause self.old.joins (self.old.length + 1) join.now ≡ None }
@@ -195,7 +195,7 @@ fn cause_of(fault: AddFault) -> Result<Cause, OutOfMemory>
     }
 }
 
-/// The join is added at the position, against which there is no cause.
+/// Adds the join at the position, which no cause refuses.
 fn add(joins: &mut JoinSet, at: u64, join: Join) -> Result<(), OutOfMemory>
     requires below { AreBelow at joins.old }
     requires free { join_cause joins.old at join ≡ None }

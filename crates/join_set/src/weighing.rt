@@ -52,8 +52,8 @@ fn positions(
     Ok(Positions::of(found))
 }
 
-/// The ranks of the set with the new join, or the cycle of its reading. Each join is held against each, and the ranks
-/// cost what those of a graph do.
+/// The ranks of the set with the new join, or the cycle of its reading. Each join is compared with each, and the ranks
+/// are those of a graph.
 fn rank_with(alloc: Global, joins: &[Stands], at: u64, join: &Join) -> Result<Vec<u64>, AddFault>
     requires { IsAdmissible joins.now }
     ensures ok { IfOk result (λ ranks. IsRankedWith joins.now at join.now ranks.items) }
@@ -76,7 +76,7 @@ fn are_deep(ranks: &[u64]) -> bool
 }
 
 /// The ranks of the set with the new join, or why the join may not be added: the first that holds of the rules on slots
-/// and on sources, a clash, a cycle, a rank above 7, and 64 joins that stand. Each join is held against each.
+/// and on sources, a clash, a cycle, a rank above 7, and 64 joins that stand. Each join is compared with each.
 pub fn weigh(alloc: Global, joins: &[Stands], at: u64, join: &Join) -> Result<Vec<u64>, AddFault>
     requires { IsAdmissible joins.now }
     ensures ok { IfOk result (λ ranks. ranks.items ≡ ranks_of (joined joins.now at join.now)) }

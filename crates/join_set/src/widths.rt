@@ -69,7 +69,7 @@ fn any_source_differs_from(checked: &[JoinSource], output: &Pattern, sources: &[
     checked.iter().any(|source| any_differs_from(&source.pattern, output, sources))
 }
 
-/// Whether some place has two widths among the slots of the output and the sources. Each slot is held against each.
+/// Whether some place has two widths among the slots of the output and the sources. Each slot is compared with each.
 pub fn has_two_widths(output: &Pattern, sources: &[JoinSource]) -> bool
     ensures { result ≡ has_two_widths (slots_of output.now ++ source_slots_of sources.now) }
 {

@@ -25,7 +25,7 @@ impl Positions {
         Positions { list }
     }
 
-    /// The list, which is given back.
+    /// The positions as a list, which is not copied.
     pub fn into_list(self) -> Vec<u64>
         ensures { result.items ≡ self }
     {

@@ -11,7 +11,7 @@ use std::marker::Model;
 /// What a client may change.
 #[derive(Debug, Drop)]
 pub enum Write {
-    /// The pair of a key and a value takes the place of whatever stood at the key.
+    /// The value stands at the key, in place of any that stood there.
     Put(Key, Value),
     /// Nothing stands at the key.
     Remove(Key),
@@ -68,7 +68,7 @@ impl Write {
 }
 
 impl Entry {
-    /// An equal entry. It costs what a copy of its write costs.
+    /// An equal entry, at the cost of a copy of its write.
     pub fn copy(&self, alloc: Global) -> Result<Entry, OutOfMemory>
         ensures { IfOk result (λ copy. copy ≡ self.now) }
     {

@@ -76,8 +76,8 @@ fn declare_line(
 /// line that is then empty, has spaces alone or begins with `#` is skipped. Every other line is the text of a join.
 ///
 /// `Refused` comes exactly where a line is no join text in UTF-8, with the name `syntax`, or where a cause stands against
-/// its join after those before it, with the cause's name. `OutOfMemory` comes only where none is found for the joins. Each
-/// line is read once, and each join held against each.
+/// its join after those before it, with the cause's name. It may report that it found no memory for the joins. Each
+/// line is read once, and each join is compared with each.
 pub fn declare(alloc: Global, bytes: &[u8]) -> Result<Declared, OutOfMemory>
     ensures { IfOk result (IsDeclaredBy bytes.now) }
 {

@@ -17,10 +17,10 @@ pub struct FileReport {
 }
 
 /// The rows about a file of joins: `["join",position,rank,text]` for each join in order, with its rank in the whole set and
-/// its canonical text; where a line is refused, `["refused",line,name]` for the first such line and nothing else. It costs
-/// what `declare` costs, and is linear in the rows.
+/// its canonical text; where a line is refused, `["refused",line,name]` for the first such line and nothing else. Its cost
+/// is that of `declare`, and linear in the rows.
 ///
-/// `OutOfMemory` comes only where none is found for the joins or the rows.
+/// It may report that it found no memory for the joins or the rows.
 pub fn report(alloc: Global, bytes: &[u8]) -> Result<FileReport, OutOfMemory>
     ensures text { IfOk result (λ report. report.text.items ≡ check_text bytes.now) }
     ensures refused { IfOk result (λ report. report.refused ≡ is_err (file_history bytes.now)) }

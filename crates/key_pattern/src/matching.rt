@@ -59,7 +59,7 @@ pub fn take<'a>(segment: &Segment, text: &'a str, given: &Slots<'a>) -> Option<S
     }
 }
 
-/// Puts the text that the segment has under the slots at the end. Want of memory leaves the text at any length.
+/// Appends the text that the segment has under the slots. Where no memory is found, any part of it may be appended.
 fn push_segment(text: &mut String, segment: &Segment, slots: &Slots<'_>) -> Result<(), OutOfMemory>
     requires { IsSome (segment_text (plain_segment segment.now) slots.now) }
     ensures { IfOk result (λ _. AddsSegment (plain_segment segment.now) slots.now (string_bytes text.old) (string_bytes text.new)) }

@@ -63,8 +63,8 @@ fn are_segments(segments: &[Segment]) -> bool
 }
 
 impl Pattern {
-    /// The segments as a pattern. They come back exactly where they are none: a pattern has 2 to 16 segments, the first
-    /// is a literal of at most 64 bytes, and each may stand in a pattern. Linear in their texts.
+    /// The pattern of these segments. They are the error exactly where they are no pattern: a pattern has 2 to 16
+    /// segments, the first is a literal of at most 64 bytes, and each may stand in a pattern. Linear in their texts.
     pub fn make(segments: Vec<Segment>) -> Result<Pattern, Vec<Segment>>
         ensures ok { IfOk result (λ pattern. (pattern ≡ plain_segments segments.items) × (is_pattern pattern ≡ true)) }
         ensures err { IfErr result (λ back. (back ≡ segments) × (is_pattern (plain_segments segments.items) ≡ false)) }

@@ -58,8 +58,8 @@ struct FixedText {
     is_whole: bool,
 }
 
-/// Puts the separator and the text that the segment has under the slots at the end, and says whether it has one: a
-/// literal has its own, and a slot that of its place, if there is one. Want of memory leaves the text at any length.
+/// Appends the separator and the text that the segment has under the slots, and says whether it has one: a literal has
+/// its own, and a slot that of its place, if there is one. Where no memory is found, any part of both may be appended.
 fn push_fixed(
     text: &mut String,
     separator: &str,

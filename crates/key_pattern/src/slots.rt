@@ -13,7 +13,7 @@ use out_of_memory::OutOfMemory;
 use std::alloc::Global;
 use std::marker::Model;
 
-/// Texts that are lent to some of 16 places, none of them empty and none with a `|`.
+/// Borrowed texts at some of 16 places, none of them empty and none with a `|`.
 #[derive(Debug, Drop)]
 pub struct Slots<'a> {
     texts: [Option<&'a str>; 16],
@@ -51,7 +51,7 @@ impl<'a> Slots<'a> {
         }
     }
 
-    /// Equal slots, whose texts are lent by the same owners. It takes constant time.
+    /// Equal slots, which borrow the same texts. It takes constant time.
     pub fn copy(&self) -> Slots<'a>
         ensures copy { result ≡ self.now }
         ensures slots { AreSlots self.now }
@@ -59,7 +59,7 @@ impl<'a> Slots<'a> {
         Slots { texts: self.texts }
     }
 
-    /// The slots with this text at the place, whatever stood there.
+    /// The slots with this text at the place, in place of any that stood there.
     pub(crate) fn with(&self, place: u8, text: &'a str) -> Slots<'a>
         requires place { place < 16 }
         requires text { IsSegmentText text.now }
@@ -126,7 +126,7 @@ impl SlotTexts {
         Ok(SlotTexts { texts })
     }
 
-    /// The slots, whose texts are lent. It takes constant time.
+    /// The slots, which borrow the texts. It takes constant time.
     pub fn lend(&self) -> Slots<'_>
         ensures lent { result ≡ self.now }
         ensures slots { AreSlots self.now }
@@ -156,7 +156,7 @@ fn own(alloc: Global, text: Option<&str>) -> Result<Option<String>, OutOfMemory>
     }
 }
 
-/// The text, if there is one, which is lent.
+/// The text, if there is one, which is borrowed.
 fn lend(text: &Option<String>) -> Option<&str>
     ensures { option_copied result ≡ option_map string_bytes text.now }
 {

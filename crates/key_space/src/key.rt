@@ -33,7 +33,7 @@ impl Model for Key {
     ghost invariant = { λ k. is_key k.place ≡ true };
 }
 
-/// Why a text was not taken as a key.
+/// Why a text is refused as a key.
 #[derive(Clone, Copy, Debug, PartialEq, Eq)]
 pub enum KeyFault {
     /// The text is no key.
@@ -70,7 +70,7 @@ impl Key {
         self.place.text()
     }
 
-    /// The place of the key.
+    /// The key as a bound.
     pub fn place(&self) -> &KeyBound
         ensures place { result.now ≡ self.now }
         ensures is_key { is_key self.now ≡ true }
@@ -78,7 +78,7 @@ impl Key {
         &self.place
     }
 
-    /// The key at a place, of which the text is one. The text is shared, and it takes constant time.
+    /// The key of a bound whose text is a key. The text is shared, and it takes constant time.
     pub fn at(place: &KeyBound) -> Result<Key, OutOfMemory>
         requires { is_key place.now ≡ true }
         ensures { IfOk result (λ key. key ≡ place.now) }

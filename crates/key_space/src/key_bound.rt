@@ -1,4 +1,4 @@
-// Places in the order of keys.
+// Bounds in the order of keys.
 ghost use Rattle.std.specs.Prelude.{◌≡◌, IfOk, Some, refl};
 ghost use Rattle.std.specs.Arc.{arc_str_bytes};
 ghost use Rattle.std.specs.Cmp.{partial_equiv_from_equiv};
@@ -10,8 +10,8 @@ use std::cmp::Ordering;
 use std::marker::Model;
 use std::sync::ArcStr;
 
-/// A place in the order of keys: the text of a key, or a bound of a range, which need not be one. A map whose keys are
-/// places can be read from one bound to another. A copy shares the text.
+/// A bound in the order of keys: the text of a key, or that of a bound of a range, which need not be a key. A map whose
+/// keys are bounds can be read from one bound to another. A copy shares the text.
 #[derive(Debug, Drop)]
 pub struct KeyBound {
     text: ArcStr,
@@ -27,21 +27,21 @@ impl Model for KeyBound {
 }
 
 impl KeyBound {
-    /// The place of a text.
+    /// The bound of a text.
     pub(crate) fn of(text: ArcStr) -> KeyBound
         ensures { result ≡ arc_str_bytes text }
     {
         KeyBound { text }
     }
 
-    /// The text of the place.
+    /// The text of the bound.
     pub fn text(&self) -> &str
         ensures { result.now ≡ self.now }
     {
         self.text.as_str()
     }
 
-    /// An equal place, which shares the text. It takes constant time.
+    /// An equal bound, which shares the text. It takes constant time.
     pub fn copy(&self) -> Result<KeyBound, OutOfMemory>
         ensures { IfOk result (λ copy. copy ≡ self.now) }
     {

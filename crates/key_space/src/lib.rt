@@ -1,4 +1,4 @@
-// Keys, values and ranges, the words in which the store speaks, and the decimals that stand in them.
+// Keys, values and ranges of keys, and the decimals that values and widths are written in.
 //
 // It stands on `out_of_memory` and, for its definitions, on `semantics` and `key_ranges`. The layers above may use all that is
 // public here: contracts see a key and a value as their texts and a range as its two bounds, and order is byte order.

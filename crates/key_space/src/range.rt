@@ -35,7 +35,7 @@ impl Model for Range {
     ghost invariant = { λ r. is_range r.low r.high ≡ true };
 }
 
-/// Why two bounds were not taken as a range.
+/// Why two bounds are refused as a range.
 #[derive(Clone, Copy, Debug, PartialEq, Eq)]
 pub enum RangeFault {
     /// The bounds are no range.
@@ -70,7 +70,7 @@ fn is_range(low: &str, high: &str) -> bool
     }
 }
 
-/// The later of two places. Linear in the shorter text.
+/// The later of two bounds. Linear in the shorter text.
 fn later(first: &KeyBound, second: &KeyBound) -> Result<KeyBound, OutOfMemory>
     ensures { IfOk result (λ place. place ≡ later first.now second.now) }
 {
@@ -81,7 +81,7 @@ fn later(first: &KeyBound, second: &KeyBound) -> Result<KeyBound, OutOfMemory>
     }
 }
 
-/// The earlier of two places. Linear in the shorter text.
+/// The earlier of two bounds. Linear in the shorter text.
 fn earlier(first: &KeyBound, second: &KeyBound) -> Result<KeyBound, OutOfMemory>
     ensures { IfOk result (λ place. place ≡ earlier first.now second.now) }
 {
@@ -92,7 +92,7 @@ fn earlier(first: &KeyBound, second: &KeyBound) -> Result<KeyBound, OutOfMemory>
     }
 }
 
-/// The place of a text with an ASCII character behind it. Linear in the text.
+/// The bound whose text is this one, followed by an ASCII character. Linear in the text.
 fn followed(alloc: Global, text: &str, end: char) -> Result<KeyBound, OutOfMemory>
     requires { end < 128 }
     ensures { IfOk result (λ place. place ≡ text.now ++ end ∷ []) }
@@ -150,7 +150,7 @@ impl Range {
         }
     }
 
-    /// The place of the first bound, which shares the text. It takes constant time.
+    /// The first bound, which shares the text. It takes constant time.
     pub fn first_place(&self) -> Result<KeyBound, OutOfMemory>
         ensures place { IfOk result (λ place. place ≡ self.now.low) }
         ensures is_range { is_range self.now.low self.now.high ≡ true }
@@ -158,7 +158,7 @@ impl Range {
         self.low.copy()
     }
 
-    /// The place of the last bound, which shares the text. It takes constant time.
+    /// The last bound, which shares the text. It takes constant time.
     pub fn last_place(&self) -> Result<KeyBound, OutOfMemory>
         ensures { IfOk result (λ place. place ≡ self.now.high) }
     {
@@ -206,7 +206,7 @@ impl Range {
     }
 
     /// The range of all texts that begin with the prefix, a key that ends with `|`: its last bound is the prefix with
-    /// `}` in the place of the last byte. Linear in the prefix.
+    /// `}` in place of the last byte. Linear in the prefix.
     pub fn prefix_range(alloc: Global, prefix: &str) -> Result<Range, OutOfMemory>
         requires key { is_key prefix.now ≡ true }
         requires ends { ends_with nat_eq prefix.now (bar ∷ []) ≡ true }

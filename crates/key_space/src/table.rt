@@ -6,8 +6,7 @@ ghost use Rattle.key_space.specs.Parts.{FindsTable, is_table_name};
 /// The most bytes of a table's name.
 pub const MAX_TABLE_BYTES: usize = 64;
 
-/// What stands before the first `|` of the text, which is lent; none exactly where it has no `|`. Linear in what stands
-/// there.
+/// The part of the text before its first `|`, which is borrowed; none exactly where it has no `|`. Linear in that part.
 pub fn find_table(text: &str) -> Option<&str>
     ensures { FindsTable text.now result }
 {

@@ -28,7 +28,7 @@ impl Model for Value {
     ghost invariant = { λ v. is_value (arc_str_bytes v.text) ≡ true };
 }
 
-/// Why a text was not taken as a value.
+/// Why a text is refused as a value.
 #[derive(Clone, Copy, Debug, PartialEq, Eq)]
 pub enum ValueFault {
     /// The text has more than 65,536 bytes.

@@ -1,9 +1,9 @@
-// Want of memory as an ordinary answer, one type for every crate above. It stands on std alone.
+// The answer of a call that finds no memory, one type for every crate above. It stands on std alone.
 #![tactic(auto)]
 
 use std::alloc::{AllocError, AllocFailed};
 
-/// No memory was found for what a call had to keep. Unless a call says otherwise, all that it was lent is as it was.
+/// No memory was found for what a call had to keep. Unless the call says otherwise, its arguments are unchanged.
 #[derive(Clone, Copy, Debug, PartialEq, Eq)]
 pub struct OutOfMemory;
 

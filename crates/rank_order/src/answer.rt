@@ -21,9 +21,9 @@ pub enum Ranked {
 /// The ranks of the vertices below `n`, of which `a` reads `b` for each edge `(a, b)`, or the least cycle where
 /// there is one: the shortest through `start`, beginning there, and among the shortest the least.
 ///
-/// Every cycle must go through `start`, as it does where `start` was added to a reading without one. `OutOfMemory` is the
-/// only error, and it says nothing of the reading. The cost is at most `2 * n` looks at each edge, and a list of `n`
-/// numbers for each rank that there is and two besides.
+/// Every cycle must go through `start`, as it does where `start` was added to a reading without one. It may
+/// report that it found no memory, which says nothing of the reading. It visits each edge at most `2 * n` times, and
+/// makes a list of `n` numbers for each rank that there is and two besides.
 pub fn ranks(
     alloc: Global,
     n: usize,

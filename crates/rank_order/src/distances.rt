@@ -18,7 +18,7 @@ pub fn is_at(distances: &[usize], goal: usize, steps: usize, vertex: usize) -> b
     }
 }
 
-/// Takes distances of at most `steps` on to those of one step more. Each edge is looked at once.
+/// Extends distances of at most `steps` to those of one step more. Each edge is visited once.
 pub fn mark_round(distances: &mut [usize], edges: &[(usize, usize)], goal: usize, steps: usize)
     requires ends { AreVertices (length distances.old) edges.now }
     requires room { steps < length distances.old }
@@ -32,7 +32,7 @@ pub fn mark_round(distances: &mut [usize], edges: &[(usize, usize)], goal: usize
     }
 }
 
-/// The distance of each vertex below `n` from the goal, 0 where no walk leads there. Each edge is looked at `n` times.
+/// The distance of each vertex below `n` from the goal, 0 where no walk leads there. Each edge is visited `n` times.
 pub fn distances_to(
     alloc: Global,
     n: usize,

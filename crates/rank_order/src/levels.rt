@@ -7,7 +7,7 @@ use out_of_memory::OutOfMemory;
 use std::alloc::Global;
 
 /// At each vertex one more than the greatest of the numbers that stand at what it reads, 0 where it reads nothing.
-/// Each edge is looked at once.
+/// Each edge is visited once.
 pub fn raise(
     alloc: Global,
     edges: &[(usize, usize)],
@@ -24,7 +24,7 @@ pub fn raise(
     Ok(found)
 }
 
-/// The rank of each vertex below `n`. Each edge is looked at once for each rank that there is, and at most `n` times.
+/// The rank of each vertex below `n`. Each edge is visited once for each rank that there is, and at most `n` times.
 pub fn find_ranks(
     alloc: Global,
     n: usize,

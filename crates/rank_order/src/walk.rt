@@ -17,8 +17,8 @@ fn lesser(least: Option<usize>, vertex: usize) -> usize
     }
 }
 
-/// The least vertex that `vertex` reads and that is so many steps before the goal, if there is one. Each edge is looked
-/// at once.
+/// The least vertex that `vertex` reads and that is so many steps before the goal, if there is one. Each edge is
+/// visited once.
 fn next_towards(
     edges: &[(usize, usize)],
     distances: &[usize],
@@ -39,7 +39,7 @@ fn next_towards(
 }
 
 /// The shortest cycle through `start`, and among the shortest the least, by the distances from `start`. Each edge is
-/// looked at once for each vertex of the cycle.
+/// visited once for each vertex of the cycle.
 pub fn least_cycle(
     alloc: Global,
     edges: &[(usize, usize)],

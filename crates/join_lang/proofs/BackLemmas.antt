@@ -50,7 +50,7 @@ room_tokens at (t ∷ ts) = kept_room (record { at = at; text = t }) (placed (at
 -- ---- tokens
 
 -- what a token's text is
-abbrev IsTokenText : Text → Type 0
+abbrev pub IsTokenText : Text → Type 0
 IsTokenText t = (nat_le 1 (length t) ≡ true) × Lacks 32 t
 
 kept_text : (t : Token) (ts : List Token) (b : Bool) → has_byte t ≡ b → Lacks 32 t.text → AllByRecursion IsTokenText (map text_of (filter has_byte ts)) → AllByRecursion IsTokenText (map text_of (filter has_byte (t ∷ ts)))
@@ -74,12 +74,12 @@ all_kept at [] h = refl
 all_kept at (t ∷ ts) h = rw h.0.0 (ap (λ us. record { at = at; text = t } ∷ us) (all_kept (at + length t + 1) ts h.1))
 
 -- the tokens of texts behind spaces are those texts
-tokens_joined : (t : Text) (ts : List Text) → AllByRecursion IsTokenText (t ∷ ts) → tokens (join_with_byte 32 (t ∷ ts)) ≡ placed 0 (t ∷ ts)
+pub tokens_joined : (t : Text) (ts : List Text) → AllByRecursion IsTokenText (t ∷ ts) → tokens (join_with_byte 32 (t ∷ ts)) ≡ placed 0 (t ∷ ts)
 tokens_joined t ts h =
     ap (λ ps. filter has_byte (placed 0 ps)) (pieces-join 32 t ts (All-from_recursion (Lacks 32) (t ∷ ts) (all_lack (t ∷ ts) h))) ∙ all_kept 0 (t ∷ ts) h
 
 -- the texts of texts that were placed
-texts_placed : (at : ℕ) (ts : List Text) → map text_of (placed at ts) ≡ ts
+pub texts_placed : (at : ℕ) (ts : List Text) → map text_of (placed at ts) ≡ ts
 texts_placed at [] = refl
 texts_placed at (t ∷ ts) = ap (λ us. t ∷ us) (texts_placed (at + length t + 1) ts)
 
@@ -130,11 +130,11 @@ first_operator end names more o [] ss h = let w = accept_ok o (operator_of o.tex
 first_operator end names more o (p ∷ ts) ss h = let w = accept_ok o (operator_of o.text) _ (ss, more) h in (w.0, w.1)
 
 -- the kind's words and the tokens behind them
-abbrev after_kind : Kind → List Token → List Text
+abbrev pub after_kind : Kind → List Token → List Text
 after_kind kind ts = kind_words kind ++ map text_of ts
 
 -- behind the kind's words stand the same sources
-kind_again : (kind : Kind) (end other at : ℕ) (names more : List Text) (ts : List Token) (ss : List Source) → read_some_sources end names ts ≡ Ok (ss, more)
+pub kind_again : (kind : Kind) (end other at : ℕ) (names more : List Text) (ts : List Token) (ss : List Source) → read_some_sources end names ts ≡ Ok (ss, more)
     → ((read_kind (placed at (after_kind kind ts))).0 ≡ kind) × (read_some_sources other names (read_kind (placed at (after_kind kind ts))).1 ≡ Ok (ss, more))
 kind_again kind end other at names more [] ss h = absurd (ok_is_no_err (ss, more) end (sym h))
 kind_again push end other at names more (t ∷ ts) ss h =

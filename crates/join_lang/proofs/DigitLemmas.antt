@@ -1,8 +1,8 @@
 -- Widths, and the digits that write them.
-use Rattle.std.proofs.Common.{◌≡◌, ℕ, zero, suc, ◌+◌, ◌-◌, ◌*◌, ◌<◌, ◌≤◌, true, false, ◌&&◌, nat_le, [], ◌∷◌, length, get_or, fold, None, refl, sym, ap, ◌∙◌, arith, leb-true, le-leb, take, drop, decimal}
+use Rattle.std.proofs.Common.{◌≡◌, ℕ, zero, suc, ◌+◌, ◌-◌, ◌*◌, ◌<◌, ◌≤◌, true, false, ◌&&◌, nat_le, [], ◌∷◌, length, get_or, fold, Some, None, refl, sym, ap, ◌∙◌, arith, leb-true, le-leb, take, drop, decimal}
 use Rattle.std.specs.List.{list_all}
 use Rattle.std.proofs.lemmas.Bool.{and_parts, and_from, and_right, lt-leb, false≢true}
-use Rattle.std.proofs.lemmas.Fmt.{decimal-digits_value}
+use Rattle.std.proofs.lemmas.Fmt.{decimal-digits_value, decimal_nonempty, digits_decimal, digits_value-decimal, first_decimal}
 use Rattle.std.proofs.lemmas.Str.Parse.{IsNumeralModel, IsDigitsTest, FoldsDigits, numerals_by_fold}
 use Rattle.std.proofs.lemmas.List.{take-append-drop}
 use Rattle.std.proofs.lemmas.List.Sums.{fold-append}
@@ -87,3 +87,24 @@ decimal-positive [] h small = absurd (false≢true h)
 decimal-positive (b ∷ bs) h small =
     let first = first_positive b bs h in
     decimal-digits_value own (b ∷ bs) (positive_digits (b ∷ bs) h) (omega arith) (λ e. absurd (omega arith)) (omega arith)
+
+-- ---- the width of a decimal
+
+-- the decimal of a width is of digits
+pub digits-decimal : (n : ℕ) → n ≤ 64 → list_all is_digit (decimal n) ≡ true
+digits-decimal n h = digits_decimal own n (omega arith)
+
+-- digits of which the first is above 0 are a positive number
+positive_from : (t : Text) → list_all is_digit t ≡ true → 0 < length t → 48 < get_or t 0 0 → is_positive t ≡ true
+positive_from [] h some first = absurd (omega arith)
+positive_from (b ∷ bs) h some first =
+    let parts = and_parts (is_digit b) (list_all is_digit bs) h in
+    let within = digit_within b parts.0 in
+    and_from _ _ (and_from _ _ (le-leb 49 b (omega arith)) (le-leb b 57 within.1)) parts.1
+
+-- the decimal of a width writes that width
+pub width_of-decimal : (n : ℕ) → 0 < n → n ≤ 64 → width_of (decimal n) ≡ Some n
+width_of-decimal n some h =
+    let positive = positive_from (decimal n) (digits-decimal n h) (decimal_nonempty n (omega arith)) (first_decimal n some (omega arith)) in
+    let value = digits_value-decimal own n (omega arith) in
+    rw (positive, value, le-leb n 64 h) refl

@@ -6,3 +6,4 @@ pub mod SourceLemmas
 pub mod JoinLemmas
 pub mod ReadLemmas
 pub mod BackLemmas
+pub mod AcceptLemmas

@@ -92,7 +92,7 @@ pub record IsRead (names more : List Text) (slots : List (ℕ × ℕ)) (Prints :
   pub prints : (rest : List Text) → Prints (more ++ rest)
 
 -- the print of a width behind a name
-abbrev width_print : ℕ → Text
+abbrev pub width_print : ℕ → Text
 width_print width = cond (width == 0) [] (58 ∷ decimal width)
 
 -- a slot that was read from what stands between `<` and `>`

@@ -11,48 +11,35 @@ use Rattle.semantics.proofs.PieceLemmas.{same_by_equal}
 use Rattle.key_ranges.proofs.RangeLemmas.{within_table}
 use Rattle.growing_history.specs.Changes.{written, in_order, changed_keys}
 use Rattle.base_versions.specs.declared.changes.Change.{Change}
-use Rattle.base_versions.specs.Changes.{change_by, changes_from, changes_of, Ascend, is_between, keys_within, changed_in}
-use Rattle.base_versions.proofs.PositionLemmas.{ascend_from_less, IsCut, taken-cut, dropped-cut}
+use Rattle.base_versions.specs.Changes.{change_by, changes_of, Ascend, is_between, keys_within, changed_in}
+use Rattle.base_versions.proofs.PositionLemmas.{ascend_from_less, IsCut, taken-cut, dropped-cut, MakesInOrder, ascend_onto, ascend-made_from, made_from-push, ascend-kept_since, between-kept_since}
+use Rattle.base_versions.specs.Positions.{IsKeptSince, lies_between, made_from}
 
 abbrev of_change : Change → ℕ
 of_change c = c.position
 
--- ---- the positions ascend
+-- the changes that entries which begin at a position make in a table
+abbrev changes_from : ℕ → Text → History → List Change
+changes_from position table h = made_from (λ n. change_by n table) position h
 
--- a change before later ones, or none
-ascend_onto : (b : Bool) (c : Change) (cs : List Change) (position : ℕ) → c.position ≡ position → Ascend (position + 1) cs → Ascend position (cond b (c ∷ []) [] ++ cs)
-ascend_onto true c cs position e a = (omega arith, subst (λ n. Ascend (n + 1) cs) (sym e) a)
-ascend_onto false c cs position e a = ascend_from_less of_change (position + 1) position cs (omega arith) a
+-- ---- the positions ascend, and one entry more
 
--- a write's change before later ones
-ascend_write : (position : ℕ) (table : Text) (write : Write) (cs : List Change) → Ascend (position + 1) cs → Ascend position (change_by position table write ++ cs)
-ascend_write position table (put k v) cs a = ascend_onto (same (table_of k) table) (record { position = position; key = k }) cs position refl a
-ascend_write position table (remove k) cs a = ascend_onto (same (table_of k) table) (record { position = position; key = k }) cs position refl a
-ascend_write position table (declare j) cs a = ascend_from_less of_change (position + 1) position cs (omega arith) a
-
-ascend_entries : (position : ℕ) (table : Text) (h : History) → Ascend position (changes_from position table h)
-ascend_entries position table [] = tt
-ascend_entries position table (e ∷ es) = ascend_write position table e.write (changes_from (position + 1) table es) (ascend_entries (position + 1) table es)
+-- a change has the position of its write
+makes_in_order : (table : Text) → MakesInOrder of_change (λ position. change_by position table)
+makes_in_order table position (put k v) cs a = ascend_onto of_change (same (table_of k) table) (record { position = position; key = k }) cs position refl a
+makes_in_order table position (remove k) cs a = ascend_onto of_change (same (table_of k) table) (record { position = position; key = k }) cs position refl a
+makes_in_order table position (declare j) cs a = ascend_from_less of_change (position + 1) position cs (omega arith) a
 
 -- the changes of a table ascend
 pub ascend-changes_of : (table : Text) (h : History) → Ascend 0 (changes_of table h)
 unfolding changes_of
-ascend-changes_of table h = ascend_from_less of_change 1 0 (changes_from 1 table h) (omega arith) (ascend_entries 1 table h)
-
--- ---- one entry more
-
-changes_from-push : (position : ℕ) (table : Text) (h : History) (e : Entry) →
-    changes_from position table (h ++ e ∷ []) ≡ changes_from position table h ++ change_by (position + length h) table e.write
-changes_from-push position table [] e = append-nil (change_by position table e.write) ∙ ap (λ n. change_by n table e.write) (omega arith)
-changes_from-push position table (first ∷ h) e =
-    ap (λ cs. change_by position table first.write ++ cs) (changes_from-push (position + 1) table h e)
-    ∙ ap (λ n. change_by position table first.write ++ (changes_from (position + 1) table h ++ change_by n table e.write)) (omega arith)
-    ∙ sym (append_assoc (change_by position table first.write) (changes_from (position + 1) table h) (change_by (position + length (first ∷ h)) table e.write))
+ascend-changes_of table h =
+    ascend_from_less of_change 1 0 (changes_from 1 table h) (omega arith) (ascend-made_from of_change (λ position. change_by position table) (makes_in_order table) 1 h)
 
 -- the changes of a table after one entry more
 pub changes_of-push : (table : Text) (h : History) (e : Entry) → changes_of table (h ++ e ∷ []) ≡ changes_of table h ++ change_by (length h + 1) table e.write
 unfolding changes_of
-changes_of-push table h e = changes_from-push 1 table h e ∙ ap (λ n. changes_from 1 table h ++ change_by n table e.write) (omega arith)
+changes_of-push table h e = made_from-push (λ position. change_by position table) 1 h e ∙ ap (λ n. changes_from 1 table h ++ change_by n table e.write) (omega arith)
 
 -- ---- the keys that entries put or remove
 
@@ -86,10 +73,6 @@ between_one q p false c = same_either (is_between q p c) []
 keys_under : (r : Range) (b : Bool) (cs : List Change) (ks : List Text) → keys_within r cs ≡ ks → keys_within r (cond b cs []) ≡ cond b ks []
 keys_under r true cs ks e = e
 keys_under r false cs ks e = refl
-
--- whether a position is above the first and at most the second
-abbrev lies_between : ℕ → ℕ → ℕ → Bool
-lies_between q p position = nat_lt q position && nat_le position p
 
 -- of one write: the keys of the range that it puts or removes, where it lies between
 keys_of_change : (r : Range) (q p position : ℕ) (write : Write) → is_range r.low r.high ≡ true →
@@ -187,6 +170,16 @@ changed_in-changes_of h r q p g ok =
     let m : q + 1 - 1 ≡ q = omega arith in
     ap in_order (keys_of_changes r q p 1 h ok ∙ keys_from_between r q p 1 h g
     ∙ ap (λ x. keys_of_entries r (take x (drop (q + 1 - 1) h))) n ∙ ap (λ x. keys_of_entries r (take (p - q) (drop x h))) m)
+
+-- the kept changes of a table ascend
+pub ascend-kept_changes : (start : ℕ) (kept : List Change) (table : Text) (h : History) → IsKeptSince of_change start kept (changes_of table h) → Ascend 0 kept
+ascend-kept_changes start kept table h s = ascend-kept_since of_change start 0 kept (changes_of table h) s (ascend-changes_of table h)
+
+-- from the start on the keys that the kept changes speak of are those that the entries put or remove
+pub changed_in-kept_changes : (start : ℕ) (kept : List Change) (h : History) (r : Range) (q p : ℕ) → IsKeptSince of_change start kept (changes_of (table_of r.low) h) → start ≤ q → q ≤ p → is_range r.low r.high ≡ true →
+    changed_in q p r kept ≡ changed_keys q p r h
+changed_in-kept_changes start kept h r q p s l g ok =
+    ap (λ cs. in_order (keys_within r cs)) (between-kept_since of_change start q p kept (changes_of (table_of r.low) h) l s) ∙ changed_in-changes_of h r q p g ok
 
 -- ---- the changes between two positions, searched by halves
 

@@ -15,11 +15,14 @@ use Rattle.semantics.specs.Texts.{Text, same, text_cmp, table_of}
 use Rattle.semantics.specs.Histories.{Write, Entry, History}
 use Rattle.semantics.proofs.PieceLemmas.{equal_by_same, same_by_equal}
 use Rattle.base_versions.specs.declared.versions.Version.{Version}
-use Rattle.base_versions.specs.Versions.{version_by, versions_at, versions_of, AddsVersion, KeepsVersions}
+use Rattle.base_versions.specs.Versions.{version_by, versions_at, versions_of, SayFrom, AddsVersion, KeepsVersions}
 use Rattle.base_versions.specs.Changes.{change_by, changes_of}
 use Rattle.base_versions.specs.Kept.{TableKept, Tables, Kept, empty_table, named, table_among, table_in, shard_of, has_table, IsEntered, IsKept, IsChanged, StandsFor}
-use Rattle.base_versions.proofs.VersionLemmas.{versions_of-push}
+use Rattle.base_versions.proofs.VersionLemmas.{versions_of-push, say_from_all, say_from-append}
 use Rattle.base_versions.proofs.ChangeLemmas.{changes_of-push}
+use Rattle.base_versions.proofs.PositionLemmas.{kept_since_all, kept_since-append}
+use Rattle.base_versions.specs.Positions.{IsKeptSince}
+use Rattle.base_versions.specs.declared.changes.Change.{Change}
 
 -- ---- tables in a map
 
@@ -101,10 +104,10 @@ pub on_err_always : {X E P : Type 0} (r : Result X E) → P → OnErr r P
 on_err_always (Ok x) p = tt
 on_err_always (Err e) p = p
 
--- what holds of a value for each of several
-pub if_ok_all : {X E H : Type 0} (r : Result X E) (S : H → Type 0) (P : H → X → Type 0) → ((h : H) → S h → IfOk r (P h)) → IfOk r (λ x. (h : H) → S h → P h x)
-if_ok_all (Ok x) S P f = f
-if_ok_all (Err e) S P f = tt
+-- what holds of a value for each of several, where something holds of them
+pub if_ok_each : {X E A B : Type 0} (r : Result X E) (S : A → B → Type 0) (T : A → Type 0) (P : B → X → Type 0) → ((a : A) (b : B) → S a b → T a → IfOk r (P b)) → IfOk r (λ x. (a : A) (b : B) → S a b → T a → P b x)
+if_ok_each (Ok x) S T P f = f
+if_ok_each (Err e) S T P f = tt
 
 -- what holds of a value where something holds with it
 pub if_ok_given : {X E S : Type 0} (r : Result X E) (P : X → Type 0) → OnOk r S → (S → IfOk r P) → IfOk r P
@@ -114,13 +117,13 @@ if_ok_given (Err e) P s f = tt
 -- ---- the history
 
 -- no entries
-pub stands-nil : (kept : Kept) → kept.position ≡ 0 → kept.tables ≡ [] → StandsFor kept []
+pub stands-nil : (kept : Kept) → kept.position ≡ 0 → kept.tables ≡ [] → StandsFor 0 kept []
 unfolding versions_of changes_of
 stands-nil kept position tables =
     record {
       same_length = position;
-      same_versions = λ key own. ap (λ ts. versions_at key (table_among (table_of key) ts).tracks) tables;
-      same_changes = λ table own. ap (λ ts. (table_among table ts).changes) tables;
+      versions = λ key own. say_from_all 0 (versions_at key (table_in (table_of key) kept).tracks) [] (ap (λ ts. versions_at key (table_among (table_of key) ts).tracks) tables);
+      changes = λ table own. kept_since_all (λ c. c.position) 0 (table_in table kept).changes [] (ap (λ ts. (table_among table ts).changes) tables);
     }
 
 -- a table of the one shard is of the other
@@ -129,12 +132,12 @@ same_shard old new table shard shards own =
     ap (λ n. shard_of n table == old.shard) (sym shards) ∙ ap (λ n. shard_of new.shards table == n) (sym shard) ∙ own
 
 -- the same versions and changes stand for the same histories
-pub stands-kept : (old new : Kept) (h : History) → new.position ≡ old.position → new.shard ≡ old.shard → new.shards ≡ old.shards → IsKept old.tables new.tables → StandsFor old h → StandsFor new h
-stands-kept old new h position shard shards kept s =
+pub stands-kept : (start : ℕ) (old new : Kept) (h : History) → new.position ≡ old.position → new.shard ≡ old.shard → new.shards ≡ old.shards → IsKept old.tables new.tables → StandsFor start old h → StandsFor start new h
+stands-kept start old new h position shard shards kept s =
     record {
       same_length = position ∙ s.same_length;
-      same_versions = λ key own. kept.versions (table_of key) key ∙ s.same_versions key (same_shard old new (table_of key) shard shards own);
-      same_changes = λ table own. kept.changes table ∙ s.same_changes table (same_shard old new table shard shards own);
+      versions = λ key own. subst (λ vs. SayFrom start vs (versions_of key h)) (sym (kept.versions (table_of key) key)) (s.versions key (same_shard old new (table_of key) shard shards own));
+      changes = λ table own. subst (λ cs. IsKeptSince (λ (c : Change). c.position) start cs (changes_of table h)) (sym (kept.changes table)) (s.changes table (same_shard old new table shard shards own));
     }
 
 same_by : (t u : Text) (b c : Bool) → same t u ≡ b → same u t ≡ c → b ≡ c
@@ -210,36 +213,47 @@ Gives write key value =
     ((position : ℕ) (q : Text) → version_by position q write ≡ cond (same q key) (record { position = position; value = value } ∷ []) [])
     × ((position : ℕ) (table : Text) → change_by position table write ≡ cond (same (table_of key) table) (record { position = position; key = key } ∷ []) [])
 
+-- kept versions and changes, each with what the entry after them makes
+more_said : (start n : ℕ) (q : Text) (h : History) (e : Entry) (kept new : List Version) → n ≡ length h → new ≡ kept ++ version_by (n + 1) q e.write → SayFrom start kept (versions_of q h) → SayFrom start new (versions_of q (h ++ e ∷ []))
+more_said start n q h e kept new same is s =
+    subst (λ vs. SayFrom start vs (versions_of q (h ++ e ∷ []))) (sym (is ∙ ap (λ m. kept ++ version_by (m + 1) q e.write) same))
+    (subst (λ vs. SayFrom start (kept ++ version_by (length h + 1) q e.write) vs) (sym (versions_of-push q h e)) (say_from-append start kept (versions_of q h) (version_by (length h + 1) q e.write) s))
+
+more_kept : (start n : ℕ) (table : Text) (h : History) (e : Entry) (kept new : List Change) → n ≡ length h → new ≡ kept ++ change_by (n + 1) table e.write → IsKeptSince (λ c. c.position) start kept (changes_of table h) →
+    IsKeptSince (λ c. c.position) start new (changes_of table (h ++ e ∷ []))
+more_kept start n table h e kept new same is s =
+    subst (λ cs. IsKeptSince (λ (c : Change). c.position) start cs (changes_of table (h ++ e ∷ []))) (sym (is ∙ ap (λ m. kept ++ change_by (m + 1) table e.write) same))
+    (subst (λ cs. IsKeptSince (λ (c : Change). c.position) start (kept ++ change_by (length h + 1) table e.write) cs) (sym (changes_of-push table h e))
+    (kept_since-append (λ c. c.position) start kept (changes_of table h) (change_by (length h + 1) table e.write) s))
+
 -- what is kept after one change more
-pub stands-change : (old new : Kept) (h : History) (e : Entry) (key : Text) (value : Option Text) → Gives e.write key value → IsChanged (old.position + 1) key value old new →
-    new.position ≡ old.position → new.shard ≡ old.shard → new.shards ≡ old.shards → StandsFor old h → StandsFor (raised new) (h ++ e ∷ [])
-stands-change old new h e key value gives change position shard shards s =
+pub stands-change : (start : ℕ) (old new : Kept) (h : History) (e : Entry) (key : Text) (value : Option Text) → Gives e.write key value → IsChanged (old.position + 1) key value old new →
+    new.position ≡ old.position → new.shard ≡ old.shard → new.shards ≡ old.shards → StandsFor start old h → StandsFor start (raised new) (h ++ e ∷ [])
+stands-change start old new h e key value gives change position shard shards s =
     record {
       same_length = ap (λ n. n + 1) (position ∙ s.same_length) ∙ sym (length-append h (e ∷ []));
-      same_versions = λ q own.
+      versions = λ q own.
           let mine = same_shard old new (table_of q) shard shards own in
-          more_versions (old.position + 1) key value old new q (has_table old (table_of key)) refl change mine
-          ∙ ap (λ vs. versions_at q (table_in (table_of q) old).tracks ++ vs) (sym (gives.0 (old.position + 1) q))
-          ∙ ap (λ vs. vs ++ version_by (old.position + 1) q e.write) (s.same_versions q mine)
-          ∙ ap (λ n. versions_of q h ++ version_by (n + 1) q e.write) s.same_length
-          ∙ sym (versions_of-push q h e);
-      same_changes = λ table own.
+          more_said start old.position q h e (versions_at q (table_in (table_of q) old).tracks) (versions_at q (table_in (table_of q) new).tracks) s.same_length
+          (more_versions (old.position + 1) key value old new q (has_table old (table_of key)) refl change mine
+          ∙ ap (λ vs. versions_at q (table_in (table_of q) old).tracks ++ vs) (sym (gives.0 (old.position + 1) q))) (s.versions q mine);
+      changes = λ table own.
           let mine = same_shard old new table shard shards own in
-          more_changes (old.position + 1) key value old new table (has_table old (table_of key)) refl change mine
-          ∙ ap (λ cs. (table_in table old).changes ++ cs) (sym (gives.1 (old.position + 1) table))
-          ∙ ap (λ cs. cs ++ change_by (old.position + 1) table e.write) (s.same_changes table mine)
-          ∙ ap (λ n. changes_of table h ++ change_by (n + 1) table e.write) s.same_length
-          ∙ sym (changes_of-push table h e);
+          more_kept start old.position table h e (table_in table old).changes (table_in table new).changes s.same_length
+          (more_changes (old.position + 1) key value old new table (has_table old (table_of key)) refl change mine
+          ∙ ap (λ cs. (table_in table old).changes ++ cs) (sym (gives.1 (old.position + 1) table))) (s.changes table mine);
     }
 
 -- what is kept after a declaration
-pub stands-declared : (old : Kept) (h : History) (e : Entry) → ((position : ℕ) (q : Text) → version_by position q e.write ≡ []) → ((position : ℕ) (table : Text) → change_by position table e.write ≡ []) →
-    StandsFor old h → StandsFor (raised old) (h ++ e ∷ [])
-stands-declared old h e versions changes s =
+pub stands-declared : (start : ℕ) (old : Kept) (h : History) (e : Entry) → ((position : ℕ) (q : Text) → version_by position q e.write ≡ []) → ((position : ℕ) (table : Text) → change_by position table e.write ≡ []) →
+    StandsFor start old h → StandsFor start (raised old) (h ++ e ∷ [])
+stands-declared start old h e versions changes s =
     record {
       same_length = ap (λ n. n + 1) s.same_length ∙ sym (length-append h (e ∷ []));
-      same_versions = λ q own.
-          s.same_versions q own ∙ sym (append-nil (versions_of q h)) ∙ ap (λ vs. versions_of q h ++ vs) (sym (versions (length h + 1) q)) ∙ sym (versions_of-push q h e);
-      same_changes = λ table own.
-          s.same_changes table own ∙ sym (append-nil (changes_of table h)) ∙ ap (λ cs. changes_of table h ++ cs) (sym (changes (length h + 1) table)) ∙ sym (changes_of-push table h e);
+      versions = λ q own.
+          let kept = versions_at q (table_in (table_of q) old).tracks in
+          more_said start old.position q h e kept kept s.same_length (sym (append-nil kept) ∙ ap (λ vs. kept ++ vs) (sym (versions (old.position + 1) q))) (s.versions q own);
+      changes = λ table own.
+          let kept = (table_in table old).changes in
+          more_kept start old.position table h e kept kept s.same_length (sym (append-nil kept) ∙ ap (λ cs. kept ++ cs) (sym (changes (old.position + 1) table))) (s.changes table own);
     }

@@ -1,5 +1,5 @@
 -- What is kept of a history, and what it says of it.
-use Rattle.std.proofs.Common.{◌≡◌, ℕ, List, [], ◌∷◌, filter, take, Bool, true, false, cond, Option, Some, None, refl, sym, ap, ◌∙◌, subst, Ordering, Less, Equal, Greater, is_lt, is_eq}
+use Rattle.std.proofs.Common.{◌≡◌, ℕ, ◌≤◌, List, [], ◌∷◌, filter, take, Bool, true, false, cond, Option, Some, None, refl, sym, ap, ◌∙◌, subst, Ordering, Less, Equal, Greater, is_lt, is_eq}
 use Rattle.std.specs.List.{AllByRecursion}
 use Rattle.std.specs.List.Sorted.{IsStrictlySortedBy}
 use Rattle.std.specs.Map.{lookup, keys_of}
@@ -17,9 +17,9 @@ use Rattle.semantics.proofs.TableLemmas.{IsAscending, text_total, tie_itself, eq
 use Rattle.semantics.proofs.BaseLemmas.{ascending-base_of}
 use Rattle.key_ranges.proofs.RangeLemmas.{within_table}
 use Rattle.base_versions.specs.declared.versions.Version.{Version}
-use Rattle.base_versions.specs.Versions.{AscendFrom, AllAscend, Tracks, versions_at, versions_of, value_in, pairs_in}
+use Rattle.base_versions.specs.Versions.{AscendFrom, AllAscend, Tracks, SayFrom, versions_at, versions_of, value_in, pairs_in}
 use Rattle.base_versions.specs.Kept.{TableKept, Kept, table_in, has_table, StandsFor}
-use Rattle.base_versions.proofs.VersionLemmas.{value_in-versions_of, ascend-versions_of}
+use Rattle.base_versions.proofs.VersionLemmas.{ascend-say_from, value_in-say_from}
 
 -- ---- maps in order
 
@@ -114,13 +114,13 @@ part r ts = filter (λ t. within r t.0) ts
 found_versions : (o : Option (List Version)) (vs : List Version) → o ≡ Some vs → vs ≡ unwrap_or o []
 found_versions o vs e = sym (ap (λ x. unwrap_or x []) e)
 
--- the versions of the keys of a range are those that the history gave them
-kept_versions : (kept : Kept) (h : History) (r : Range) (table : TableKept) → StandsFor kept h → has_table kept (table_of r.low) ≡ true → is_range r.low r.high ≡ true →
-    table_in (table_of r.low) kept ≡ table → (q : Text) → within r q ≡ true → versions_at q table.tracks ≡ versions_of q h
-kept_versions kept h r table s own ok is q inside =
+-- the versions of the keys of a range say from the start on what those say that the history gave them
+said_versions : (start : ℕ) (kept : Kept) (h : History) (r : Range) (table : TableKept) → StandsFor start kept h → has_table kept (table_of r.low) ≡ true → is_range r.low r.high ≡ true →
+    table_in (table_of r.low) kept ≡ table → (q : Text) → within r q ≡ true → SayFrom start (versions_at q table.tracks) (versions_of q h)
+said_versions start kept h r table s own ok is q inside =
     let of_table = within_table r q ok inside in
-    ap (λ t. versions_at q t.tracks) (sym is ∙ ap (λ name. table_in name kept) (sym of_table))
-    ∙ s.same_versions q (ap (has_table kept) of_table ∙ own)
+    subst (λ (t : TableKept). SayFrom start (versions_at q t.tracks) (versions_of q h)) (ap (λ name. table_in name kept) of_table ∙ is)
+    (s.versions q (ap (has_table kept) of_table ∙ own))
 
 ascend_by : (b : Bool) (t : Text × List Version) (ts : Tracks) → (b ≡ true → AscendFrom 0 t.1) → AllAscend ts → AllAscend (cond b (t ∷ ts) ts)
 ascend_by true t ts h a = (h refl, a)
@@ -132,11 +132,11 @@ ascend_part r all (t ∷ ts) h f =
     ascend_by (within r t.0) t (part r ts) (λ inside. subst (AscendFrom 0) (sym (found_versions (lookup (is_at (text_cmp t.0)) all) t.1 f.0)) (h t.0 inside)) (ascend_part r all ts h f.1)
 
 -- the versions of the keys of a range ascend
-pub ascend-kept : (kept : Kept) (h : History) (r : Range) (table : TableKept) → StandsFor kept h → has_table kept (table_of r.low) ≡ true → is_range r.low r.high ≡ true →
+pub ascend-kept : (start : ℕ) (kept : Kept) (h : History) (r : Range) (table : TableKept) → StandsFor start kept h → has_table kept (table_of r.low) ≡ true → is_range r.low r.high ≡ true →
     table_in (table_of r.low) kept ≡ table → IsStrictlySortedBy text_cmp (keys_of table.tracks) → AllAscend (part r table.tracks)
-ascend-kept kept h r table s own ok is sorted =
+ascend-kept start kept h r table s own ok is sorted =
     ascend_part r table.tracks table.tracks
-    (λ q inside. subst (AscendFrom 0) (sym (kept_versions kept h r table s own ok is q inside)) (ascend-versions_of q h))
+    (λ q inside. ascend-say_from start (versions_at q table.tracks) q h (said_versions start kept h r table s own ok is q inside))
     (found table.tracks sorted)
 
 less_by : (b : Bool) (k : Text) (t : Text × List Version) (ts : Tracks) → text_cmp k t.0 ≡ Less → AllByRecursion (λ y. text_cmp k y ≡ Less) (keys_of ts) → AllByRecursion (λ y. text_cmp k y ≡ Less) (keys_of (cond b (t ∷ ts) ts))
@@ -167,9 +167,9 @@ in_part p q true o value h = of_versions p o ∙ h refl
 in_part p q false o value h = refl
 
 -- the pairs of a range are the base pairs
-pub pairs-kept : (kept : Kept) (h : History) (r : Range) (p : ℕ) (table : TableKept) → StandsFor kept h → has_table kept (table_of r.low) ≡ true → is_range r.low r.high ≡ true →
+pub pairs-kept : (start : ℕ) (kept : Kept) (h : History) (r : Range) (p : ℕ) (table : TableKept) → StandsFor start kept h → start ≤ p → has_table kept (table_of r.low) ≡ true → is_range r.low r.high ≡ true →
     table_in (table_of r.low) kept ≡ table → IsStrictlySortedBy text_cmp (keys_of table.tracks) → pairs_in p (part r table.tracks) ≡ pairs_within r (base_of (take p h))
-pairs-kept kept h r p table s own ok is sorted =
+pairs-kept start kept h r p table s g own ok is sorted =
     let base = base_of (take p h) in
     same_tables (pairs_in p (part r table.tracks)) (pairs_within r base)
     (ascending-pairs_in p (part r table.tracks) (sorted_part r table.tracks sorted))
@@ -177,5 +177,5 @@ pairs-kept kept h r p table s own ok is sorted =
     (λ q.
     value_at-pairs_in p q (part r table.tracks) (sorted_part r table.tracks sorted)
     ∙ ap (option_and_then (value_in p)) (lookup-filter-keys (is_at (text_cmp q)) (within r) (within r q) (λ k e. ap (within r) (sym (equal_by_tie q k (equal_from (text_cmp q k) e)))) table.tracks)
-    ∙ in_part p q (within r q) (lookup (is_at (text_cmp q)) table.tracks) (value_at q base) (λ inside. ap (value_in p) (kept_versions kept h r table s own ok is q inside) ∙ value_in-versions_of h q p)
+    ∙ in_part p q (within r q) (lookup (is_at (text_cmp q)) table.tracks) (value_at q base) (λ inside. value_in-say_from start (versions_at q table.tracks) q h p (said_versions start kept h r table s own ok is q inside) g)
     ∙ sym (value_at-pairs_where (within r) q base))

@@ -8,8 +8,13 @@ use Rattle.semantics.specs.Texts.{Text, same, Table, value_at}
 use Rattle.semantics.specs.Histories.{Write, put, remove, declare, Entry, History, base_after, base_of}
 use Rattle.semantics.proofs.TableLemmas.{value_at-with_pair, value_at-pairs_where}
 use Rattle.base_versions.specs.declared.versions.Version.{Version}
-use Rattle.base_versions.proofs.PositionLemmas.{ascend_from_less, IsCut, cut_none, cut_some}
-use Rattle.base_versions.specs.Versions.{version_by, versions_from, versions_of, value_in, AscendFrom}
+use Rattle.base_versions.specs.Positions.{made_from}
+use Rattle.base_versions.proofs.PositionLemmas.{ascend_from_less, IsCut, cut_none, cut_some, MakesInOrder, ascend_onto, ascend-made_from, made_from-push, kept_since_all, kept_since-append, ascend-kept_since}
+use Rattle.base_versions.specs.Versions.{version_by, versions_of, value_in, AscendFrom, SayFrom}
+
+-- the versions that a key has from entries that begin at a position
+abbrev pub versions_from : ℕ → Text → History → List Version
+versions_from position key h = made_from (λ n. version_by n key) position h
 
 -- what a version makes of the value before it, where its position is at most p
 abbrev pub taken : ℕ → Option Text → Version → Option Text
@@ -88,45 +93,49 @@ unfolding versions_of
 value_in-versions_of h key p =
     value_from p 1 key h [] ∙ ap (λ n. value_at key (base_of (take n h))) (let n : p + 1 - 1 ≡ p = omega arith in n)
 
--- ---- the positions ascend
+-- ---- the positions ascend, and one entry more
 
 abbrev of_version : Version → ℕ
 of_version v = v.position
 
--- a version before later ones, or none
-ascend_onto : (b : Bool) (v : Version) (vs : List Version) (position : ℕ) → v.position ≡ position → AscendFrom (position + 1) vs → AscendFrom position (cond b (v ∷ []) [] ++ vs)
-ascend_onto true v vs position e a = (omega arith, subst (λ n. AscendFrom (n + 1) vs) (sym e) a)
-ascend_onto false v vs position e a = ascend_from_less of_version (position + 1) position vs (omega arith) a
-
--- a write's version before later ones
-ascend_write : (position : ℕ) (key : Text) (write : Write) (vs : List Version) → AscendFrom (position + 1) vs → AscendFrom position (version_by position key write ++ vs)
-ascend_write position key (put k v) vs a = ascend_onto (same key k) (record { position = position; value = Some v }) vs position refl a
-ascend_write position key (remove k) vs a = ascend_onto (same key k) (record { position = position; value = None }) vs position refl a
-ascend_write position key (declare j) vs a = ascend_from_less of_version (position + 1) position vs (omega arith) a
-
-ascend_entries : (position : ℕ) (key : Text) (h : History) → AscendFrom position (versions_from position key h)
-ascend_entries position key [] = tt
-ascend_entries position key (e ∷ es) = ascend_write position key e.write (versions_from (position + 1) key es) (ascend_entries (position + 1) key es)
+-- a version has the position of its write
+makes_in_order : (key : Text) → MakesInOrder of_version (λ position. version_by position key)
+makes_in_order key position (put k v) vs a = ascend_onto of_version (same key k) (record { position = position; value = Some v }) vs position refl a
+makes_in_order key position (remove k) vs a = ascend_onto of_version (same key k) (record { position = position; value = None }) vs position refl a
+makes_in_order key position (declare j) vs a = ascend_from_less of_version (position + 1) position vs (omega arith) a
 
 -- the versions of a key ascend
 pub ascend-versions_of : (key : Text) (h : History) → AscendFrom 0 (versions_of key h)
 unfolding versions_of
-ascend-versions_of key h = ascend_from_less of_version 1 0 (versions_from 1 key h) (omega arith) (ascend_entries 1 key h)
-
--- ---- one entry more
-
-versions_from-push : (position : ℕ) (key : Text) (h : History) (e : Entry) →
-    versions_from position key (h ++ e ∷ []) ≡ versions_from position key h ++ version_by (position + length h) key e.write
-versions_from-push position key [] e = append-nil (version_by position key e.write) ∙ ap (λ n. version_by n key e.write) (omega arith)
-versions_from-push position key (first ∷ h) e =
-    ap (λ vs. version_by position key first.write ++ vs) (versions_from-push (position + 1) key h e)
-    ∙ ap (λ n. version_by position key first.write ++ (versions_from (position + 1) key h ++ version_by n key e.write)) (omega arith)
-    ∙ sym (append_assoc (version_by position key first.write) (versions_from (position + 1) key h) (version_by (position + length (first ∷ h)) key e.write))
+ascend-versions_of key h =
+    ascend_from_less of_version 1 0 (versions_from 1 key h) (omega arith) (ascend-made_from of_version (λ position. version_by position key) (makes_in_order key) 1 h)
 
 -- the versions of a key after one entry more
 pub versions_of-push : (key : Text) (h : History) (e : Entry) → versions_of key (h ++ e ∷ []) ≡ versions_of key h ++ version_by (length h + 1) key e.write
 unfolding versions_of
-versions_of-push key h e = versions_from-push 1 key h e ∙ ap (λ n. versions_from 1 key h ++ version_by n key e.write) (omega arith)
+versions_of-push key h e = made_from-push (λ position. version_by position key) 1 h e ∙ ap (λ n. versions_from 1 key h ++ version_by n key e.write) (omega arith)
+
+-- ---- what is kept since a start
+
+-- all versions say what they say
+pub say_from_all : (start : ℕ) (kept all : List Version) → kept ≡ all → SayFrom start kept all
+say_from_all start kept all e = record { since = kept_since_all of_version start kept all e; values = λ p h. ap (value_in p) e }
+
+-- and so with more at both ends
+pub say_from-append : (start : ℕ) (kept all more : List Version) → SayFrom start kept all → SayFrom start (kept ++ more) (all ++ more)
+say_from-append start kept all more s =
+    record {
+      since = kept_since-append of_version start kept all more s.since;
+      values = λ p h. fold-append (taken p) None kept more ∙ ap (λ x. fold (taken p) x more) (s.values p h) ∙ sym (fold-append (taken p) None all more);
+    }
+
+-- the kept versions of a key ascend
+pub ascend-say_from : (start : ℕ) (kept : List Version) (key : Text) (h : History) → SayFrom start kept (versions_of key h) → AscendFrom 0 kept
+ascend-say_from start kept key h s = ascend-kept_since of_version start 0 kept (versions_of key h) s.since (ascend-versions_of key h)
+
+-- from the start on what the kept versions say at a position is the base pair there
+pub value_in-say_from : (start : ℕ) (kept : List Version) (key : Text) (h : History) (p : ℕ) → SayFrom start kept (versions_of key h) → start ≤ p → value_in p kept ≡ value_at key (base_of (take p h))
+value_in-say_from start kept key h p s g = s.values p g ∙ value_in-versions_of h key p
 
 -- ---- the last of the versions before a cut
 

@@ -1,9 +1,9 @@
 -- The changes of a table: which of its keys were put or removed, and at which positions.
-use Rattle.std.specs.Prelude.{ℕ, ◌+◌, ◌&&◌, List, [], ◌∷◌, ◌++◌, map, filter, nat_le, nat_lt, Bool, if◌then◌else◌}
+use Rattle.std.specs.Prelude.{ℕ, List, [], ◌∷◌, map, filter, Bool, if◌then◌else◌}
 use Rattle.semantics.specs.Texts.{Text, same, table_of, Range, within}
 use Rattle.semantics.specs.Histories.{Write, put, remove, declare, History}
 use Rattle.growing_history.specs.Changes.{in_order}
-use Rattle.base_versions.specs.Positions.{AscendBy}
+use Rattle.base_versions.specs.Positions.{AscendBy, lies_between, made_from}
 use Rattle.base_versions.specs.declared.changes.Change.{Change}
 
 -- the change that a write at a position makes in a table
@@ -12,14 +12,9 @@ change_by position table (put k v) = if same (table_of k) table then record { po
 change_by position table (remove k) = if same (table_of k) table then record { position = position; key = k } ∷ [] else []
 change_by position table (declare j) = []
 
--- the changes that entries which begin at a position make in a table
-abbrev pub changes_from : ℕ → Text → History → List Change
-changes_from position table [] = []
-changes_from position table (e ∷ es) = change_by position table e.write ++ changes_from (position + 1) table es
-
 -- the changes that a history makes in a table
 unfoldable pub changes_of : Text → History → List Change
-changes_of table h = changes_from 1 table h
+changes_of table h = made_from (λ position. change_by position table) 1 h
 
 -- the changes' positions are from a number on, and each is above the one before
 abbrev pub Ascend : ℕ → List Change → Type 0
@@ -27,7 +22,7 @@ Ascend low changes = AscendBy (λ c. c.position) low changes
 
 -- whether a change came after the first q entries, and at most as the p-th
 abbrev pub is_between : ℕ → ℕ → Change → Bool
-is_between q p c = nat_lt q c.position && nat_le c.position p
+is_between q p c = lies_between q p c.position
 
 -- the keys of changes that lie in a range
 abbrev pub keys_within : Range → List Change → List Text

@@ -8,8 +8,9 @@ use Rattle.std.specs.Option.{unwrap_or}
 use Rattle.semantics.specs.Texts.{Text, same, table_of, text_cmp}
 use Rattle.semantics.specs.Histories.{History}
 use Rattle.base_versions.specs.declared.changes.Change.{Change}
-use Rattle.base_versions.specs.Versions.{Tracks, versions_at, versions_of, AddsVersion, KeepsVersions}
+use Rattle.base_versions.specs.Versions.{Tracks, SayFrom, versions_at, versions_of, AddsVersion, KeepsVersions}
 use Rattle.base_versions.specs.Changes.{changes_of}
+use Rattle.base_versions.specs.Positions.{IsKeptSince}
 
 -- of one table: the versions of its keys, and its changes in order
 pub record TableKept : Type 0 where
@@ -67,15 +68,15 @@ abbrev pub IsChanged : ℕ → Text → Option Text → Kept → Kept → Type 0
 IsChanged position key value old new =
     MatchBool (has_table old (table_of key)) (IsEntered position key value old.tables new.tables) (IsKept old.tables new.tables)
 
--- what is kept says this of the history: its length, the versions of each key of the shard, and the changes of each table of the shard
-pub record StandsFor (kept : Kept) (h : History) : Type 0 where
+-- what is kept says this of the history at the positions from a start on: its length, the versions of each key of the shard, and the changes of each table of the shard
+pub record StandsFor (start : ℕ) (kept : Kept) (h : History) : Type 0 where
   pub same_length : kept.position ≡ length h
-  pub same_versions : (key : Text) → has_table kept (table_of key) ≡ true → versions_at key (table_in (table_of key) kept).tracks ≡ versions_of key h
-  pub same_changes : (table : Text) → has_table kept table ≡ true → (table_in table kept).changes ≡ changes_of table h
+  pub versions : (key : Text) → has_table kept (table_of key) ≡ true → SayFrom start (versions_at key (table_in (table_of key) kept).tracks) (versions_of key h)
+  pub changes : (table : Text) → has_table kept table ≡ true → IsKeptSince (λ c. c.position) start (table_in table kept).changes (changes_of table h)
 
 -- some first entries have entered, and not all
 pub record HasEnteredInPart (old : Kept) (entries : History) (new : Kept) : Type 0 where
   pub count : ℕ
   pub some : count < length entries
   pub position : new.position ≡ old.position + count
-  pub history : (h : History) → StandsFor old h → StandsFor new (h ++ take count entries)
+  pub history : (start : ℕ) (h : History) → StandsFor start old h → StandsFor start new (h ++ take count entries)

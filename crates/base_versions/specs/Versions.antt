@@ -1,12 +1,12 @@
 -- The versions of a key: what it was given, and at which positions.
-use Rattle.std.specs.Prelude.{◌≡◌, ℕ, ◌+◌, List, [], ◌∷◌, ◌++◌, filter_map, fold, nat_le, if◌then◌else◌, Option, Some, None, option_map}
+use Rattle.std.specs.Prelude.{◌≡◌, ℕ, ◌≤◌, List, [], ◌∷◌, ◌++◌, filter_map, fold, nat_le, if◌then◌else◌, Option, Some, None, option_map}
 use Rattle.std.specs.List.{AllByRecursion}
 use Rattle.std.specs.BTreeMap.{is_at}
 use Rattle.std.specs.Map.{lookup}
 use Rattle.std.specs.Option.{unwrap_or}
 use Rattle.semantics.specs.Texts.{Text, same, text_cmp, Table}
 use Rattle.semantics.specs.Histories.{Write, put, remove, declare, History}
-use Rattle.base_versions.specs.Positions.{AscendBy}
+use Rattle.base_versions.specs.Positions.{AscendBy, IsKeptSince, made_from}
 use Rattle.base_versions.specs.declared.versions.Version.{Version}
 
 -- the version that a key has from a write at a position, where the write changes the key
@@ -15,14 +15,9 @@ version_by position key (put k v) = if same key k then record { position = posit
 version_by position key (remove k) = if same key k then record { position = position; value = None } ∷ [] else []
 version_by position key (declare j) = []
 
--- the versions that a key has from entries that begin at a position
-abbrev pub versions_from : ℕ → Text → History → List Version
-versions_from position key [] = []
-versions_from position key (e ∷ es) = version_by position key e.write ++ versions_from (position + 1) key es
-
 -- the versions that a key has from a history
 unfoldable pub versions_of : Text → History → List Version
-versions_of key h = versions_from 1 key h
+versions_of key h = made_from (λ position. version_by position key) 1 h
 
 -- what stands at a key after p entries: the value of its last version whose position is at most p
 abbrev pub value_in : ℕ → List Version → Option Text
@@ -31,6 +26,11 @@ value_in p versions = fold (λ value v. if nat_le v.position p then v.value else
 -- the versions' positions are from a number on, and each is above the one before
 abbrev pub AscendFrom : ℕ → List Version → Type 0
 AscendFrom low versions = AscendBy (λ v. v.position) low versions
+
+-- at the positions from a start on the kept versions of a key say what all its versions say
+pub record SayFrom (start : ℕ) (kept all : List Version) : Type 0 where
+  pub since : IsKeptSince (λ v. v.position) start kept all
+  pub values : (p : ℕ) → start ≤ p → value_in p kept ≡ value_in p all
 
 -- the versions of several keys, in the order of the keys
 abbrev pub Tracks : Type 0

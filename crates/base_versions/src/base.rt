@@ -1,5 +1,5 @@
 // The base pairs of the tables of one shard, at every position.
-ghost use Rattle.std.specs.Prelude.{◌≡◌, ◌+◌, ◌^◌, ◌<◌, ◌≤◌, [], ◌∷◌, ◌++◌, IfOk, OnOk, OnErr, length, option_copied, take, true};
+ghost use Rattle.std.specs.Prelude.{◌≡◌, ℕ, ◌+◌, ◌^◌, ◌<◌, ◌≤◌, [], ◌∷◌, ◌++◌, IfOk, OnOk, OnErr, length, option_copied, take, true};
 ghost use Rattle.semantics.specs.Texts.{pairs_within, table_of, value_at};
 ghost use Rattle.semantics.specs.Histories.{History, base_of};
 ghost use Rattle.growing_history.specs.Changes.{changed_keys};
@@ -42,7 +42,7 @@ impl BaseVersions {
     /// The base pairs of a shard after no entries, which grow by this allocator. Nothing is allocated yet.
     pub fn new(alloc: Global, shard: u8, shards: u8) -> BaseVersions
         requires { shard < shards }
-        ensures none { StandsFor result [] }
+        ensures none { StandsFor 0 result [] }
         ensures shard { result.shard ≡ shard }
         ensures shards { result.shards ≡ shards }
     {
@@ -68,7 +68,7 @@ impl BaseVersions {
     /// On `OutOfMemory` some first entries have entered, each of them whole.
     pub fn advance(&mut self, entries: &[Entry]) -> Result<(), OutOfMemory>
         requires { self.old.position + length entries.now < 2 ^ 48 }
-        ensures ok { OnOk result ((h : History) → StandsFor self.old h → StandsFor self.new (h ++ entries.now)) }
+        ensures ok { OnOk result ((start : ℕ) (h : History) → StandsFor start self.old h → StandsFor start self.new (h ++ entries.now)) }
         ensures position { OnOk result (self.new.position ≡ self.old.position + length entries.now) }
         ensures shard { self.new.shard ≡ self.old.shard }
         ensures shards { self.new.shards ≡ self.old.shards }
@@ -92,7 +92,7 @@ impl BaseVersions {
     ) -> Result<Vec<Pair>, OutOfMemory>
         requires within { p ≤ self.now.position }
         requires own { has_table self.now (table_of range.now.low) ≡ true }
-        ensures exact { IfOk result (λ pairs. (h : History) → StandsFor self.now h → pairs.items ≡ pairs_within range.now (base_of (take p h))) }
+        ensures exact { IfOk result (λ pairs. (start : ℕ) (h : History) → StandsFor start self.now h → start ≤ p → pairs.items ≡ pairs_within range.now (base_of (take p h))) }
         ensures cost { IfOk result (λ pairs. steps.new ≡ steps.old + 1 + length pairs.items) }
         ensures spent { steps.old ≤ steps.new }
     {
@@ -106,7 +106,7 @@ impl BaseVersions {
     pub fn get_at(&self, p: u64, key: &Key) -> Option<&Value>
         requires within { p ≤ self.now.position }
         requires own { has_table self.now (table_of key.now) ≡ true }
-        ensures { (h : History) → StandsFor self.now h → option_copied result ≡ value_at key.now (base_of (take p h)) }
+        ensures { (start : ℕ) (h : History) → StandsFor start self.now h → start ≤ p → option_copied result ≡ value_at key.now (base_of (take p h)) }
     {
         match self.tables.get(key.table()) {
             None => None,
@@ -128,7 +128,7 @@ impl BaseVersions {
         requires order { q ≤ p }
         requires within { p ≤ self.now.position }
         requires own { has_table self.now (table_of range.now.low) ≡ true }
-        ensures exact { IfOk result (λ keys. (h : History) → StandsFor self.now h → keys.items ≡ changed_keys q p range.now h) }
+        ensures exact { IfOk result (λ keys. (start : ℕ) (h : History) → StandsFor start self.now h → start ≤ q → keys.items ≡ changed_keys q p range.now h) }
         ensures cost { IfOk result (λ keys. steps.new ≡ steps.old + 1 + length keys.items) }
         ensures spent { steps.old ≤ steps.new }
     {
@@ -140,7 +140,7 @@ impl BaseVersions {
     /// The base pairs of the range after the first p entries.
     fn find_pairs(&self, p: u64, range: &Range) -> Result<Vec<Pair>, OutOfMemory>
         requires { has_table self.now (table_of range.now.low) ≡ true }
-        ensures { IfOk result (λ pairs. (h : History) → StandsFor self.now h → pairs.items ≡ pairs_within range.now (base_of (take p h))) }
+        ensures { IfOk result (λ pairs. (start : ℕ) (h : History) → StandsFor start self.now h → start ≤ p → pairs.items ≡ pairs_within range.now (base_of (take p h))) }
     {
         match self.tables.get(range.table()) {
             None => Ok(Vec::new(self.alloc)),
@@ -152,7 +152,7 @@ impl BaseVersions {
     fn find_changed(&self, q: u64, p: u64, range: &Range) -> Result<Vec<Key>, OutOfMemory>
         requires order { q ≤ p }
         requires own { has_table self.now (table_of range.now.low) ≡ true }
-        ensures { IfOk result (λ keys. (h : History) → StandsFor self.now h → keys.items ≡ changed_keys q p range.now h) }
+        ensures { IfOk result (λ keys. (start : ℕ) (h : History) → StandsFor start self.now h → start ≤ q → keys.items ≡ changed_keys q p range.now h) }
     {
         match self.tables.get(range.table()) {
             None => Ok(Vec::new(self.alloc)),
@@ -163,11 +163,11 @@ impl BaseVersions {
     /// The entry enters, the next one. On `OutOfMemory` it has not entered.
     fn enter(&mut self, entry: &Entry) -> Result<(), OutOfMemory>
         requires { self.old.position + 1 < 2 ^ 48 }
-        ensures ok { OnOk result ((h : History) → StandsFor self.old h → StandsFor self.new (h ++ entry.now ∷ [])) }
+        ensures ok { OnOk result ((start : ℕ) (h : History) → StandsFor start self.old h → StandsFor start self.new (h ++ entry.now ∷ [])) }
         ensures position { OnOk result (self.new.position ≡ self.old.position + 1) }
         ensures shard { self.new.shard ≡ self.old.shard }
         ensures shards { self.new.shards ≡ self.old.shards }
-        ensures err { OnErr result ((h : History) → StandsFor self.old h → StandsFor self.new h) }
+        ensures err { OnErr result ((start : ℕ) (h : History) → StandsFor start self.old h → StandsFor start self.new h) }
         ensures stays { OnErr result (self.new.position ≡ self.old.position) }
     {
         match &entry.write {

@@ -1,12 +1,14 @@
 -- The texts of the longest beginning of a pattern that slots fix, joined one by one.
-use Rattle.std.proofs.Common.{◌≡◌, ℕ, ◌+◌, ◌<◌, Bool, true, false, ◌==◌, [], ◌∷◌, ◌++◌, length, drop, get_or, Option, Some, None, option_map, Result, IfOk, refl, sym, ap, ◌∙◌, subst, append_assoc, append-nil, arith, eq-eqb}
+use Rattle.std.proofs.Common.{◌≡◌, ℕ, ◌+◌, ◌<◌, ◌≤◌, Bool, true, false, ◌==◌, [], ◌∷◌, ◌++◌, length, drop, get_or, Option, Some, None, is_some, option_map, Result, IfOk, refl, sym, ap, ◌∙◌, subst, append_assoc, append-nil, arith, eq-eqb}
 use Rattle.std.specs.List.{join_with_byte}
+use Rattle.std.specs.Option.{IsSomeAnd}
 use Rattle.std.proofs.lemmas.Bool.{false≢true, ne_eqb}
 use Rattle.std.proofs.lemmas.List.{drop_all}
 use Rattle.std.proofs.lemmas.Option.{none-some, same_Some}
 use Rattle.std.proofs.lemmas.Result.{IfOk-weaker}
-use Rattle.semantics.specs.Texts.{Text, bar, Range}
-use Rattle.semantics.specs.Patterns.{Segment, literal, slot, Pattern, Slots, is_pattern, short}
+use Rattle.semantics.specs.Texts.{Text, bar, Range, within}
+use Rattle.semantics.specs.Patterns.{Segment, literal, slot, Pattern, Slots, is_pattern, bind, short}
+use Rattle.semantics.proofs.PatternLemmas.{bind_some, segments_of_pattern}
 use Rattle.key_ranges.specs.Ranges.{just, prefix_range}
 use Rattle.key_ranges.specs.Containing.{fixed_texts, containing}
 use Rattle.key_ranges.specs.ContainingLaws.{HoldsFitting}
@@ -95,3 +97,17 @@ pub holds_from_exact : {E : Type 0} (p : Pattern) (given : Slots) (r : Result (O
 holds_from_exact p given r ok h =
     IfOk-weaker r (λ found. found ≡ containing p given) (λ found. (more : Slots) (key : Text) → HoldsFitting p given found more key)
     (λ found e more key. subst (λ x. HoldsFitting p given x more key) (sym e) (containing_holds p given more key ok)) h
+
+bound_by : (p : Pattern) (given : Slots) (key : Text) (found : Option Range) (o : Option Slots) → is_pattern p ≡ true → length given ≡ 16 → ((more : Slots) → HoldsFitting p given found more key) →
+    length key ≤ 512 → bind p key given ≡ o → is_some o ≡ true → IsSomeAnd found (λ r. within r key ≡ true)
+bound_by p given key found None ok long h small e some = absurd (false≢true some)
+bound_by p given key found (Some more) ok long h small e some =
+    let least = bind_some p key given more (segments_of_pattern p ok) long e in
+    h more small least.takes least.keeps
+
+-- and each key that fits under the slots themselves
+pub fitting_from_exact : {E : Type 0} (p : Pattern) (given : Slots) (r : Result (Option Range) E) → is_pattern p ≡ true → length given ≡ 16 → IfOk r (λ found. found ≡ containing p given)
+    → IfOk r (λ found. (key : Text) → length key ≤ 512 → is_some (bind p key given) ≡ true → IsSomeAnd found (λ r. within r key ≡ true))
+fitting_from_exact p given r ok long h =
+    IfOk-weaker r (λ found. (more : Slots) (key : Text) → HoldsFitting p given found more key) (λ found. (key : Text) → length key ≤ 512 → is_some (bind p key given) ≡ true → IsSomeAnd found (λ r. within r key ≡ true))
+    (λ found all key small some. bound_by p given key found (bind p key given) ok long (λ more. all more key) small refl some) (holds_from_exact p given r ok h)

@@ -1,12 +1,13 @@
 -- Slots after a text was given to a place, and slots that are copied one by one.
-use Rattle.std.proofs.Common.{◌≡◌, ℕ, ◌+◌, ◌<◌, ◌≤◌, true, false, List, [], ◌∷◌, ◌++◌, length, map, take, get_or, nat_le, Option, Some, is_some, option_map, slice_set, String, subst, sym, ap, ◌∙◌, arith, ⊎_elim}
+use Rattle.std.proofs.Common.{◌≡◌, ℕ, ◌+◌, ◌<◌, ◌≤◌, true, false, List, [], ◌∷◌, ◌++◌, length, map, take, get_or, nat_le, Option, None, Some, is_some, option_map, slice_get, slice_set, String, subst, sym, ap, ◌∙◌, arith, ⊎_elim}
 use Rattle.std.specs.Borrow.{Bor}
-use Rattle.std.specs.Option.{option_copied}
+use Rattle.std.specs.Option.{option_copied, option_flatten}
 use Rattle.std.specs.String.{string_bytes}
 use Rattle.std.specs.declared.alloc.Global.{Global}
-use Rattle.std.proofs.lemmas.List.{length-set, length-map, map-set, get_or-map, take_more, take_more_set, take_all}
+use Rattle.std.proofs.lemmas.List.{length-set, length-map, map-set, get_or-map, take_more, take_more_set, take_all, same_lists}
+use Rattle.std.proofs.lemmas.Option.{slice_get-get_or}
 use Rattle.semantics.specs.Texts.{Text, has_bar}
-use Rattle.semantics.specs.Patterns.{Pattern, Slots, no_slots, is_pattern, segments, bind, Fits}
+use Rattle.semantics.specs.Patterns.{Pattern, Slots, no_slots, text_at, is_pattern, segments, bind, Fits}
 use Rattle.semantics.proofs.BindLemmas.{text_at-set_cases, texts-no_slots, length-bind, texts_bind}
 use Rattle.semantics.proofs.PatternLemmas.{length-no_slots, bind_some, segments_of_pattern, take_segment_texts}
 use Rattle.key_pattern.specs.Places.{AreSlots, IsSegmentText, CanFill, lent_texts, owned_texts}
@@ -66,3 +67,14 @@ can_fill-fits p key given h = ap is_some (take_segment_texts p (segments key) gi
 -- a key that was bound can be filled from the slots that it gave
 pub can_fill-bind : (p : Pattern) (key : Text) (given found : Slots) → is_pattern p ≡ true → AreSlots given → bind p key given ≡ Some found → CanFill p found
 can_fill-bind p key given found ok are e = can_fill-fits p key found (bind_some p key given found (segments_of_pattern p ok) are.places e).takes
+
+-- ---- slots place by place
+
+-- the text at a place is the list's element there
+text_at_place : (given : Slots) (place : ℕ) (d : Option Text) → place < length given → text_at place given ≡ get_or given place d
+text_at_place given place d less = ap option_flatten (slice_get-get_or given place d less)
+
+-- slots with the same text at each place are the same
+pub same_by_places : (given other : Slots) → length given ≡ 16 → length other ≡ 16 → ((place : ℕ) → place < 16 → text_at place given ≡ text_at place other) → given ≡ other
+same_by_places given other long as_long same = same_lists given other (long ∙ sym as_long) (λ place d less.
+    sym (text_at_place given place d less) ∙ same place (omega arith) ∙ text_at_place other place d (omega arith))

@@ -1,10 +1,11 @@
 // Slots that the keys of a range share, and the range that holds every key which fits a pattern under slots.
-ghost use Rattle.std.specs.Prelude.{◌≡◌, IfOk, option_map, true, [], ◌∷◌, ◌++◌};
+ghost use Rattle.std.specs.Prelude.{◌≡◌, ◌≤◌, IfOk, length, is_some, option_map, true, [], ◌∷◌, ◌++◌};
+ghost use Rattle.std.specs.Option.{IsSomeAnd};
 ghost use Rattle.std.specs.Ordering.{is_le};
 ghost use Rattle.std.specs.String.{string_bytes};
-ghost use Rattle.semantics.specs.Texts.{Text, bar, names_table, text_cmp};
+ghost use Rattle.semantics.specs.Texts.{Text, bar, names_table, text_cmp, within};
 ghost use Rattle.semantics.specs.Patterns as plain;
-ghost use Rattle.semantics.specs.Patterns.{is_pattern, short};
+ghost use Rattle.semantics.specs.Patterns.{bind, is_pattern, short};
 ghost use Rattle.key_ranges.specs.Ranges.{just, prefix_range};
 ghost use Rattle.key_ranges.specs.Containing.{bind_range, containing};
 ghost use Rattle.key_ranges.specs.ContainingLaws.{HoldsFitting};
@@ -158,9 +159,28 @@ impl Pattern {
         None
     }
 
-    /// The range that holds every key which fits the pattern under the slots, or under more: that of the one key where
-    /// each segment is a literal or a set slot, and otherwise that of all keys that begin with the texts of the longest
-    /// beginning of such segments. None only where each such key has more than 512 bytes. Linear in the texts.
+    /// The range that holds every key which fits the pattern under the slots: that of the one key where each segment is a
+    /// literal or a set slot, and otherwise that of all keys that begin with the texts of the longest beginning of such
+    /// segments. None only where each such key has more than 512 bytes. Linear in the texts.
+    pub fn fitting_range(
+        &self,
+        alloc: Global,
+        slots: &Slots<'_>,
+    ) -> Result<Option<Range>, OutOfMemory>
+        ensures exact { IfOk result (λ found. found ≡ containing self.now slots.now) }
+        ensures more { IfOk result (λ found. (more : plain.Slots) (key : Text) → HoldsFitting self.now slots.now found more key) }
+        ensures holds { IfOk result (λ found. (key : Text) → length key ≤ 512 → is_some (bind self.now key slots.now) ≡ true → IsSomeAnd found (λ r. within r key ≡ true)) }
+    {
+        let fixed = join_fixed(alloc, self.segments(), &slots.copy())?;
+        if fixed.is_whole {
+            key_range(alloc, fixed.text.as_str())
+        } else {
+            beginning_range(alloc, fixed.text)
+        }
+    }
+
+    /// The range that holds every key which fits the pattern under the slots, or under more: `fitting_range` of them.
+    /// None only where each such key has more than 512 bytes. Linear in the texts.
     ///
     /// Today the answer does not depend on the pattern of the output and the range of it that is asked for.
     pub fn containing(
@@ -173,11 +193,6 @@ impl Pattern {
         ensures exact { IfOk result (λ found. found ≡ containing self.now slots.now) }
         ensures holds { IfOk result (λ found. (more : plain.Slots) (key : Text) → HoldsFitting self.now slots.now found more key) }
     {
-        let fixed = join_fixed(alloc, self.segments(), slots)?;
-        if fixed.is_whole {
-            key_range(alloc, fixed.text.as_str())
-        } else {
-            beginning_range(alloc, fixed.text)
-        }
+        self.fitting_range(alloc, slots)
     }
 }

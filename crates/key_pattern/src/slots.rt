@@ -1,5 +1,5 @@
 // Texts for the slots of patterns, by place.
-ghost use Rattle.std.specs.Prelude.{◌≡◌, IfOk, Some, ◌<◌, slice_set, option_map, true};
+ghost use Rattle.std.specs.Prelude.{◌≡◌, ◌↔◌, IfOk, IsTrue, Some, ◌<◌, slice_set, option_map, true};
 ghost use Rattle.std.specs.Option.{option_copied};
 ghost use Rattle.std.specs.String.{string_bytes};
 ghost use Rattle.semantics.specs.Patterns.{no_slots, text_at, is_segment};
@@ -136,6 +136,31 @@ impl SlotTexts {
             texts[place] = lend(text);
         }
         Slots { texts }
+    }
+
+    /// The text at a place; none where there is none, as at the places from 16 on.
+    pub fn at(&self, place: u8) -> Option<&str>
+        ensures text { option_copied result ≡ text_at place self.now }
+        ensures slots { AreSlots self.now }
+    {
+        let place = usize::from(place);
+        if place < self.texts.len() {
+            lend(&self.texts[place])
+        } else {
+            None
+        }
+    }
+
+    /// Whether both have the same text at each place. Linear in the texts.
+    pub fn is_same(&self, other: &SlotTexts) -> bool
+        ensures { IsTrue result ↔ (self.now ≡ other.now) }
+    {
+        for place in 0..16u8 {
+            if self.at(place) != other.at(place) {
+                return false;
+            }
+        }
+        true
     }
 
     /// Equal slots, whose texts are copied. Linear in the texts.

@@ -1,8 +1,9 @@
 -- Noted slots, with the ranges that hold the keys under them.
-use Rattle.std.proofs.Common.{◌≡◌, ◌≤◌, Bool, true, false, cond, not, ◌||◌, List, [], ◌∷◌, ◌++◌, length, map, filter, Option, Some, None, is_some, refl, sym, ap, ◌∙◌, subst}
+use Rattle.std.proofs.Common.{◌≡◌, ℕ, ◌<◌, ◌≤◌, get_or, Contains, arith, Bool, true, false, cond, not, ◌||◌, List, [], ◌∷◌, ◌++◌, length, map, filter, Option, Some, None, is_some, refl, sym, ap, ◌∙◌, subst}
 use Rattle.std.specs.List.{AllByRecursion, list_any}
 use Rattle.std.specs.Option.{IsSomeAnd}
 use Rattle.std.proofs.lemmas.Bool.{false≢true}
+use Rattle.std.proofs.lemmas.List.{length-map, get_or-map}
 use Rattle.semantics.specs.Texts.{Text, Range, within}
 use Rattle.semantics.specs.Patterns.{Pattern, Slots, bind}
 use Rattle.semantics.proofs.PatternLemmas.{bind_some, segments_of_pattern}
@@ -32,6 +33,16 @@ covered_is_met output slots range key ok long small inside fits =
     let found = some_of (bind output key slots) fits in
     let least = bind_some output key slots found.0 (segments_of_pattern output ok) long found.1 in
     met_by (containing output slots) range key inside (containing_holds output slots found.0 key ok small least.takes least.keeps)
+
+-- ---- slots among those that were noted
+
+-- slots that are noted are those of one that was noted
+pub noted_at : (ns : List Noted) (slots : Slots) → Contains (slots_of ns) slots → (k : ℕ) × (d : Noted) × (k < length ns) × ((get_or ns k d).slots ≡ slots)
+noted_at [] slots has = let less = has.1 in absurd (omega arith)
+noted_at (n ∷ ns) slots has =
+    let below = has.1 in
+    let less : has.0 < length (n ∷ ns) = omega (arith, length-map (n ∷ ns) (λ (m : Noted). m.slots)) in
+    (has.0, n, less, sym (get_or-map (λ (m : Noted). m.slots) (n ∷ ns) has.0 n slots less) ∙ has.2)
 
 -- ---- tests of what was noted
 

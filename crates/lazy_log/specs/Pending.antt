@@ -1,5 +1,5 @@
 -- Slots of an output that were noted.
-use Rattle.std.specs.Prelude.{List, Bool, false, Option, Some, None}
+use Rattle.std.specs.Prelude.{◌≡◌, ◌⊎◌, List, [], ◌∷◌, ◌++◌, Contains, Bool, false, Option, Some, None}
 use Rattle.semantics.specs.Texts.{Range}
 use Rattle.semantics.specs.Patterns.{Pattern, Slots}
 use Rattle.key_ranges.specs.Ranges.{meets}
@@ -9,6 +9,10 @@ use Rattle.key_ranges.specs.Containing.{containing}
 pub record PendingSlots : Type 0 where
   pub output : Pattern
   pub noted : List Slots
+
+-- the slots are noted already and all stays, or they are not and come last
+abbrev pub NotesOnce : Slots → List Slots → List Slots → Type 0
+NotesOnce slots old new = (Contains old slots × (new ≡ old)) ⊎ ((Contains old slots → ⊥) × (new ≡ old ++ slots ∷ []))
 
 -- whether there is a range, and it meets the other
 abbrev pub meets_held : Option Range → Range → Bool

@@ -1,10 +1,9 @@
 // Slots that were noted.
-ghost use Rattle.std.specs.Prelude.{◌≡◌, [], ◌∷◌, ◌++◌, ◌+◌, ◌≤◌, filter, not, is_some, IfOk, OnOk, OnErr};
+ghost use Rattle.std.specs.Prelude.{◌≡◌, ◌↔◌, [], ◌++◌, ◌+◌, ◌≤◌, filter, not, is_some, Contains, IfOk, IsTrue, OnOk, OnErr};
 ghost use Rattle.std.specs.Vec.{vec_len, vec_capacity};
 ghost use Rattle.std.specs.List.{list_any};
 ghost use Rattle.semantics.specs.Patterns.{bind};
-ghost use Rattle.key_ranges.specs.Containing.{containing};
-ghost use Rattle.lazy_log.specs.Pending.{meets_held, meets_output};
+ghost use Rattle.lazy_log.specs.Pending.{NotesOnce, meets_held, meets_output};
 ghost use Rattle.lazy_log.specs.Held.{slots_of};
 
 use key_pattern::{Pattern, SlotTexts};
@@ -40,18 +39,16 @@ impl Model for LazyLog {
     ghost invariant = { λ l. AreHeld l.output l.noted.items };
 }
 
-/// The range that holds every key which fits the output under the slots; none where each such key is too long. Linear in
-/// the texts.
-fn held_range(
-    alloc: Global,
-    output: &Pattern,
-    slots: &SlotTexts,
-) -> Result<Option<Range>, OutOfMemory>
-    ensures { IfOk result (λ held. held ≡ containing output.now slots.now) }
+/// Whether the slots are among the noted ones. Linear in the noted slots and their texts.
+fn are_noted(noted: &[Noted], slots: &SlotTexts) -> bool
+    ensures { IsTrue result ↔ Contains (slots_of noted.now) slots.now }
 {
-    // The answer depends on no range that is asked for.
-    let any = Range::prefix_range(alloc, "t|")?;
-    output.containing(alloc, &slots.lend(), output, &any)
+    for one in noted {
+        if one.slots.is_same(slots) {
+            return true;
+        }
+    }
+    false
 }
 
 /// Whether the key fits the output under the slots.
@@ -104,20 +101,24 @@ impl LazyLog {
         }
     }
 
-    /// Adds the slots at the end. Linear in their texts and those of the output.
+    /// Adds the slots at the end, unless equal ones are noted already. Linear in the noted slots and the texts.
     ///
-    /// On `OutOfMemory` all is as it was.
+    /// On `OutOfMemory` all is unchanged.
     pub fn note(&mut self, slots: SlotTexts) -> Result<(), OutOfMemory>
-        ensures ok { OnOk result (self.new ≡ record self.old { noted = self.old.noted ++ slots ∷ [] }) }
-        ensures err { OnErr result (self.new ≡ self.old) }
+        ensures output { self.new.output ≡ self.old.output }
+        ensures ok { OnOk result (NotesOnce slots self.old.noted self.new.noted) }
+        ensures err { OnErr result (self.new.noted ≡ self.old.noted) }
     {
-        let held = held_range(self.alloc, &self.output, &slots)?;
+        if are_noted(self.noted.as_slice(), &slots) {
+            return Ok(());
+        }
+        let held = self.output.fitting_range(self.alloc, &slots.lend())?;
         self.noted.push(Noted { slots, held })?;
         Ok(())
     }
 
-    /// Whether the key fits the output under some of the noted slots. Linear in the noted slots and the key, and no
-    /// memory is taken.
+    /// Whether the key fits the output under some of the noted slots. Linear in the noted slots and the key, and nothing is
+    /// allocated.
     pub fn covers(&self, key: &Key) -> bool
         ensures { result ≡ list_any (λ slots. is_some (bind self.now.output key.now slots)) self.now.noted }
     {
@@ -127,7 +128,7 @@ impl LazyLog {
     }
 
     /// Whether the containing range of the output under some of the noted slots meets the range. Linear in the noted
-    /// slots and the bounds, and no memory is taken.
+    /// slots and the bounds, and nothing is allocated.
     pub fn meets(&self, range: &Range) -> bool
         ensures { result ≡ list_any (meets_output self.now.output range.now) self.now.noted }
     {
@@ -137,7 +138,7 @@ impl LazyLog {
     /// Takes out the slots under which the containing range of the output meets the range, in the order of noting. The
     /// others are left, in their order. Linear in the noted slots and the bounds, and no text is copied.
     ///
-    /// On `OutOfMemory` all is as it was.
+    /// On `OutOfMemory` all is unchanged.
     pub fn take_meeting(&mut self, range: &Range) -> Result<Vec<SlotTexts>, OutOfMemory>
         ensures taken { IfOk result (λ taken. taken.items ≡ filter (meets_output self.old.output range.now) self.old.noted) }
         ensures left { OnOk result (self.new ≡ record self.old { noted = filter (λ slots. not (meets_output self.old.output range.now slots)) self.old.noted }) }

@@ -125,7 +125,9 @@ fn slots_that_meet_are_taken(rt: HostRuntime) -> Result<(), Fail> {
     let alloc = rt.alloc();
     let mut log = new_log(&rt, alloc)?;
     log.note(read_slots(&rt, alloc, &[USER, POSTER], "s|ann|bob")?)?;
-    log.note(read_slots(&rt, alloc, &[USER, POSTER], "s|cat|dan")?)?;
+    for _ in 0..2 {
+        log.note(read_slots(&rt, alloc, &[USER, POSTER], "s|cat|dan")?)?;
+    }
     let range = read_range(&rt, alloc, "t|cat|", "t|cat}");
     let taken = log.take_meeting(&range)?;
     assert_eq!(rt; taken.len(), 1);

@@ -1,4 +1,4 @@
-use Rattle.std.proofs.Common.{◌≡◌, ◌+◌, ◌++◌, take}
+use Rattle.std.proofs.Common.{◌≡◌, ℕ, ◌+◌, ◌++◌, take}
 use Rattle.semantics.specs.Histories.{History}
 use Rattle.base_versions.specs.Kept.{StandsFor}
 use Rattle.base_versions.proofs.base.BaseVersions.advance.Given as goal
@@ -9,5 +9,5 @@ invariant-loop-entry l =
       position : l.self.position ≡ l.fn.self.position + l.entry-index;
       shard : l.self.shard ≡ l.fn.self.shard;
       shards : l.self.shards ≡ l.fn.self.shards;
-      history : (h : History) → StandsFor l.fn.self h → StandsFor l.self (h ++ take l.entry-index l.entries);
+      history : (start : ℕ) (h : History) → StandsFor start l.fn.self h → StandsFor start l.self (h ++ take l.entry-index l.entries);
     }

@@ -1,8 +1,8 @@
 -- What a client that is alone is told of a read or a write.
-use Rattle.std.proofs.Common.{◌≡◌, ℕ, ◌+◌, List, [], ◌∷◌, ◌++◌, length, Option, Some, None, refl, sym, ap, subst, ◌∙◌}
+use Rattle.std.proofs.Common.{◌≡◌, ℕ, ◌+◌, [], ◌∷◌, ◌++◌, length, Option, Some, None, refl, sym, ap, subst, ◌∙◌}
 use Rattle.std.specs.Prelude.{option_map}
 use Rattle.semantics.specs.Texts.{Text, Range, Table, value_at, pairs_within}
-use Rattle.semantics.specs.Histories.{Write, Entry, History}
+use Rattle.semantics.specs.Histories.{Write, History}
 use Rattle.semantics.specs.States.{state}
 use Rattle.semantics.specs.Verdicts.{Cause, verdict}
 use Rattle.semantics.specs.Answers.{Read, get, scan, Answer, found, absent, pairs, answer}

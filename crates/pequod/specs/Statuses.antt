@@ -1,5 +1,5 @@
 -- What the status of a command says.
-use Rattle.std.specs.Prelude.{◌≡◌, ℕ, [], if◌then◌else◌, is_err, List, Option, Some, None, IfSome}
+use Rattle.std.specs.Prelude.{◌≡◌, ℕ, [], if◌then◌else◌, is_err, List, Option, Some, IfSome}
 use Rattle.semantics.specs.Texts.{Text}
 use Rattle.semantics.specs.Histories.{History}
 use Rattle.protocol.specs.JoinsFile.{file_history, check_text}
@@ -19,7 +19,7 @@ status_of session.write_fault = 5
 status_of session.spent = 10
 status_of session.no_memory = 6
 
--- `run` ended one way, which the status names: these bytes were given and these were taken, the client that is alone was served so from the empty history, and what was written is the transcript
+-- `run` ended one way, which the status names: these bytes were given and these were taken, the client that is alone was served so from the empty history, and what was written stands to the transcript as `Ran` says at that end
 pub record RunsTo (status : ℕ) (left left_now taken taken_now : Option Text) : Type 0 where
   pub ending : session.Ending
   pub bytes : Text

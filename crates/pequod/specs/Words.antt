@@ -1,5 +1,5 @@
 -- The words of the command line.
-use Rattle.std.specs.Prelude.{ℕ, ◌&&◌, ◌==◌, List, [], ◌∷◌, length, slice_index, codes, Bool, true, false, not, nat_le, if◌then◌else◌, Option, Some, None}
+use Rattle.std.specs.Prelude.{◌&&◌, ◌==◌, List, [], ◌∷◌, length, slice_index, codes, Bool, true, false, not, nat_le, if◌then◌else◌, Option, Some, None}
 use Rattle.semantics.specs.Texts.{Text, same}
 
 -- what the program is asked to do; `check` names a file

@@ -1,5 +1,5 @@
 // Saying of a joins file what its joins are, or which line is refused first.
-ghost use Rattle.std.specs.Prelude.{◌≡◌, ◌≤◌};
+ghost use Rattle.std.specs.Prelude.{◌≡◌, ◌≢◌, ◌≤◌};
 ghost use Rattle.pq_io.specs.Faults.{Rose};
 ghost use Rattle.pequod.specs.Statuses.{ChecksTo};
 
@@ -15,6 +15,8 @@ pub fn check<W: Sink, F: Shelf>(alloc: Global, name: &str, sink: &mut W, shelf: 
     ensures sink_later { W.faults sink.old ≤ W.faults sink.new }
     ensures shelf_later { F.faults shelf.old ≤ F.faults shelf.new }
     ensures write { result.number ≡ 5 → Rose (W.faults sink.old) (W.faults sink.new) }
+    ensures writes_kept { result.number ≢ 5 → W.faults sink.new ≡ W.faults sink.old }
+    ensures memory_sink { result.number ≡ 6 → sink.new ≡ sink.old }
     ensures shelf { result.number ≡ 9 → Rose (F.faults shelf.old) (F.faults shelf.new) }
 {
     let bytes = match shelf.take(alloc, name) {

@@ -49,7 +49,6 @@ fn main(rt: HostRuntime) -> ExitCode {
             let mut sink = Writing::new(rt.stdout());
             let mut shelf = FileShelf::new(&rt);
             pequod(
-                &rt,
                 rt.alloc(),
                 words.as_slice(),
                 &mut source,

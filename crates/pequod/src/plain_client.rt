@@ -14,8 +14,6 @@ use request_codec::{Reply, Request};
 use session::Service;
 use std::alloc::Global;
 use std::marker::Model;
-use std::sync::Wait;
-use std::thread::Threads;
 
 /// The client with the number 0, whose writes are the whole history. Contracts see it as its history.
 #[derive(Drop)]
@@ -57,7 +55,7 @@ impl PlainClient {
     }
 
     /// Takes a write where there is no cause against it. The room for the entry is there before anything changes, so that
-    /// want of memory leaves the history as it was.
+    /// the history is unchanged where there is no memory.
     fn write(&mut self, change: Write) -> Result<Reply, OutOfMemory>
         ensures told { IfOk result (λ reply. Told self.old self.new 0 (write (plain_write change) ∷ []) (plain_reply reply ∷ [])) }
         ensures unchanged { OnErr result (self.new ≡ self.old) }
@@ -119,7 +117,7 @@ impl Service for PlainClient {
 
     ghost view = { λ h. h };
 
-    fn answer<R: Threads + Wait + Sync>(&mut self, _rt: &R, request: Request) -> Reply {
+    fn answer(&mut self, request: Request) -> Reply {
         match self.try_answer(request) {
             Ok(reply) => reply,
             Err(OutOfMemory) => Reply::Memory,

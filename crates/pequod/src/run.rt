@@ -1,5 +1,5 @@
 // Serving one client over a source and a sink.
-ghost use Rattle.std.specs.Prelude.{◌≡◌, ◌≤◌};
+ghost use Rattle.std.specs.Prelude.{◌≡◌, ◌≢◌, ◌≤◌};
 ghost use Rattle.pq_io.specs.Faults.{Rose};
 ghost use Rattle.session.specs.Ends.{plain_end};
 ghost use Rattle.pequod.specs.Statuses.{status_of, RunsTo};
@@ -9,8 +9,6 @@ use crate::status::Status;
 use pq_io::{Both, Link, Sink, Source};
 use session::{End, serve_link};
 use std::alloc::Global;
-use std::sync::Wait;
-use std::thread::Threads;
 
 /// The status of an end.
 fn status_of(end: End) -> Status
@@ -27,33 +25,35 @@ fn status_of(end: End) -> Status
 }
 
 /// Answers the lines of a link, from an empty history, to its end or to a line `["quit"]`.
-fn serve_alone<R: Threads + Wait + Sync, L: Link>(rt: &R, alloc: Global, link: &mut L) -> Status
+fn serve_alone<L: Link>(alloc: Global, link: &mut L) -> Status
     ensures run { RunsTo result.number (L.left link.old) (L.left link.new) (L.taken link.old) (L.taken link.new) }
     ensures reads_later { L.read_faults link.old ≤ L.read_faults link.new }
     ensures writes_later { L.write_faults link.old ≤ L.write_faults link.new }
     ensures read { result.number ≡ 4 → Rose (L.read_faults link.old) (L.read_faults link.new) }
+    ensures reads_kept { result.number ≢ 4 → L.read_faults link.new ≡ L.read_faults link.old }
     ensures write { result.number ≡ 5 → Rose (L.write_faults link.old) (L.write_faults link.new) }
+    ensures writes_kept { result.number ≢ 5 → L.write_faults link.new ≡ L.write_faults link.old }
+    ensures memory { result.number ≡ 6 → link.new ≡ link.old }
     ensures same_borrows { L.borrows link.new ≡ L.borrows link.old }
 {
     let mut client = PlainClient::new(alloc);
-    let end = serve_link(rt, alloc, &mut client, link);
+    let end = serve_link(alloc, &mut client, link);
     // A look at the client tells that every entry is its own, which the clause on the transcript asks for.
     let _entries = client.len();
     status_of(end)
 }
 
 /// Answers the lines of the source into the sink, from an empty history, to its end or to a line `["quit"]`.
-pub fn run<R: Threads + Wait + Sync, S: Source, W: Sink>(
-    rt: &R,
-    alloc: Global,
-    source: &mut S,
-    sink: &mut W,
-) -> Status
+pub fn run<S: Source, W: Sink>(alloc: Global, source: &mut S, sink: &mut W) -> Status
     ensures run { RunsTo result.number (S.left source.old) (S.left source.new) (W.taken sink.old) (W.taken sink.new) }
     ensures source_later { S.faults source.old ≤ S.faults source.new }
     ensures sink_later { W.faults sink.old ≤ W.faults sink.new }
     ensures read { result.number ≡ 4 → Rose (S.faults source.old) (S.faults source.new) }
+    ensures reads_kept { result.number ≢ 4 → S.faults source.new ≡ S.faults source.old }
     ensures write { result.number ≡ 5 → Rose (W.faults sink.old) (W.faults sink.new) }
+    ensures writes_kept { result.number ≢ 5 → W.faults sink.new ≡ W.faults sink.old }
+    ensures memory_source { result.number ≡ 6 → source.new ≡ source.old }
+    ensures memory_sink { result.number ≡ 6 → sink.new ≡ sink.old }
 {
-    serve_alone(rt, alloc, &mut Both::new(source, sink))
+    serve_alone(alloc, &mut Both::new(source, sink))
 }

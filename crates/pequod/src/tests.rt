@@ -14,9 +14,7 @@ use pq_io::{MemShelf, MemSink, MemSource, Sink};
 use std::alloc::AllocError;
 use std::process::Abort;
 use std::str;
-use std::sync::Wait;
 use std::test::Fail;
-use std::thread::Threads;
 
 /// Lines, and what one client alone is answered.
 struct Row {
@@ -83,7 +81,7 @@ impl<'a> Given<'a> {
     }
 
     /// Runs the program into a sink, and says how it ended.
-    fn into_sink<R: Threads + Wait + Sync + AllocGlobal, W: Sink>(
+    fn into_sink<R: AllocGlobal, W: Sink>(
         self,
         rt: &R,
         sink: &mut W,
@@ -99,11 +97,11 @@ impl<'a> Given<'a> {
         let mut source = MemSource::new(self.input.to_vec(alloc)?, cuts, fails);
         let files = vec![in alloc; (String::from_str(alloc, "j")?, self.file.to_vec(alloc)?)]?;
         let mut shelf = MemShelf::new(files, Vec::new(alloc));
-        Ok(pequod(rt, alloc, words.as_slice(), &mut source, sink, &mut shelf))
+        Ok(pequod(alloc, words.as_slice(), &mut source, sink, &mut shelf))
     }
 
     /// Runs the program, and asserts how it ends and what it writes. The name stands in the message of an assertion.
-    fn gives<R: Threads + Wait + Sync + AllocGlobal + Abort>(
+    fn gives<R: AllocGlobal + Abort>(
         self,
         rt: &R,
         name: &str,

@@ -1,5 +1,5 @@
 // The top call: all that the program does, over what it is handed.
-ghost use Rattle.std.specs.Prelude.{◌≡◌, ◌≤◌, ◌↔◌, List, ℕ, map, string_bytes, false, Some, None};
+ghost use Rattle.std.specs.Prelude.{◌≡◌, ◌<◌, ◌≤◌, ◌↔◌, List, ℕ, map, string_bytes, false, Some, None};
 ghost use Rattle.pq_io.specs.Faults.{Rose};
 ghost use Rattle.pequod.specs.Words as plain;
 ghost use Rattle.pequod.specs.Words.{uses_source, uses_sink, uses_shelf};
@@ -11,16 +11,15 @@ use crate::status::Status;
 use crate::words::{Command, command_of};
 use pq_io::{Shelf, Sink, Source};
 use std::alloc::Global;
-use std::sync::Wait;
-use std::thread::Threads;
 
 /// Does what the words after the program's name ask for, and says how that ended.
 ///
 /// `run` answers one client's lines from the source into the sink. `check FILE` takes a joins file from the shelf and
-/// writes about it into the sink. Words that form no command have status 2. What a command does not use is left as it was:
-/// `run` the shelf, `check` the source, and no command all three.
-pub fn pequod<R: Threads + Wait + Sync, S: Source, W: Sink, F: Shelf>(
-    rt: &R,
+/// writes about it into the sink. Words that form no command have status 2. What a command does not use is unchanged:
+/// `run` leaves the shelf, `check` the source, and no command all three. With status 6 source and sink are unchanged.
+///
+/// It waits for nobody, so it returns where the calls of the source, the sink and the shelf return.
+pub fn pequod<S: Source, W: Sink, F: Shelf>(
     alloc: Global,
     words: &[String],
     source: &mut S,
@@ -33,23 +32,30 @@ pub fn pequod<R: Threads + Wait + Sync, S: Source, W: Sink, F: Shelf>(
     ensures check { (name : List ℕ) → plain.command_of (map string_bytes words.now) ≡ Some (plain.check name) →
         ChecksTo result.number (F.held shelf.old) name (W.taken sink.old) (W.taken sink.new) }
 
-    // What the command does not use stays as it was.
+    // What the command does not use is unchanged.
     ensures same_source { uses_source (plain.command_of (map string_bytes words.now)) ≡ false → source.new ≡ source.old }
     ensures same_sink { uses_sink (plain.command_of (map string_bytes words.now)) ≡ false → sink.new ≡ sink.old }
     ensures same_shelf { uses_shelf (plain.command_of (map string_bytes words.now)) ≡ false → shelf.new ≡ shelf.old }
     ensures same_held { F.held shelf.new ≡ F.held shelf.old }
 
-    // A fault comes only from the object whose count of faults rose.
+    // Where there was no memory, nothing was read and nothing written.
+    ensures memory_source { result.number ≡ 6 → source.new ≡ source.old }
+    ensures memory_sink { result.number ≡ 6 → sink.new ≡ sink.old }
+
+    // A fault comes only from the object whose count of faults rose. Where the count of the source or the sink rose, the
+    // status says which: it is 5 where the sink's rose, whatever became of the source's.
     ensures source_later { S.faults source.old ≤ S.faults source.new }
     ensures sink_later { W.faults sink.old ≤ W.faults sink.new }
     ensures shelf_later { F.faults shelf.old ≤ F.faults shelf.new }
     ensures read { result.number ≡ 4 → Rose (S.faults source.old) (S.faults source.new) }
+    ensures read_rose { S.faults source.old < S.faults source.new → result.number ≡ 4 }
     ensures write { result.number ≡ 5 → Rose (W.faults sink.old) (W.faults sink.new) }
+    ensures write_rose { W.faults sink.old < W.faults sink.new → result.number ≡ 5 }
     ensures shelf { result.number ≡ 9 → Rose (F.faults shelf.old) (F.faults shelf.new) }
 {
     match command_of(words) {
         None => Status::WORDS,
-        Some(Command::Run) => run(rt, alloc, source, sink),
+        Some(Command::Run) => run(alloc, source, sink),
         Some(Command::Check(name)) => check(alloc, name, sink, shelf),
     }
 }

@@ -26,7 +26,7 @@ file_of file = (string_bytes file.0, file.1.items)
 abbrev pub CannotGive : List File → List ℕ → Type 0
 CannotGive files name = MatchOption (bytes_under files name) ⊤ (λ bytes. MAX_FILE_BYTES < length bytes)
 
--- the call failed, and not for want of memory
+-- the call failed, and not because it found no memory
 abbrev pub has_failed : {T : Type 0} → Result T TakeFault → Bool
 has_failed (Ok x) = false
 has_failed (Err Failed) = true

@@ -1,4 +1,4 @@
--- What is written to one client alone is the transcript of its bytes, at each end.
+-- What is written to one client alone is the transcript of its bytes at each end, and after a write fault a beginning of one.
 use Rattle.std.proofs.Common.{◌≡◌, ℕ, ◌+◌, ◌-◌, ◌<◌, ◌≤◌, ◌==◌, ◌||◌, ◌⊎◌, inl, inr, List, [], ◌∷◌, ◌++◌, length, get_or, take, drop, map, Bool, true, false, Option, Some, None, refl, sym, ap, ap₂, ◌∙◌, subst, arith, append_assoc, append-nil, length-append}
 use Rattle.std.specs.Prelude.{slice_get, if◌then◌else◌, nat_lt}
 use Rattle.std.specs.List.{list_any}
@@ -305,14 +305,14 @@ module _ (bytes written : Text) (left : Option Text) (after : History) (own : Ar
   by_ending : (ending : Ending) → Served ending alone → Ran ending (record { bytes = bytes; written = written; left = left })
   by_ending closed s = (all_served true s.0 s.1 s.2 s.3, s.4)
   by_ending quit_line s = (quit_served s.0 s.1 s.2, quit_by s.0 s.1 s.1.ended refl s.2)
-  by_ending long_line s = (long_served s.0 s.1 s.2 s.3, s.2)
+  by_ending long_line s = (long_served s.0 s.1 s.2 s.3, s.2, (reply_texts s.0, s.3 ∙ reply_texts-push s.0 long))
   by_ending read_fault s = all_served false s.0 s.1 s.2 s.3
   by_ending write_fault (inl s) = cut_served s.0 s.1 s.2 s.3
   by_ending write_fault (inr s) = long_cut_served s.0 s.1 s.2 s.3
   by_ending spent s = (all_served false s.0 s.1 s.2 s.3, s.4)
   by_ending no_memory s = (s.0, s.1)
 
--- where a link was served from the empty history, and every entry is the client's own, what was written is the transcript
+-- where a link was served from the empty history, and every entry is the client's own, what was written is the transcript, and after a write fault a beginning of one
 pub alone_is_transcript : AloneIsTranscript
 alone_is_transcript ending link before client own served =
     let same : link ≡ record { before = []; after = link.after; client = 0; bytes = link.bytes; written = link.written; left = link.left } =

@@ -3,6 +3,7 @@ use Rattle.std.specs.Prelude.{◌≡◌, ℕ, ◌+◌, ◌^◌, ◌≤◌, ◌�
 use Rattle.semantics.specs.Texts.{Text}
 use Rattle.protocol.specs.Lines.{Bytes, lines_of, whole_lines}
 use Rattle.protocol.specs.Requests.{request_of}
+use Rattle.protocol.specs.Replies.{long, reply_text}
 use Rattle.protocol.specs.Transcript.{transcript, memory_lines, outcome_of}
 use Rattle.protocol.specs.Session.{Ending, closed, quit_line, long_line, read_fault, write_fault, spent, no_memory, NothingLeft}
 
@@ -13,6 +14,10 @@ IsTranscript bytes ended written = written ≡ transcript bytes ended (memory_li
 -- the text begins with the first one
 abbrev pub BeginsText : Bytes → Bytes → Type 0
 BeginsText front text = (rest : Bytes) × (text ≡ front ++ rest)
+
+-- the text ends with the last one
+abbrev pub EndsText : Bytes → Bytes → Type 0
+EndsText last text = (front : Bytes) × (text ≡ front ++ last)
 
 -- one line more finds no memory: the one whose reply was not written whole
 abbrev pub memory_lines_and_next : Bytes → ℕ → Bool
@@ -44,7 +49,7 @@ pub record Streams : Type 0 where
 abbrev pub Ran : Ending → Streams → Type 0
 Ran closed s = IsTranscript s.bytes true s.written × NothingLeft s.left
 Ran quit_line s = IsTranscript s.bytes true s.written × (NothingLeft s.left ⊎ QuitsBefore s.bytes (memory_lines s.written))
-Ran long_line s = IsTranscript s.bytes false s.written × ((lines_of s.bytes false).long ≡ true)
+Ran long_line s = IsTranscript s.bytes false s.written × ((lines_of s.bytes false).long ≡ true) × EndsText (reply_text long) s.written
 Ran read_fault s = IsTranscript s.bytes false s.written
 Ran write_fault s = BeginsTranscript s.bytes (is_drained s.left) s.written
 Ran spent s = IsTranscript s.bytes false s.written × (2 ^ 40 ≤ length s.bytes)

@@ -8,7 +8,7 @@ use Rattle.protocol.specs.Replies.{Reply, done, answered, refused, unread, long,
 use Rattle.protocol.specs.Told.{Told}
 use Rattle.protocol.specs.Transcript.{reply_texts}
 
--- a line that is no request is answered by its fault, and `quit` by `bye`, where no want of memory comes first; what answers a write or a read is said by `Told`
+-- a line that is no request is answered by its fault, and `quit` by `bye`, unless no memory is found for it; what answers a write or a read is said by `Told`
 abbrev pub AnswersLine : Result Request LineFault → Reply → Type 0
 AnswersLine (Err fault) reply = (reply ≡ unread fault) ⊎ (reply ≡ memory)
 AnswersLine (Ok (write w)) reply = ⊤

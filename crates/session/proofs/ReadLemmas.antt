@@ -3,13 +3,13 @@ use Rattle.std.proofs.Common.{◌≡◌, ℕ, ◌+◌, ◌^◌, ◌<◌, ◌≤�
 use Rattle.std.specs.Prelude.{Option}
 use Rattle.semantics.specs.Texts.{Text}
 use Rattle.semantics.specs.Histories.{History}
-use Rattle.protocol.specs.Session.{Link, Served}
+use Rattle.protocol.specs.Session.{Served}
 use Rattle.pq_io.specs.Streams.{Gave, Took}
 use Rattle.pq_io.proofs.StreamLemmas.{Gave-nothing, Gave-append, Took-nothing}
 use Rattle.session.specs.declared.end.End.{End}
 use Rattle.session.specs.declared.end.End.TheVariants.{ReadFault, Spent, OutOfMemory}
 use Rattle.session.specs.Ends.{plain_end}
-use Rattle.session.specs.Serving.{IsShortLine, EndsAmongLines}
+use Rattle.session.specs.Serving.{IsShortLine}
 use Rattle.session.proofs.LineLemmas.{link_of, goes_on_at_first, ends_by_read_fault, ends_spent, ends_served}
 use Rattle.session.proofs.TakeLemmas.{EndsWith}
 use Rattle.session.proofs.PieceLemmas.{GoesOnWith, with_more, ends_with_more, ends_with_nothing}
@@ -88,7 +88,3 @@ given_spent count before now client left left1 taken taken1 line short all (byte
 -- no memory was found at first
 pub given_nothing : (view : History) (client : ℕ) (left taken : Option Text) → LinkServed OutOfMemory view view client left left taken taken
 given_nothing view client left taken = ([], [], Gave-nothing left, Took-nothing taken, (refl, refl, refl))
-
--- an end among the lines is no fault of reading
-pub no_read_fault : (end : End) (link : Link) → EndsAmongLines end link → end ≡ ReadFault → ⊥
-no_read_fault end link ends e = let P : End → Type 0 = λ x. EndsAmongLines x link in subst P e ends

@@ -15,6 +15,6 @@ pub enum End {
     WriteFault,
     /// The link gave bytes 2^40 times, and no other end came.
     Spent,
-    /// No memory was found for the lines. Nothing was read or written.
+    /// No memory was found at the start. Nothing was read or written, and the service is unchanged.
     OutOfMemory,
 }

@@ -11,8 +11,6 @@ use crate::{End, Service};
 use pq_io::{Failed, Link, write_link};
 use request_codec::{LineFault, Reply, Request, memory_line, read, write, write_ok};
 use std::alloc::Global;
-use std::sync::Wait;
-use std::thread::Threads;
 
 /// The line of `Bye`.
 const BYE_LINE: &[u8] = b"[\"bye\"]\n";
@@ -26,18 +24,13 @@ fn bye_line() -> &'static [u8]
 
 /// What a line is answered: its fault, `Bye` where it is `["quit"]`, or the service's answer. A line for which no memory
 /// is found is answered `Memory`, and the service is not asked.
-fn answer_line<R: Threads + Wait + Sync, S: Service>(
-    rt: &R,
-    alloc: Global,
-    service: &mut S,
-    line: &[u8],
-) -> Reply
+fn answer_line<S: Service>(alloc: Global, service: &mut S, line: &[u8]) -> Reply
     ensures served { Serves (S.view service.old) (S.view service.new) (S.number service.old) (line.now ∷ []) (plain_reply result ∷ []) }
     ensures same_number { S.number service.new ≡ S.number service.old }
 {
     match read(alloc, line) {
         Ok(Request::Quit) => Reply::Bye,
-        Ok(request) => service.answer(rt, request),
+        Ok(request) => service.answer(request),
         Err(LineFault::OutOfMemory) => Reply::Memory,
         Err(fault) => Reply::Unread(fault),
     }
@@ -84,6 +77,7 @@ fn send_reply<L: Link>(alloc: Global, link: &mut L, reply: &Reply) -> Result<(),
     ensures sent { (sent : PlainReply) × IsSentAs (plain_reply reply.now) sent × Sends result (L.taken link.old) (L.taken link.new) sent }
     ensures later { L.write_faults link.old ≤ L.write_faults link.new }
     ensures cause { result ≡ Err End.WriteFault → Rose (L.write_faults link.old) (L.write_faults link.new) }
+    ensures kept { result ≢ Err End.WriteFault → L.write_faults link.new ≡ L.write_faults link.old }
     ensures same_left { L.left link.new ≡ L.left link.old }
     ensures same_read_faults { L.read_faults link.new ≡ L.read_faults link.old }
     ensures same_borrows { L.borrows link.new ≡ L.borrows link.old }
@@ -108,8 +102,7 @@ fn send_reply<L: Link>(alloc: Global, link: &mut L, reply: &Reply) -> Result<(),
 
 /// Answers a line and writes its reply, before anything else is read.
 /// `Quit`: it was answered `Bye`. `WriteFault`: a write failed.
-pub fn serve_line<R: Threads + Wait + Sync, S: Service, L: Link>(
-    rt: &R,
+pub fn serve_line<S: Service, L: Link>(
     alloc: Global,
     service: &mut S,
     link: &mut L,
@@ -119,10 +112,11 @@ pub fn serve_line<R: Threads + Wait + Sync, S: Service, L: Link>(
     ensures same_number { S.number service.new ≡ S.number service.old }
     ensures later { L.write_faults link.old ≤ L.write_faults link.new }
     ensures cause { result ≡ Err End.WriteFault → Rose (L.write_faults link.old) (L.write_faults link.new) }
+    ensures kept { result ≢ Err End.WriteFault → L.write_faults link.new ≡ L.write_faults link.old }
     ensures same_left { L.left link.new ≡ L.left link.old }
     ensures same_read_faults { L.read_faults link.new ≡ L.read_faults link.old }
     ensures same_borrows { L.borrows link.new ≡ L.borrows link.old }
 {
-    let reply = answer_line(rt, alloc, service, line);
+    let reply = answer_line(alloc, service, line);
     send_reply(alloc, link, &reply)
 }

@@ -5,8 +5,6 @@ ghost use Rattle.protocol.specs.Told.{Told};
 ghost use Rattle.request_codec.specs.Plain.{plain_request, plain_reply};
 
 use request_codec::{Reply, Request};
-use std::sync::Wait;
-use std::thread::Threads;
 
 /// What answers the requests of one client.
 pub trait Service {
@@ -16,9 +14,10 @@ pub trait Service {
     /// The history that the client has seen.
     ghost view: { Self → History };
 
-    /// Answers a request other than `Quit`, over a history that goes on from the one that the client has seen. It may
-    /// wait for another client.
-    fn answer<R: Threads + Wait + Sync>(&mut self, rt: &R, request: Request) -> Reply
+    /// Answers a request other than `Quit`, over a history that goes on from the one that the client has seen. A service
+    /// that may wait, for a lock or another client, keeps the runtime in a field, and its impl block alone has the bound
+    /// for that. Each other one is proved to return.
+    fn answer(&mut self, request: Request) -> Reply
         requires { request ≢ Request.Quit }
         ensures told { Told (view self.old) (view self.new) (number self.old) (plain_request request ∷ []) (plain_reply result ∷ []) }
         ensures same_number { number self.new ≡ number self.old };

@@ -5,9 +5,7 @@ use crate::{End, Service, serve_link};
 use pq_io::{Failed, Link, MemLink, MemSink, MemSource};
 use request_codec::{Reply, Request};
 use std::alloc::Global;
-use std::sync::Wait;
 use std::test::Fail;
-use std::thread::Threads;
 
 // A service that finds memory for nothing, and counts what it was asked.
 #[derive(Drop)]
@@ -20,7 +18,7 @@ impl Service for Forgetful {
 
     ghost view = { λ _. [] };
 
-    fn answer<R: Threads + Wait + Sync>(&mut self, _rt: &R, request: Request) -> Reply {
+    fn answer(&mut self, request: Request) -> Reply {
         let _ = request;
         self.asked = self.asked.saturating_add(1);
         Reply::Memory
@@ -173,7 +171,7 @@ fn each_end_leaves_its_bytes(rt: HostRuntime) -> Result<(), Fail> {
             row.failing_writes,
         )?;
         assert_eq!(rt;
-            serve_link(&rt, rt.alloc(), &mut service, &mut link),
+            serve_link(rt.alloc(), &mut service, &mut link),
             row.end,
             "row {number}"
         );
@@ -192,7 +190,7 @@ fn cuts_change_nothing(rt: HostRuntime) -> Result<(), Fail> {
         let mut service = Forgetful { asked: 0 };
         let mut link = link_of(rt.alloc(), bytes, &[cut, 1, 2], &[], &[])?;
         assert_eq!(rt;
-            serve_link(&rt, rt.alloc(), &mut service, &mut link),
+            serve_link(rt.alloc(), &mut service, &mut link),
             End::Quit,
             "cut {cut}"
         );
@@ -210,7 +208,7 @@ fn a_line_may_be_too_long_by_one_byte(rt: HostRuntime) -> Result<(), Fail> {
     ] {
         let mut service = Forgetful { asked: 0 };
         let mut link = link_of(rt.alloc(), bytes.as_slice(), &[], &[], &[])?;
-        assert_eq!(rt; serve_link(&rt, rt.alloc(), &mut service, &mut link), end);
+        assert_eq!(rt; serve_link(rt.alloc(), &mut service, &mut link), end);
         assert_eq!(rt; link.bytes(), written);
         bytes.push(b'x')?;
     }
@@ -259,7 +257,7 @@ fn replies_are_written_before_the_next_read(rt: HostRuntime) -> Result<(), Fail>
         calls: Vec::new(rt.alloc()),
     };
     assert_eq!(rt;
-        serve_link(&rt, rt.alloc(), &mut service, &mut ordered),
+        serve_link(rt.alloc(), &mut service, &mut ordered),
         End::Closed
     );
     assert_eq!(rt; ordered.calls.as_slice(), b"rwwrwrwrw".as_slice());
@@ -279,10 +277,7 @@ fn nothing_is_read_after_the_end(rt: HostRuntime) -> Result<(), Fail> {
             link: link_of(rt.alloc(), bytes, cuts, reads, writes)?,
             calls: Vec::new(rt.alloc()),
         };
-        assert_eq!(rt;
-            serve_link(&rt, rt.alloc(), &mut service, &mut ordered),
-            end
-        );
+        assert_eq!(rt; serve_link(rt.alloc(), &mut service, &mut ordered), end);
         assert_eq!(rt; ordered.calls.as_slice(), calls);
     }
     Ok(())

@@ -2,7 +2,7 @@ use Rattle.std.proofs.Common.{◌≡◌, true, false, refl, sym, ap, subst, ◌�
 use Rattle.std.specs.Prelude.{is_err, if◌then◌else◌}
 use Rattle.protocol.specs.JoinsFile.{file_history, check_text}
 use Rattle.pq_io.specs.Streams.{Took, TookProperPrefix}
-use Rattle.pequod.specs.Statuses.{status_of_file, written, cut}
+use Rattle.pequod.specs.Statuses.{written, cut}
 use Rattle.pequod.proofs.check.check.Goals as goal
 
 pub returns-in-Err-clause-check : goal.returns-in-Err-clause-check

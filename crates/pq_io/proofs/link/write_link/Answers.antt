@@ -11,8 +11,8 @@ loop-done-preserved g c =
     record {
       within = omega (arith, wrote.bound, so_far.within, length-drop c.loop-done.done c.args.bytes.now);
       took = Took-take _ _ _ c.args.bytes.now c.loop-done.done c.in_ok-done.field-0 so_far.took took;
-      later = omega (arith, so_far.later, wrote.cause.later);
+      same_write_faults = wrote.cause.kept ∙ so_far.same_write_faults;
       same_left = wrote.same_left ∙ so_far.same_left;
-      same_faults = wrote.same_faults ∙ so_far.same_faults;
+      same_read_faults = wrote.same_faults ∙ so_far.same_read_faults;
       same_borrows = wrote.same_borrows ∙ so_far.same_borrows;
     }

@@ -13,8 +13,8 @@ loop-init g c =
       open_line = ap (λ (u : UnderWay). u.ended) c.in-Ok.ensures;
       line = subst IsShortLine (sym empty) (record { no_feed = refl; short = omega arith });
       same_number = refl;
-      reads_later = omega arith;
-      writes_later = omega arith;
+      same_read_faults = refl;
+      same_write_faults = refl;
       same_borrows = refl;
     }
 
@@ -30,8 +30,8 @@ loop-preserved g c =
       open_line = piece.open;
       line = piece.line;
       same_number = piece.same_number ∙ so_far.same_number;
-      reads_later = omega (arith, so_far.reads_later, read.cause.later, piece.same_read_faults);
-      writes_later = omega (arith, so_far.writes_later, read.same_faults, piece.later);
+      same_read_faults = piece.same_read_faults ∙ read.cause.kept ∙ so_far.same_read_faults;
+      same_write_faults = piece.kept (λ e. cc) ∙ read.same_faults ∙ so_far.same_write_faults;
       same_borrows = piece.same_borrows ∙ read.same_borrows ∙ so_far.same_borrows;
     }
 

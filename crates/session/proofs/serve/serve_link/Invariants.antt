@@ -1,5 +1,5 @@
 -- So far so many reads gave bytes.
-use Rattle.std.proofs.Common.{◌≡◌, ◌≤◌, false}
+use Rattle.std.proofs.Common.{◌≡◌, false}
 use Rattle.session.specs.Serving.{IsShortLine}
 use Rattle.session.proofs.ReadLemmas.{GivenWith}
 use Rattle.session.proofs.serve.serve_link.Given as goal
@@ -14,7 +14,7 @@ invariant-loop g l =
       open_line : l.lines.ended ≡ false;
       line : IsShortLine l.lines.line;
       same_number : g.S.Service.number l.service ≡ g.S.Service.number service;
-      reads_later : g.L.Link.read_faults link ≤ g.L.Link.read_faults l.link;
-      writes_later : g.L.Link.write_faults link ≤ g.L.Link.write_faults l.link;
+      same_read_faults : g.L.Link.read_faults l.link ≡ g.L.Link.read_faults link;
+      same_write_faults : g.L.Link.write_faults l.link ≡ g.L.Link.write_faults link;
       same_borrows : g.L.Link.borrows l.link ≡ g.L.Link.borrows link;
     }

@@ -15,7 +15,7 @@ invariant-loop-taken g l =
       open_line : l.lines.ended ≡ false;
       line : IsShortLine l.lines.line;
       same_number : g.S.Service.number l.service ≡ g.S.Service.number service;
-      later : g.L.Link.write_faults link ≤ g.L.Link.write_faults l.link;
+      same_write_faults : g.L.Link.write_faults l.link ≡ g.L.Link.write_faults link;
       same_left : g.L.Link.left l.link ≡ g.L.Link.left link;
       same_read_faults : g.L.Link.read_faults l.link ≡ g.L.Link.read_faults link;
       same_borrows : g.L.Link.borrows l.link ≡ g.L.Link.borrows link;

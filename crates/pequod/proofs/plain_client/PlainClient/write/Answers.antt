@@ -1,10 +1,9 @@
-use Rattle.std.proofs.Common.{◌≡◌, List, [], ◌∷◌, ◌++◌, length, None, sym, ap, subst, ◌∙◌}
-use Rattle.semantics.specs.Histories.{Entry}
+use Rattle.std.proofs.Common.{◌≡◌, [], ◌∷◌, ◌++◌, None, sym, ap, subst, ◌∙◌}
 use Rattle.semantics.specs.Verdicts.{verdict}
 use Rattle.join_types.specs.Causes.{plain_cause}
 use Rattle.join_types.specs.Writes.{plain_write}
 use Rattle.pequod.specs.Histories.{IsKept}
-use Rattle.pequod.proofs.Answering.{no_cause, kept_next, told_done_at, told_after}
+use Rattle.pequod.proofs.Answering.{no_cause, kept_next, told_after}
 use Rattle.pequod.proofs.plain_client.PlainClient.write.Goals as goal
 
 pub invariant_of-self-2 : goal.invariant_of-self-2

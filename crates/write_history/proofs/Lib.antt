@@ -3,3 +3,4 @@ pub mod Lists
 pub mod Seating
 pub mod Entering
 pub mod Turning
+pub mod Appending

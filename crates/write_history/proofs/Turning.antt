@@ -17,7 +17,7 @@ use Rattle.write_history.specs.Entries.{IsPrefix, IsWrite, IsRecorded, written_b
 use Rattle.write_history.specs.Stored.{Stored, IsLog}
 use Rattle.write_history.specs.Seats.{HasOwn, KnowsWriters, Apart, role_left, role_dealt}
 use Rattle.write_history.specs.Rule.{Fits, IsFree, IsTaken, Keeps, dealer}
-use Rattle.write_history.specs.Steps.{Sat, At, TakesTurn, took, freed, held_or, held_by, looked, stored_in, whole_by, entered, dealing, dealt, note_of, read_note, longer, informed, Agrees, agreed}
+use Rattle.write_history.specs.Steps.{Sat, TakesTurn, took, freed, held_or, held_by, looked, stored_in, whole_by, entered, dealing, dealt, note_of, read_note, longer, informed, Agrees, agreed}
 use Rattle.write_history.specs.declared.known.Kinds.{Kinds}
 use Rattle.write_history.specs.declared.known.Known.{Known}
 use Rattle.write_history.specs.declared.known.Role.{Role}
@@ -85,12 +85,12 @@ place_end h floor turn homes views w nothing place = ⊎_elim
 
 -- ---- numbers that are dealt
 
-apart_left : (role : Role) (next : ℕ) → Apart role (Deals next) → Apart role (Deals (suc next))
+apart_left : (role : Role) (next : ℕ) → Apart role (Deals next) → Apart role (Deals (next + 1))
 apart_left (Deals other) next apart = absurd apart
 apart_left (Numbered number) next apart = omega arith
 apart_left Notes next apart = tt
 
-apart_left_first : (role : Role) (next : ℕ) → Apart (Deals next) role → Apart (Deals (suc next)) role
+apart_left_first : (role : Role) (next : ℕ) → Apart (Deals next) role → Apart (Deals (next + 1)) role
 apart_left_first (Deals other) next apart = absurd apart
 apart_left_first (Numbered number) next apart = omega arith
 apart_left_first Notes next apart = tt
@@ -105,8 +105,8 @@ apart_dealt_first (Deals other) next apart = absurd apart
 apart_dealt_first (Numbered number) next apart = λ same. absurd (omega arith)
 apart_dealt_first Notes next apart = tt
 
-lt_suc : (n : ℕ) → n < suc n
-lt_suc n = omega arith
+lt_next : (n : ℕ) → n < n + 1
+lt_next n = omega arith
 
 -- a note is apart from each seat
 apart_note : (role : Role) → Apart role Notes
@@ -160,7 +160,7 @@ fits_after kinds h floor number e u by apart fit = record {
 }
 
 -- the log with an entry more, by its holder, is the whole history with it
-whole_is : (m : Sat) (h : History) (log : Stored) (e : Entry) → m.0.held ≡ Some h → m.1 ≡ (0, log) ∷ [] → m.0.floor ≤ length h → IsLog (h ++ e ∷ []) m.0.floor log → whole_by m ≡ h ++ e ∷ []
+pub whole_is : (m : Sat) (h : History) (log : Stored) (e : Entry) → m.0.held ≡ Some h → m.1 ≡ (0, log) ∷ [] → m.0.floor ≤ length h → IsLog (h ++ e ∷ []) m.0.floor log → whole_by m ≡ h ++ e ∷ []
 whole_is m h log e held has low is_log =
     let known : held_by m.0 ≡ h = ap (held_or []) held in
     let more : History = h ++ e ∷ [] in
@@ -168,6 +168,10 @@ whole_is m h log e held has low is_log =
     ∙ ap (λ es. take m.0.floor h ++ es) is_log.entries
     ∙ ap (λ es. es ++ drop m.0.floor more) (sym (take-append-le m.0.floor h (e ∷ []) low))
     ∙ take-append-drop m.0.floor more
+
+-- a turn that was found free is taken, and one that was taken stays so
+pub exchange_takes : (n : ℕ) → 0 < either (n == 0) 1 n
+exchange_takes n = exchanged n 0 1 (λ k. 0 < k) (λ is_zero. omega arith) (λ isnt_zero. omega arith)
 
 module _ (kinds : Kinds) where
   abbrev Rule : State Stored Known → Type 0
@@ -257,8 +261,8 @@ module _ (kinds : Kinds) where
           (λ other. absurd (holds_none v h (taken.others id v (λ e. other (sym e)) at) held)))
       k.place
 
-  pub takes_turn : (id : ℕ) (m : Sat) (number : ℕ) (f : ℕ → ℕ) (st : At) → m.0.role ≡ Numbered number → m.0.held ≡ None → ((n : ℕ) → 0 < f n) → Allows Rule 1 id m 0 f (took st m)
-  takes_turn id m number f st numbered nothing positive s k deep at small =
+  pub takes_turn : (slots id : ℕ) (m : Sat) (number : ℕ) (f : ℕ → ℕ) → m.0.role ≡ Numbered number → m.0.held ≡ None → ((n : ℕ) → 0 < f n) → Allows Rule slots id m 0 f (took m)
+  takes_turn slots id m number f numbered nothing positive s k deep at small =
       let first : get_or s.words 0 0 ≡ k.turn = ap (λ ws. get_or ws 0 0) k.words in
       let turn : ℕ = f (get_or s.words 0 0) in
       let fit = k.fits id m.0 at in
@@ -326,8 +330,8 @@ module _ (kinds : Kinds) where
       ))
       k.place
 
-  pub frees_turn : (id : ℕ) (m : Sat) (h : History) (log : Stored) (st : At) → m.0.held ≡ Some h → m.1 ≡ (0, log) ∷ [] → IsLog h m.0.floor log → Allows Rule 1 id m 0 (λ n. 0) (freed st m)
-  frees_turn id m h log st held has is_log s k deep at small =
+  pub frees_turn : (slots id : ℕ) (m : Sat) (h : History) (log : Stored) → m.0.held ≡ Some h → m.1 ≡ (0, log) ∷ [] → IsLog h m.0.floor log → Allows Rule slots id m 0 (λ n. 0) (freed m)
+  frees_turn slots id m h log held has is_log s k deep at small =
       let t = mine s k id m.0 h at held in
       let taken = t.0 in
       let fit = k.fits id m.0 at in
@@ -358,8 +362,8 @@ module _ (kinds : Kinds) where
 
   -- ---- under the turn
 
-  pub looks : (id : ℕ) (m : Sat) (h : History) (st : At) → m.0.held ≡ Some h → Allows Rule 1 id m 1 (λ n. n) (looked st m)
-  looks id m h st held s k deep at small =
+  pub looks : (slots id : ℕ) (m : Sat) (h : History) → m.0.held ≡ Some h → Allows Rule slots id m 1 (λ n. n) (looked m)
+  looks slots id m h held s k deep at small =
       let t = mine s k id m.0 h at held in
       let fit = k.fits id m.0 at in
       let known : held_by m.0 ≡ k.history = ap (held_or []) held ∙ sym t.2 in
@@ -388,10 +392,10 @@ module _ (kinds : Kinds) where
         (ap (λ ws. get_or ws 1 0) k.words ∙ ap length (sym known), refl),
       )
 
-  pub enters : (id : ℕ) (m : Sat) (number : ℕ) (h : History) (log : Stored) (e : Entry) (new : ℕ) (st : At) → m.0.role ≡ Numbered number → m.0.held ≡ Some h → m.1 ≡ (0, log) ∷ [] →
+  pub enters : (slots id : ℕ) (m : Sat) (number : ℕ) (h : History) (log : Stored) (e : Entry) (new : ℕ) → m.0.role ≡ Numbered number → m.0.held ≡ Some h → m.1 ≡ (0, log) ∷ [] →
       m.0.floor ≤ length h → IsLog (h ++ e ∷ []) m.0.floor log → e.client ≡ number → number < m.0.writers → verdict e.write h ≡ None → IsWrite e.write → new ≡ length h + 1 →
-      Allows Rule 1 id m 1 (λ n. new) (λ n. entered st m new)
-  enters id m number h log e new st numbered held has low is_log by below free write count s k deep at small =
+      Allows Rule slots id m 1 (λ n. new) (λ n. entered m new)
+  enters slots id m number h log e new numbered held has low is_log by below free write count s k deep at small =
       let t = mine s k id m.0 h at held in
       let fit = k.fits id m.0 at in
       let knows : m.0.writers ≡ kinds.writers = subst (KnowsWriters kinds.writers m.0.writers) numbered fit.knows in
@@ -427,8 +431,8 @@ module _ (kinds : Kinds) where
 
   -- ---- numbers and notes
 
-  pub agrees : (id : ℕ) (m : Sat) (number : ℕ) (st : At) → m.0.role ≡ Numbered number → m.0.held ≡ None → Allows Rule 1 id m 1 (λ n. n) (agreed st m)
-  agrees id m number st numbered nothing s k deep at small =
+  pub agrees : (slots id : ℕ) (m : Sat) (number : ℕ) → m.0.role ≡ Numbered number → m.0.held ≡ None → Allows Rule slots id m 1 (λ n. n) (agreed m)
+  agrees slots id m number numbered nothing s k deep at small =
       let fit = k.fits id m.0 at in
       let knows : m.0.writers ≡ kinds.writers = subst (KnowsWriters kinds.writers m.0.writers) numbered fit.knows in
       let more : History = longer m.0.seen m.0.told in
@@ -460,7 +464,7 @@ module _ (kinds : Kinds) where
   unfolding turns
   deals id v next deal nothing s k at =
       let fit = k.fits id v at in
-      let left_is : (dealing v).role ≡ Deals (suc next) = ap role_left deal in
+      let left_is : (dealing v).role ≡ Deals (next + 1) = ap role_left deal in
       let dealt_is : (dealt v).role ≡ Numbered next = ap role_dealt deal in
       let own : HasOwn k.history v.seen (Deals next) = subst (HasOwn k.history v.seen) deal fit.own in
       let knows : v.writers ≡ kinds.writers = subst (KnowsWriters kinds.writers v.writers) deal fit.knows in
@@ -481,7 +485,7 @@ module _ (kinds : Kinds) where
           }) in
       comes record { words = s.words; homes = s.homes; views = set s.views id (dealing v) } left (dealt v) refl
       (all_set (λ seat u. Apart u.role (dealt v).role × Apart (dealt v).role u.role) s.views id (dealing v)
-        (subst (λ (x : Role × Role). Apart x.0 x.1 × Apart x.1 x.0) (λ i. (sym left_is i, sym dealt_is i)) (lt_suc next, lt_suc next))
+        (subst (λ (x : Role × Role). Apart x.0 x.1 × Apart x.1 x.0) (λ i. (sym left_is i, sym dealt_is i)) (lt_next next, lt_next next))
         (λ seat u other at'. let a = away seat u other at' in (
           subst (Apart u.role) (sym dealt_is) (apart_dealt u.role next a.0),
           subst (λ r. Apart r u.role) (sym dealt_is) (apart_dealt_first u.role next a.1),

@@ -1,5 +1,5 @@
 -- What the seats of a history know of their own entries, and how their numbers differ.
-use Rattle.std.specs.Prelude.{◌≡◌, ◌≢◌, ℕ, suc, ◌<◌, ◌≤◌, []}
+use Rattle.std.specs.Prelude.{◌≡◌, ◌≢◌, ℕ, ◌+◌, ◌<◌, ◌≤◌, []}
 use Rattle.semantics.specs.Histories.{History}
 use Rattle.write_history.specs.Entries.{written_by}
 use Rattle.write_history.specs.declared.known.Role.{Role}
@@ -29,7 +29,7 @@ Apart Notes role = Unit {0}
 
 -- the role of the seat that deals a number, and of the seat that is dealt it
 abbrev pub role_left : Role → Role
-role_left (Deals next) = Deals (suc next)
+role_left (Deals next) = Deals (next + 1)
 role_left (Numbered number) = Numbered number
 role_left Notes = Notes
 

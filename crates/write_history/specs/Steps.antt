@@ -1,6 +1,6 @@
 -- What each step on the table tells the seat that makes it.
 use Rattle.std.specs.Prelude.{◌≡◌, ◌≢◌, ℕ, List, [], ◌∷◌, ◌++◌, length, take, nat_le, max, if◌then◌else◌, Option, Some, None}
-use Rattle.atomic_table.specs.Table.{Me, Step, rest}
+use Rattle.atomic_table.specs.Table.{Me, rest}
 use Rattle.atomic_table.specs.Seated.{TableId}
 use Rattle.semantics.specs.Histories.{History}
 use Rattle.write_history.specs.Entries.{IsPrefix, IsRecorded}
@@ -14,14 +14,9 @@ use Rattle.write_history.specs.declared.known.Role.TheVariants.{Numbered, Notes}
 abbrev pub Sat : Type 0
 Sat = Me Stored Known
 
--- the table has a word for the turn, for the number of entries and for the floor, and a slot for the log
-pub record IsSized (table : TableId) : Type 0 where
-  pub words : table.words ≡ 3
-  pub slots : table.slots ≡ 1
-
--- one step on a word of the table
-abbrev pub At : Type 0
-At = Step Stored
+-- the table has a word for the turn, one for the number of entries, and one for the floor
+abbrev pub IsSized : TableId → Type 0
+IsSized table = table.words ≡ 3
 
 -- ---- the turn
 
@@ -38,12 +33,12 @@ pub record TakesTurn (m m' : Sat) : Type 0 where
   pub is : m' ≡ (record m.0 { floor = floor; held = Some history }, (0, log) ∷ m.1)
 
 -- take the turn, and the log with it, where the turn is found free; otherwise nothing changes
-abbrev pub took : At → Sat → ℕ → Sat → Type 0
-took st m found m' = (found ≡ 0 → TakesTurn m m') × (found ≢ 0 → m' ≡ m)
+abbrev pub took : Sat → ℕ → Sat → Type 0
+took m found m' = (found ≡ 0 → TakesTurn m m') × (found ≢ 0 → m' ≡ m)
 
 -- put the log back, and free the turn
-abbrev pub freed : At → Sat → ℕ → Sat → Type 0
-freed st m found m' = m' ≡ (record m.0 { held = None }, rest m.1)
+abbrev pub freed : Sat → ℕ → Sat → Type 0
+freed m found m' = m' ≡ (record m.0 { held = None }, rest m.1)
 
 -- ---- under the turn
 
@@ -56,8 +51,8 @@ abbrev pub held_by : Known → History
 held_by v = held_or [] v.held
 
 -- look: all entries are seen, and their number is found
-abbrev pub looked : At → Sat → ℕ → Sat → Type 0
-looked st m found m' = (found ≡ length (held_by m.0)) × (m' ≡ (record m.0 { seen = held_by m.0 }, m.1))
+abbrev pub looked : Sat → ℕ → Sat → Type 0
+looked m found m' = (found ≡ length (held_by m.0)) × (m' ≡ (record m.0 { seen = held_by m.0 }, m.1))
 
 -- the entries that are stored in the log which the seat has
 abbrev pub stored_in : List (ℕ × Stored) → History
@@ -75,8 +70,8 @@ pub record HasLog (h : History) (log : Stored) (m : Sat) : Type 0 where
   pub is_log : IsLog h m.0.floor log
 
 -- enter: what the log has is the history now, and is seen
-abbrev pub entered : At → Sat → ℕ → Sat → Type 0
-entered st m found m' = m' ≡ (record m.0 { seen = whole_by m; held = Some (whole_by m) }, m.1)
+abbrev pub entered : Sat → ℕ → Sat → Type 0
+entered m found m' = m' ≡ (record m.0 { seen = whole_by m; held = Some (whole_by m) }, m.1)
 
 -- ---- numbers and notes
 
@@ -112,8 +107,8 @@ pub record Agrees (m m' : Sat) : Type 0 where
   pub is : m' ≡ (record m.0 { seen = longer m.0.seen m.0.told; told = [] }, m.1)
 
 -- look without the turn
-abbrev pub agreed : At → Sat → ℕ → Sat → Type 0
-agreed st m found m' = Agrees m m'
+abbrev pub agreed : Sat → ℕ → Sat → Type 0
+agreed m found m' = Agrees m m'
 
 -- between calls a pass has its number and a view that may stand in a history, and neither the turn nor a note
 pub record IsResting (number : ℕ) (m : Sat) : Type 0 where
@@ -122,3 +117,16 @@ pub record IsResting (number : ℕ) (m : Sat) : Type 0 where
   pub none_told : m.0.told ≡ []
   pub none_held : m.0.held ≡ None
   pub recorded : IsRecorded m.0.writers m.0.seen
+
+-- the seat was told of entries: it has seen the longer of these and of what it had seen, which begins with both and has no entries of its number besides
+pub record Learns (m : Sat) (told : History) (m' : Sat) : Type 0 where
+  pub begins : IsPrefix m.0.seen m'.0.seen
+  pub knows : IsPrefix told m'.0.seen
+  pub longer_is : m'.0.seen ≡ longer m.0.seen told
+  pub own : HasOwn m'.0.seen m.0.seen m.0.role
+  pub recorded : IsRecorded m.0.writers m'.0.seen
+  pub same_role : m'.0.role ≡ m.0.role
+  pub same_writers : m'.0.writers ≡ m.0.writers
+  pub empty : m'.1 ≡ m.1
+  pub none_told : m'.0.told ≡ []
+  pub none_held : m'.0.held ≡ m.0.held

@@ -4,6 +4,7 @@ use join_types::Entry;
 use std::collections::LinkedList;
 
 /// How many passes there are of each kind.
+#[derive(Debug, Drop)]
 pub struct Kinds {
     /// Those that may write, with the least numbers.
     pub writers: u32,

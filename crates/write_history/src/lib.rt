@@ -1,18 +1,26 @@
-// Which updaters a written key concerns: ids with the source ranges that each has registered, and the ids that are marked,
-// in the order of marking.
+// The write history that all threads share: one list of entries, to which each pass of it appends.
 //
-// It stands on `out_of_memory`, `key_space` and, for its definitions, on `semantics` and `key_ranges`. The layers above may
-// use `UpdaterIndex`: contracts see it as the list of the ranges of each id, and the list of the marked ids. Below it,
-// `forks` finds the ranges that contain a key by the place where the bounds of each range part.
+// It stands on `out_of_memory`, `key_space`, `join_types`, `join_set`, `atomic_table` and, for its definitions, on
+// `semantics`. The layers above may use `History`, `Pass` and `AppendFault`: contracts see a history as which one it is,
+// and a pass as its number, the number of passes that may write, and the entries that it has seen. All views of one
+// history are beginnings of one list.
+//
+// The history is a table of words and one slot. Word 0 is the turn, word 1 the number of entries, and word 2 the number
+// of first entries that the log no longer stores. The slot holds the log, and whoever has the turn has the log too. What
+// is true of the words, the slot and the passes at any moment is the rule of `specs/Rule.antt`, and what each step tells
+// is in `specs/Steps.antt`.
 #![tactic(auto)]
 
-mod bounds;
-mod fork;
-mod forks;
-pub mod index;
-mod marks;
-mod registered;
-mod side;
+mod entry_list;
+mod fault;
+mod history;
+mod known;
+mod log;
+mod pass;
+mod plays;
+mod rule;
+mod turn;
 
-pub use index::UpdaterIndex;
-
+pub use fault::AppendFault;
+pub use history::History;
+pub use pass::Pass;

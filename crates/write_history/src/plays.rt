@@ -9,35 +9,35 @@ use atomic_table::{Join, Play, Split};
 pub(crate) struct Take;
 
 impl Play<Log, Known> for Take {
-    ghost then = { took };
+    ghost then = { λ _. took };
 }
 
 /// Put the log back, and free the turn.
 pub(crate) struct Free;
 
 impl Play<Log, Known> for Free {
-    ghost then = { freed };
+    ghost then = { λ _. freed };
 }
 
 /// Look under the turn.
 pub(crate) struct Look;
 
 impl Play<Log, Known> for Look {
-    ghost then = { looked };
+    ghost then = { λ _. looked };
 }
 
 /// Enter.
 pub(crate) struct Enter;
 
 impl Play<Log, Known> for Enter {
-    ghost then = { entered };
+    ghost then = { λ _. entered };
 }
 
 /// Look without the turn.
 pub(crate) struct Agree;
 
 impl Play<Log, Known> for Agree {
-    ghost then = { agreed };
+    ghost then = { λ _. agreed };
 }
 
 /// Give out the next number.

@@ -2,12 +2,12 @@
 ghost use Rattle.std.specs.Prelude.{◌≡◌, ℕ, ◌-◌, ◌<◌, ◌≤◌, [], length, take, drop, IfOk, IfErr, OnErr, Some};
 ghost use Rattle.semantics.specs.Histories.{History};
 ghost use Rattle.write_history.specs.Stored.{Stored};
-ghost use Rattle.write_history.specs.Steps.{HasLog, IsResting, IsSized, TakesTurn, held_by};
+ghost use Rattle.write_history.specs.Steps.{HasLog, IsResting, IsSized, Learns, TakesTurn, held_by};
 ghost use Rattle.write_history.specs.Takes.{Carries, Declines, Enters, SaysVerdict};
 ghost use Rattle.write_history.specs.declared.known.Role.TheVariants.{Numbered};
 
 use crate::fault::AppendFault;
-use crate::plays::{Enter, Free, Look, Take};
+use crate::plays::{Agree, Enter, Free, Look, Note, Take};
 use crate::rule::{Place, SharedBoard};
 use join_types::Entry;
 use out_of_memory::OutOfMemory;
@@ -18,7 +18,7 @@ use std::sync::Wait;
 const TURN: usize = 0;
 
 /// The word of the number of entries.
-pub(crate) const COUNT: usize = 1;
+const COUNT: usize = 1;
 
 /// The slot of the log.
 const LOG: usize = 0;
@@ -131,4 +131,18 @@ pub(crate) fn copy_entries(
 {
     let log = place.slot_mut(board, LOG);
     log.copy(alloc, from, to)
+}
+
+/// One seat tells another what it has seen, by a note. The other then has seen the longer of the two.
+pub(crate) fn tell(board: &SharedBoard, place: &mut Place, other: &mut Place)
+    requires sized { IsSized board.now.table_id }
+    requires own { (place.old.table_id ≡ board.now.table_id) × (other.old.table_id ≡ board.now.table_id) }
+    requires resting { ((number : ℕ) × IsResting number place.old.me) × ((number : ℕ) × IsResting number other.old.me) }
+    ensures own { (place.new.table_id ≡ place.old.table_id) × (other.new.table_id ≡ other.old.table_id) }
+    ensures unchanged { place.new.me ≡ place.old.me }
+    ensures told { Learns other.old.me place.old.me.0.seen other.new.me }
+{
+    let note = board.split_seat::<Note>(place);
+    board.join_seat::<Note>(other, note);
+    board.load::<Agree>(other, COUNT);
 }

@@ -9,7 +9,7 @@ use Rattle.semantics.specs.Texts.{Text, same, table_of, is_range, Range, within}
 use Rattle.semantics.specs.Histories.{Write, put, remove, declare, Entry, History}
 use Rattle.semantics.proofs.PieceLemmas.{same_by_equal}
 use Rattle.key_ranges.proofs.RangeLemmas.{within_table}
-use Rattle.range_evaluation.specs.Changes.{written, in_order, changed_keys}
+use Rattle.growing_history.specs.Changes.{written, in_order, changed_keys}
 use Rattle.base_versions.specs.declared.changes.Change.{Change}
 use Rattle.base_versions.specs.Changes.{change_by, changes_from, changes_of, Ascend, is_between, keys_within, changed_in}
 use Rattle.base_versions.proofs.PositionLemmas.{ascend_from_less, IsCut, taken-cut, dropped-cut}

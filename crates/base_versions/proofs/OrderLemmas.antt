@@ -7,7 +7,7 @@ use Rattle.std.proofs.lemmas.List.{append-nil, map-append, take_more}
 use Rattle.std.proofs.lemmas.List.Elements.{filter-append}
 use Rattle.std.proofs.lemmas.List.Sums.{fold_push}
 use Rattle.semantics.specs.Texts.{Text, text_cmp, Table, with_pair, Range, within}
-use Rattle.range_evaluation.specs.Changes.{in_order}
+use Rattle.growing_history.specs.Changes.{in_order}
 use Rattle.base_versions.specs.declared.changes.Change.{Change}
 use Rattle.base_versions.specs.Changes.{keys_within}
 

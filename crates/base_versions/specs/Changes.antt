@@ -2,7 +2,7 @@
 use Rattle.std.specs.Prelude.{ℕ, ◌+◌, ◌&&◌, List, [], ◌∷◌, ◌++◌, map, filter, nat_le, nat_lt, Bool, if◌then◌else◌}
 use Rattle.semantics.specs.Texts.{Text, same, table_of, Range, within}
 use Rattle.semantics.specs.Histories.{Write, put, remove, declare, History}
-use Rattle.range_evaluation.specs.Changes.{in_order}
+use Rattle.growing_history.specs.Changes.{in_order}
 use Rattle.base_versions.specs.Positions.{AscendBy}
 use Rattle.base_versions.specs.declared.changes.Change.{Change}
 

@@ -2,7 +2,7 @@
 use Rattle.std.specs.Prelude.{◌≡◌, ℕ, ◌≤◌, take, true}
 use Rattle.semantics.specs.Texts.{Text, table_of, is_range, Range, value_at}
 use Rattle.semantics.specs.Histories.{History, base_of}
-use Rattle.range_evaluation.specs.Changes.{changed_keys}
+use Rattle.growing_history.specs.Changes.{changed_keys}
 use Rattle.base_versions.specs.Versions.{value_in, versions_of}
 use Rattle.base_versions.specs.Changes.{changed_in, changes_of}
 

@@ -2,7 +2,7 @@
 ghost use Rattle.std.specs.Prelude.{◌≡◌, ◌+◌, ◌^◌, ◌<◌, ◌≤◌, [], ◌∷◌, ◌++◌, IfOk, OnOk, OnErr, length, option_copied, take, true};
 ghost use Rattle.semantics.specs.Texts.{pairs_within, table_of, value_at};
 ghost use Rattle.semantics.specs.Histories.{History, base_of};
-ghost use Rattle.range_evaluation.specs.Changes.{changed_keys};
+ghost use Rattle.growing_history.specs.Changes.{changed_keys};
 ghost use Rattle.base_versions.specs.Kept.{StandsFor, HasEnteredInPart, IsChanged, IsEntered, IsKept, has_table, named, shard_of};
 
 use crate::table::TableVersions;

@@ -1,6 +1,6 @@
 // The changes of one table.
 ghost use Rattle.std.specs.Prelude.{◌≡◌, IfOk, filter};
-ghost use Rattle.range_evaluation.specs.Changes.{in_order};
+ghost use Rattle.growing_history.specs.Changes.{in_order};
 ghost use Rattle.base_versions.specs.Changes.{Ascend, is_between, keys_within};
 
 use key_space::{Key, Range};

@@ -1,15 +1,11 @@
 -- What a client is told: how replies stand to the history that it has seen before and after.
-use Rattle.std.specs.Prelude.{◌≡◌, ℕ, ◌+◌, ◌-◌, ◌<◌, ◌≤◌, ◌==◌, List, [], ◌∷◌, ◌++◌, length, take, drop, filter, filter_map, map, slice_get, Option, Some, None, ⊤}
+use Rattle.std.specs.Prelude.{◌≡◌, ℕ, ◌+◌, ◌-◌, ◌<◌, ◌≤◌, ◌==◌, List, [], ◌∷◌, length, take, drop, filter, filter_map, map, slice_get, Option, Some, None, ⊤}
 use Rattle.std.specs.List.{AllZip, enumerate_from}
-use Rattle.semantics.specs.Histories.{History}
+use Rattle.semantics.specs.Histories.{History, IsPrefix}
 use Rattle.semantics.specs.Verdicts.{verdict}
 use Rattle.semantics.specs.Answers.{Answer, found, absent, pairs, answer}
 use Rattle.protocol.specs.Requests.{Request, write, read, quit}
 use Rattle.protocol.specs.Replies.{Reply, done, answered, refused, unread, long, memory, bye}
-
--- the first view is a beginning of the second
-abbrev pub BeginsView : History → History → Type 0
-BeginsView before after = (more : History) × (after ≡ before ++ more)
 
 -- the position of an answer is its first number
 abbrev pub answer_position : Answer → ℕ
@@ -65,7 +61,7 @@ own_positions client position entries = map (λ p. p.0) (filter (λ p. p.1.clien
 
 -- `Told`: how a client with a number is answered between two views
 pub record Told (before after : History) (client : ℕ) (requests : List Request) (replies : List Reply) : Type 0 where
-  pub grows : BeginsView before after
+  pub grows : IsPrefix before after
   pub answers : AllZip (Answers after client) requests replies
   pub ordered : InOrder (length before) (length after) replies
   pub own : own_positions client (length before + 1) (drop (length before) after) ≡ done_positions replies

@@ -3,9 +3,6 @@ pub mod GivenLemmas
 pub mod ListedLemmas
 pub mod FollowedLemmas
 pub mod AskedLemmas
-pub mod ChangeLemmas
-pub mod TableNameLemmas
-pub mod UnchangedLemmas
 pub mod OnceLemmas
 pub mod PlacedLemmas
 pub mod PathLemmas

@@ -16,12 +16,12 @@ use Rattle.semantics.proofs.OutputLemmas.{sources_of_join}
 use Rattle.key_ranges.specs.Containing.{containing}
 use Rattle.key_ranges.proofs.ContainingLemmas.{containing_holds}
 use Rattle.range_evaluation.specs.Trees.{Need, placed_sources, under, over, needs_from, tree}
-use Rattle.range_evaluation.specs.TreeLaws.{HasKeys}
+use Rattle.growing_history.specs.Entered.{HasKeys}
 use Rattle.range_evaluation.specs.PathLaws.{IsPath, HoldsNext, NeedsHoldNext, CameByPath, NeedsCameByPaths, HasHeldPath, NeedsHoldTheirPaths}
 use Rattle.range_evaluation.proofs.GivenLemmas.{binds_less}
 use Rattle.range_evaluation.proofs.NeedLemmas.{after_pair, of_range}
 use Rattle.range_evaluation.proofs.FollowedLemmas.{HasShortKey, short_keys}
-use Rattle.range_evaluation.proofs.OnceLemmas.{all_from_has, has_of_all}
+use Rattle.growing_history.proofs.ElementLemmas.{all_from_has, has_of_all}
 
 -- ---- the sources with their places
 

@@ -11,7 +11,7 @@ use Rattle.semantics.proofs.MemberLemmas.{Has, has_filter, has_append_cases}
 use Rattle.range_evaluation.specs.Trees.{placed_sources}
 use Rattle.range_evaluation.specs.PathLaws.{SourcesArePlaced}
 use Rattle.range_evaluation.proofs.NeedLemmas.{unplaced-placed_sources}
-use Rattle.range_evaluation.proofs.OnceLemmas.{all_from_has, has_of_all}
+use Rattle.growing_history.proofs.ElementLemmas.{all_from_has, has_of_all}
 
 -- a source with a place
 abbrev Placed : Type 0

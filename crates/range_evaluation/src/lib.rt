@@ -1,10 +1,9 @@
-// How the output of a join over a range is found from ranges of its sources, and what changes between two positions.
+// How the output of a join over a range is found from ranges of its sources.
 //
-// It stands on `semantics` and `key_ranges`. `specs/` has the definitions; the modules below have no code: each public
+// It stands on `semantics`, `key_ranges` and `growing_history`. `specs/` has the definitions; the modules below have no code: each public
 // function has an empty body, and its contract is a law on the definitions, or a row that is computed with them.
 #![tactic(auto)]
 
-pub mod change_laws;
 pub mod contribution_laws;
 pub mod path_laws;
 pub mod tree_laws;

@@ -1,5 +1,5 @@
 -- Writes, entries and the history; the joins that stand and the base pairs are folds over it.
-use Rattle.std.specs.Prelude.{ℕ, ◌+◌, List, [], ◌∷◌, ◌++◌, fold, Bool, not}
+use Rattle.std.specs.Prelude.{◌≡◌, ℕ, ◌+◌, List, [], ◌∷◌, ◌++◌, fold, Bool, not}
 use Rattle.std.specs.List.{list_any}
 use Rattle.semantics.specs.Texts.{Text, Table, with_pair, without_key, pairs_where}
 use Rattle.semantics.specs.Patterns.{fits}
@@ -18,6 +18,10 @@ pub record Entry : Type 0 where
 -- the history: entries in order, their positions counted from 1
 abbrev pub History : Type 0
 History = List Entry
+
+-- the second history begins with the first
+abbrev pub IsPrefix : History → History → Type 0
+IsPrefix before after = (more : History) × (after ≡ before ++ more)
 
 -- a join that stands is named by the position of its declaration
 pub record DeclaredJoin : Type 0 where

@@ -1,5 +1,5 @@
 use Rattle.std.proofs.Common.{◌≡◌, take}
-use Rattle.range_evaluation.specs.Changes.{in_order}
+use Rattle.growing_history.specs.Changes.{in_order}
 use Rattle.base_versions.specs.Changes.{keys_within}
 use Rattle.base_versions.proofs.changes.keys_in_order.Given as goal
 

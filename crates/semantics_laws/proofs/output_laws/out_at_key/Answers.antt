@@ -1,5 +1,5 @@
 use Rattle.semantics.proofs.GatherLemmas.{value_at-out}
-use Rattle.laws.proofs.output_laws.out_at_key.Goals as goal
+use Rattle.semantics_laws.proofs.output_laws.out_at_key.Goals as goal
 
 pub returns : goal.returns
 returns c = value_at-out

@@ -1,7 +1,7 @@
 use Rattle.std.proofs.Common.{◌≡◌, sym, ◌∙◌, ap, refl, subst}
 use Rattle.std.proofs.lemmas.Result.{IfOk-weaker}
 use Rattle.semantics.specs.Texts.{table_of}
-use Rattle.range_evaluation.specs.Changes.{changed_keys}
+use Rattle.growing_history.specs.Changes.{changed_keys}
 use Rattle.base_versions.specs.Changes.{Ascend, changed_in, changes_of}
 use Rattle.base_versions.specs.Kept.{TableKept, StandsFor}
 use Rattle.base_versions.proofs.ChangeLemmas.{ascend-changes_of, changed_in-changes_of}

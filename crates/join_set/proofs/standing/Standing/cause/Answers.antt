@@ -4,7 +4,7 @@ use Rattle.join_types.specs.Writes.{plain_write}
 use Rattle.join_set.specs.Summaries.{Summary}
 use Rattle.join_set.proofs.CauseLemmas.{few_below}
 use Rattle.join_set.proofs.SummaryLemmas.{cause_over-full, cause_over-room}
-use Rattle.join_set.proofs.standing.DeclaredJoin.cause.Goals as goal
+use Rattle.join_set.proofs.standing.Standing.cause.Goals as goal
 
 pub returns-then-self-ge-FULL : goal.returns-then-self-ge-FULL
 returns-then-self-ge-FULL c =

@@ -3,7 +3,7 @@ use Rattle.std.proofs.lemmas.Result.{on_ok_weaker}
 use Rattle.join_types.specs.Writes.{plain_write}
 use Rattle.join_set.specs.Summaries.{Summary, StandsFor}
 use Rattle.join_set.proofs.SummaryLemmas.{StandsFor-push}
-use Rattle.join_set.proofs.standing.DeclaredJoin.enter.Goals as goal
+use Rattle.join_set.proofs.standing.Standing.enter.Goals as goal
 
 pub returns-clause-history : goal.returns-clause-history
 returns-clause-history c =

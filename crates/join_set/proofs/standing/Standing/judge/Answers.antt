@@ -2,7 +2,7 @@ use Rattle.std.proofs.Common.{◌∙◌}
 use Rattle.std.proofs.lemmas.Result.{IfOk-weaker}
 use Rattle.join_types.specs.Writes.{plain_write}
 use Rattle.join_set.proofs.SummaryLemmas.{cause_over-StandsFor}
-use Rattle.join_set.proofs.standing.DeclaredJoin.judge.Goals as goal
+use Rattle.join_set.proofs.standing.Standing.judge.Goals as goal
 
 pub returns-clause-verdict : goal.returns-clause-verdict
 returns-clause-verdict c =

@@ -3,7 +3,7 @@ use Rattle.join_types.specs.declared.write.Write.{Write}
 use Rattle.join_types.specs.Writes.{plain_write}
 use Rattle.join_set.specs.Summaries.{own_cause}
 use Rattle.join_set.proofs.SummaryLemmas.{free-from_cause_over, free-from_own_cause}
-use Rattle.join_set.proofs.standing.DeclaredJoin.take.Goals as goal
+use Rattle.join_set.proofs.standing.Standing.take.Goals as goal
 
 pub take_change-requires : goal.take_change-requires
 take_change-requires c = (free-from_cause_over c.args.self.now (plain_write c.args.write.now) c.requires).0

@@ -7,7 +7,7 @@ use Rattle.semantics.specs.Patterns.{Pattern, is_pattern, fits}
 use Rattle.semantics.specs.Histories.{Write, put, remove, declare, History, joins_of, base_of}
 use Rattle.semantics.specs.States.{below}
 use Rattle.semantics.specs.StateLaws.{DeclaresJoins}
-use Rattle.range_evaluation.specs.Changes.{changed_keys, Same, has_table, is_bare}
+use Rattle.growing_history.specs.Changes.{changed_keys, Same, has_table, is_bare}
 
 -- the write puts or removes the key
 abbrev pub Writes : Write → Text → Type 0

@@ -1,5 +1,5 @@
 // Laws on what changes between two positions.
-ghost use Rattle.range_evaluation.specs.ChangeLaws.{ChangedKeysAscend, ChangedKeysAreWritten, UnchangedIsSame, TableOfFitting, BareIsBase};
+ghost use Rattle.growing_history.specs.ChangeLaws.{ChangedKeysAscend, ChangedKeysAreWritten, UnchangedIsSame, TableOfFitting, BareIsBase};
 
 /// The changed keys of a range ascend, each once.
 pub fn changed_keys_ascend()

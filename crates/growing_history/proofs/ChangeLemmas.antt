@@ -10,8 +10,8 @@ use Rattle.semantics.specs.Histories.{Write, put, remove, declare, Entry, Histor
 use Rattle.semantics.proofs.PieceLemmas.{equal_by_same, same_by_equal}
 use Rattle.semantics.proofs.MemberLemmas.{Has, has_from_contains, contains_from_has, has_filter, has_filtered, has_map, has_mapped, has_flat_map, has_flat_mapped}
 use Rattle.semantics.proofs.TableLemmas.{IsAscending, value_at-with_pair, ascending-with_pair, has_from_value, value_from_has}
-use Rattle.range_evaluation.specs.Changes.{written, entries_between, in_order, changed_keys}
-use Rattle.range_evaluation.specs.ChangeLaws.{Writes, IsWrittenBetween, ChangedKeysAscend, ChangedKeysAreWritten}
+use Rattle.growing_history.specs.Changes.{written, entries_between, in_order, changed_keys}
+use Rattle.growing_history.specs.ChangeLaws.{Writes, IsWrittenBetween, ChangedKeysAscend, ChangedKeysAreWritten}
 
 -- ---- texts in order
 

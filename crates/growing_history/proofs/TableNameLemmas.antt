@@ -6,8 +6,8 @@ use Rattle.semantics.specs.Patterns.{literal, slot, Pattern, begins_with_table, 
 use Rattle.semantics.proofs.PieceLemmas.{HasParts, parts_of, equal_by_same, same_by_equal}
 use Rattle.semantics.proofs.PatternLemmas.{SuitAll, fits_suit}
 use Rattle.key_ranges.proofs.PrefixLemmas.{table_of-cut, table_of-onto}
-use Rattle.range_evaluation.specs.Changes.{has_table}
-use Rattle.range_evaluation.specs.ChangeLaws.{TableOfFitting}
+use Rattle.growing_history.specs.Changes.{has_table}
+use Rattle.growing_history.specs.ChangeLaws.{TableOfFitting}
 
 -- the first of some texts
 abbrev first_text : List Text → Text

@@ -19,11 +19,11 @@ use Rattle.semantics.proofs.OutputLemmas.{output_of_join}
 use Rattle.semantics.proofs.StateLemmas.{ascending-below, value_at-below_elsewhere}
 use Rattle.key_ranges.proofs.PrefixLemmas.{rest_of, named}
 use Rattle.key_ranges.proofs.RangeLemmas.{bounds_of, bar_of_names, within_begins}
-use Rattle.range_evaluation.specs.Changes.{has_table, is_bare}
-use Rattle.range_evaluation.specs.ChangeLaws.{Writes, UnchangedIsSame, BareIsBase}
-use Rattle.range_evaluation.proofs.NeedLemmas.{all_left}
-use Rattle.range_evaluation.proofs.ChangeLemmas.{changed_keys_are_written}
-use Rattle.range_evaluation.proofs.AskedLemmas.{same_within}
+use Rattle.growing_history.specs.Changes.{has_table, is_bare}
+use Rattle.growing_history.specs.ChangeLaws.{Writes, UnchangedIsSame, BareIsBase}
+use Rattle.growing_history.proofs.ElementLemmas.{all_left}
+use Rattle.growing_history.proofs.ChangeLemmas.{changed_keys_are_written}
+use Rattle.growing_history.proofs.PartLemmas.{same_within}
 
 -- ---- the joins that stood earlier
 

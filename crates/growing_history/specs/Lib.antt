@@ -1,0 +1,3 @@
+pub mod Entered
+pub mod Changes
+pub mod ChangeLaws

@@ -1,5 +1,0 @@
-use Rattle.range_evaluation.proofs.UnchangedLemmas.{bare_is_base}
-use Rattle.range_evaluation.proofs.change_laws.bare_is_base.Goals as goal
-
-pub returns : goal.returns
-returns c = bare_is_base

@@ -1,5 +1,0 @@
-use Rattle.range_evaluation.proofs.ChangeLemmas.{changed_keys_are_written}
-use Rattle.range_evaluation.proofs.change_laws.changed_keys_are_written.Goals as goal
-
-pub returns : goal.returns
-returns c = changed_keys_are_written

@@ -1,5 +1,0 @@
-use Rattle.range_evaluation.proofs.UnchangedLemmas.{unchanged_is_same}
-use Rattle.range_evaluation.proofs.change_laws.unchanged_is_same.Goals as goal
-
-pub returns : goal.returns
-returns c = unchanged_is_same

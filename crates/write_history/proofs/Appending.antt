@@ -2,8 +2,9 @@
 use Rattle.std.proofs.Common.{◌≡◌, ℕ, ◌+◌, ◌-◌, ◌<◌, ◌≤◌, [], ◌∷◌, ◌++◌, length, drop, take, IfOk, IfErr, OnOk, Option, Some, None, Result, Ok, Err, refl, sym, ap, ◌∙◌, subst, arith}
 use Rattle.std.proofs.lemmas.List.{append-nil, length-append}
 use Rattle.atomic_table.specs.Seated.{TableId}
-use Rattle.semantics.specs.Histories.{Entry, History}
-use Rattle.write_history.specs.Entries.{IsPrefix, IsRecorded, EndsWith, written_by}
+use Rattle.semantics.specs.Histories.{Entry, History, IsPrefix}
+use Rattle.write_history.specs.Entries.{IsRecorded, EndsWith, written_by}
+use Rattle.growing_history.proofs.PrefixLemmas.{prefix_refl, prefix_trans}
 use Rattle.write_history.specs.Stored.{Stored, IsLog}
 use Rattle.write_history.specs.Seats.{HasOwn}
 use Rattle.write_history.specs.Passes.{PassView, GoesOn, own}
@@ -14,7 +15,7 @@ use Rattle.write_history.specs.declared.known.Known.{Known}
 use Rattle.write_history.specs.declared.known.Role.TheVariants.{Numbered}
 use Rattle.write_history.specs.declared.fault.AppendFault.{AppendFault}
 use Rattle.write_history.specs.declared.fault.AppendFault.TheVariants.{Refused, OutOfMemory}
-use Rattle.write_history.proofs.Entering.{prefix_refl, prefix_trans, prefix_more, written_by-append, written_by-own, IsRecorded-push}
+use Rattle.write_history.proofs.Entering.{prefix_more, written_by-append, written_by-own, IsRecorded-push}
 use Rattle.write_history.proofs.Lists.{range_of_longer}
 
 -- the pass of a seat, as contracts see it
@@ -136,5 +137,5 @@ learns_from m w m' agrees =
 -- the entries of a view stand in the log at their places
 pub range_of_log : (m m' : Sat) (t : TakesTurn m m') (from to : ℕ) → from ≤ to → to ≤ length m.0.seen → take (to - from) (drop from t.log.entries) ≡ take (to - from) (drop from m.0.seen)
 range_of_log m m' t from to order within =
-    ap (λ es. take (to - from) (drop from es)) (t.is_log.entries ∙ ap (λ n. drop n t.history) t.whole ∙ t.begins.is)
-    ∙ range_of_longer m.0.seen t.begins.rest from to order within
+    ap (λ es. take (to - from) (drop from es)) (t.is_log.entries ∙ ap (λ n. drop n t.history) t.whole ∙ t.begins.1)
+    ∙ range_of_longer m.0.seen t.begins.0 from to order within

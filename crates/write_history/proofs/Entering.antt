@@ -6,36 +6,24 @@ use Rattle.std.proofs.lemmas.List.{nil_from_length}
 use Rattle.std.proofs.lemmas.List.Elements.{filter-append}
 use Rattle.std.proofs.lemmas.Bool.{le-leb, lt-leb}
 use Rattle.std.proofs.lemmas.Bool.Decides.{leb_tells}
-use Rattle.semantics.specs.Histories.{Write, Entry, History}
+use Rattle.semantics.specs.Histories.{Write, Entry, History, IsPrefix}
 use Rattle.semantics.specs.Verdicts.{verdict, AllEntered}
 use Rattle.semantics.proofs.Members.{AllByRecursion-append}
-use Rattle.write_history.specs.Entries.{IsPrefix, IsWrite, IsRecorded, written_by}
+use Rattle.growing_history.specs.Entered.{IsWrite}
+use Rattle.growing_history.proofs.ElementLemmas.{all_left}
+use Rattle.growing_history.proofs.PrefixLemmas.{prefix_refl}
+use Rattle.write_history.specs.Entries.{IsRecorded, written_by}
 use Rattle.write_history.specs.Steps.{longer}
 
 -- ---- beginnings
 
--- a list begins with itself
-pub prefix_refl : (h : History) → IsPrefix h h
-prefix_refl h = record { rest = []; is = sym (append-nil h) }
-
 -- every list begins with the empty one
 pub prefix_nil : (h : History) → IsPrefix [] h
-prefix_nil h = record { rest = h; is = refl }
-
--- what begins with what begins with a list begins with the list
-pub prefix_trans : (h more most : History) → IsPrefix h more → IsPrefix more most → IsPrefix h most
-prefix_trans h more most first next = record {
-  rest = first.rest ++ next.rest;
-  is = next.is ∙ ap (λ es. es ++ next.rest) first.is ∙ append_assoc h first.rest next.rest;
-}
+prefix_nil h = (h, refl)
 
 -- a list with more at its end begins with the list
 pub prefix_more : (h more : History) → IsPrefix h (h ++ more)
-prefix_more h more = record { rest = more; is = refl }
-
--- a beginning is no longer
-pub prefix_length : (h more : History) → IsPrefix h more → length h ≤ length more
-prefix_length h more prefix = let e = ap length prefix.is ∙ length-append h prefix.rest in omega arith
+prefix_more h more = (more, refl)
 
 -- what is left of a list behind a beginning
 split_of : (a b c d : History) → a ++ c ≡ b ++ d → length a ≤ length b → IsPrefix a b
@@ -45,19 +33,11 @@ split_of (x ∷ a) (y ∷ b) c d is less =
     let first : x ≡ y = cc in
     let others : a ++ c ≡ b ++ d = cc in
     let p = split_of a b c d others (omega arith) in
-    record { rest = p.rest; is = λ i. sym first i ∷ p.is i }
+    (p.0, (λ i. sym first i ∷ p.1 i))
 
 -- of two beginnings of one list the longer begins with the shorter
 pub prefix_of_longer : (a b h : History) → IsPrefix a h → IsPrefix b h → length a ≤ length b → IsPrefix a b
-prefix_of_longer a b h first next less = split_of a b first.rest next.rest (sym first.is ∙ next.is) less
-
--- two lists that begin with one another are one
-pub prefix_both : (a b : History) → IsPrefix a b → IsPrefix b a → a ≡ b
-prefix_both a b first next =
-    let more = ap length first.is ∙ length-append a first.rest in
-    let less = ap length next.is ∙ length-append b next.rest in
-    let none : first.rest ≡ [] = nil_from_length first.rest (omega arith) in
-    sym (first.is ∙ ap (λ es. a ++ es) none ∙ append-nil a)
+prefix_of_longer a b h first next less = split_of a b first.0 next.0 (sym first.1 ∙ next.1) less
 
 -- ---- entries by number
 
@@ -75,10 +55,10 @@ written_by-other number e other = rw (ne_eqb e.client number other)
 -- what a beginning has of a number, and a list that begins with it has no more of, each list between the two has
 pub written_by-between : (number : ℕ) (a b h : History) → IsPrefix a b → IsPrefix b h → written_by number h ≡ written_by number a → written_by number h ≡ written_by number b
 written_by-between number a b h first next same =
-    let p : History = written_by number first.rest in
-    let q : History = written_by number next.rest in
-    let b_is : written_by number b ≡ written_by number a ++ p = ap (written_by number) first.is ∙ written_by-append number a first.rest in
-    let h_is : written_by number h ≡ written_by number b ++ q = ap (written_by number) next.is ∙ written_by-append number b next.rest in
+    let p : History = written_by number first.0 in
+    let q : History = written_by number next.0 in
+    let b_is : written_by number b ≡ written_by number a ++ p = ap (written_by number) first.1 ∙ written_by-append number a first.0 in
+    let h_is : written_by number h ≡ written_by number b ++ q = ap (written_by number) next.1 ∙ written_by-append number b next.0 in
     let n = ap length b_is ∙ length-append (written_by number a) p in
     let m = ap length h_is ∙ length-append (written_by number b) q in
     let k = ap length same in
@@ -100,30 +80,31 @@ entry_of_push (x ∷ h) (b ∷ before) after e f is =
 -- a history without entries may stand
 pub IsRecorded-nil : (writers : ℕ) → IsRecorded writers []
 IsRecorded-nil writers = record {
-  entered = λ before e after is. let n = simp length-append at (ap length is) in absurd (omega arith);
-  writes = tt;
+  entered = record {
+    entered = λ before e after is. let n = simp length-append at (ap length is) in absurd (omega arith);
+    writes = tt;
+  };
   below = tt;
 }
 
 -- so may one with an entry more, which had no cause against it
 pub IsRecorded-push : (writers : ℕ) (h : History) (e : Entry) → IsRecorded writers h → verdict e.write h ≡ None → IsWrite e.write → e.client < writers → IsRecorded writers (h ++ e ∷ [])
 IsRecorded-push writers h e old free write below = record {
-  entered = λ before f after is. ⊎_elim (λ p. (λ i. verdict (p.1 i).write (p.0 i)) ∙ free) (λ r. old.entered before f r.0 r.1) (entry_of_push h before after e f is);
-  writes = AllByRecursion-append (λ e. IsWrite e.write) h (e ∷ []) old.writes (write, tt);
+  entered = record {
+    entered = λ before f after is. ⊎_elim (λ p. (λ i. verdict (p.1 i).write (p.0 i)) ∙ free) (λ r. old.entered.entered before f r.0 r.1) (entry_of_push h before after e f is);
+    writes = AllByRecursion-append (λ e. IsWrite e.write) h (e ∷ []) old.entered.writes (write, tt);
+  };
   below = AllByRecursion-append (λ e. e.client < writers) h (e ∷ []) old.below (below, tt);
 }
-
--- what holds of each entry holds of those of a beginning
-all_begin : {A : Type 0} (P : A → Type 0) (xs ys : List A) → AllByRecursion P (xs ++ ys) → AllByRecursion P xs
-all_begin P [] ys all = tt
-all_begin P (x ∷ xs) ys all = (all.0, all_begin P xs ys all.1)
 
 -- so may each beginning
 pub IsRecorded-prefix : (writers : ℕ) (h more : History) → IsPrefix h more → IsRecorded writers more → IsRecorded writers h
 IsRecorded-prefix writers h more prefix all = record {
-  entered = λ before e after is. all.entered before e (after ++ prefix.rest) (prefix.is ∙ ap (λ es. es ++ prefix.rest) is ∙ append_assoc before (e ∷ after) prefix.rest);
-  writes = all_begin (λ (e : Entry). IsWrite e.write) h prefix.rest (subst (AllByRecursion (λ (e : Entry). IsWrite e.write)) prefix.is all.writes);
-  below = all_begin (λ (e : Entry). e.client < writers) h prefix.rest (subst (AllByRecursion (λ (e : Entry). e.client < writers)) prefix.is all.below);
+  entered = record {
+    entered = λ before e after is. all.entered.entered before e (after ++ prefix.0) (prefix.1 ∙ ap (λ es. es ++ prefix.0) is ∙ append_assoc before (e ∷ after) prefix.0);
+    writes = all_left (λ (e : Entry). IsWrite e.write) h prefix.0 (subst (AllByRecursion (λ (e : Entry). IsWrite e.write)) prefix.1 all.entered.writes);
+  };
+  below = all_left (λ (e : Entry). e.client < writers) h prefix.0 (subst (AllByRecursion (λ (e : Entry). e.client < writers)) prefix.1 all.below);
 }
 
 -- ---- the longer of two

@@ -10,10 +10,12 @@ use prog.Atomic.{either}
 use Rattle.std.proofs.lemmas.List.{append-nil, length-append, take-append-drop, take-append-le}
 use Rattle.atomic_table.specs.Table.{State, Me, Step, step, Act, keeps, takes, gives, stepped, homes_after, Allows, Splits, Joins, opening}
 use Rattle.atomic_table.proofs.Lists.{at_set, set_here, set_else, set_again, exchanged}
-use Rattle.semantics.specs.Histories.{Write, Entry, History}
+use Rattle.semantics.specs.Histories.{Write, Entry, History, IsPrefix}
 use Rattle.semantics.specs.Verdicts.{verdict}
 use Rattle.join_set.specs.Summaries.{StandsFor}
-use Rattle.write_history.specs.Entries.{IsPrefix, IsWrite, IsRecorded, written_by}
+use Rattle.growing_history.specs.Entered.{IsWrite}
+use Rattle.growing_history.proofs.PrefixLemmas.{prefix_refl, prefix_trans}
+use Rattle.write_history.specs.Entries.{IsRecorded, written_by}
 use Rattle.write_history.specs.Stored.{Stored, IsLog}
 use Rattle.write_history.specs.Seats.{HasOwn, KnowsWriters, Apart, role_left, role_dealt}
 use Rattle.write_history.specs.Rule.{Fits, IsFree, IsTaken, Keeps, dealer}
@@ -23,7 +25,7 @@ use Rattle.write_history.specs.declared.known.Known.{Known}
 use Rattle.write_history.specs.declared.known.Role.{Role}
 use Rattle.write_history.specs.declared.known.Role.TheVariants.{Deals, Numbered, Notes}
 use Rattle.write_history.proofs.Seating.{all_set, at_below, at_none, at_end, all_end, each_set, each_end}
-use Rattle.write_history.proofs.Entering.{prefix_refl, prefix_nil, prefix_trans, prefix_more, prefix_length, prefix_of_longer, written_by-append, written_by-other, written_by-between, IsRecorded-nil, IsRecorded-push, IsRecorded-prefix, prefix_longer, prefix_longer_second, longer_either}
+use Rattle.write_history.proofs.Entering.{prefix_nil, prefix_more, written_by-append, written_by-other, written_by-between, IsRecorded-nil, IsRecorded-push, IsRecorded-prefix, prefix_longer, prefix_longer_second, longer_either}
 
 -- ---- what a seat knows
 

@@ -1,15 +1,8 @@
--- Lists of entries: which begin with one another, whose entries are whose, and which may stand in a history.
-use Rattle.std.specs.Prelude.{◌≡◌, ℕ, ◌<◌, ◌==◌, List, [], ◌∷◌, ◌++◌, filter, true}
+-- Lists of entries: what one ends with, whose entries are whose, and which may stand in a history.
+use Rattle.std.specs.Prelude.{◌≡◌, ℕ, ◌<◌, ◌==◌, [], ◌∷◌, ◌++◌, filter}
 use Rattle.std.specs.List.{AllByRecursion}
-use Rattle.semantics.specs.Texts.{is_key}
-use Rattle.semantics.specs.Joins.{is_join}
-use Rattle.semantics.specs.Histories.{Write, put, remove, declare, Entry, History}
-use Rattle.semantics.specs.Verdicts.{AllEntered}
-
--- the second list begins with the first
-pub record IsPrefix (h more : History) : Type 0 where
-  pub rest : History
-  pub is : more ≡ h ++ rest
+use Rattle.semantics.specs.Histories.{Entry, History}
+use Rattle.growing_history.specs.Entered.{HasEntered}
 
 -- the list ends with the entry
 pub record EndsWith (e : Entry) (h : History) : Type 0 where
@@ -20,14 +13,7 @@ pub record EndsWith (e : Entry) (h : History) : Type 0 where
 abbrev pub written_by : ℕ → History → History
 written_by number h = filter (λ e. e.client == number) h
 
--- what is put or removed is a key, and what is declared a join
-abbrev pub IsWrite : Write → Type 0
-IsWrite (put k v) = is_key k ≡ true
-IsWrite (remove k) = is_key k ≡ true
-IsWrite (declare j) = is_join j ≡ true
-
 -- so many passes may have written these entries: each had no cause against it at its place, is of a key or of a join, and is by one of them
 pub record IsRecorded (writers : ℕ) (h : History) : Type 0 where
-  pub entered : AllEntered h
-  pub writes : AllByRecursion (λ e. IsWrite e.write) h
+  pub entered : HasEntered h
   pub below : AllByRecursion (λ e. e.client < writers) h

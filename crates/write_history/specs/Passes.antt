@@ -1,8 +1,8 @@
 -- A pass as contracts see it, and how it goes on.
 use Rattle.std.specs.Prelude.{◌≡◌, ℕ, []}
 use Rattle.atomic_table.specs.Seated.{TableId}
-use Rattle.semantics.specs.Histories.{Write, Entry, History}
-use Rattle.write_history.specs.Entries.{IsPrefix, IsRecorded, written_by}
+use Rattle.semantics.specs.Histories.{Write, Entry, History, IsPrefix}
+use Rattle.write_history.specs.Entries.{IsRecorded, written_by}
 
 -- of which history it is, its number, how many passes of that history may write, and the entries that it has seen
 pub record PassView : Type 0 where

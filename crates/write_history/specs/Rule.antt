@@ -4,8 +4,8 @@ use mathlib.Core.Option.{some, none}
 use mathlib.Core.Option as maybe
 use lib.ListN.{get_elem?}
 use Rattle.atomic_table.specs.Table.{State}
-use Rattle.semantics.specs.Histories.{History}
-use Rattle.write_history.specs.Entries.{IsPrefix, IsRecorded}
+use Rattle.semantics.specs.Histories.{History, IsPrefix}
+use Rattle.write_history.specs.Entries.{IsRecorded}
 use Rattle.write_history.specs.Stored.{Stored, IsLog}
 use Rattle.write_history.specs.Seats.{HasOwn, KnowsWriters, Apart}
 use Rattle.write_history.specs.declared.known.Kinds.{Kinds}

@@ -2,8 +2,8 @@
 use Rattle.std.specs.Prelude.{◌≡◌, ◌≢◌, ℕ, List, [], ◌∷◌, ◌++◌, length, take, nat_le, max, if◌then◌else◌, Option, Some, None}
 use Rattle.atomic_table.specs.Table.{Me, rest}
 use Rattle.atomic_table.specs.Seated.{TableId}
-use Rattle.semantics.specs.Histories.{History}
-use Rattle.write_history.specs.Entries.{IsPrefix, IsRecorded}
+use Rattle.semantics.specs.Histories.{History, IsPrefix}
+use Rattle.write_history.specs.Entries.{IsRecorded}
 use Rattle.write_history.specs.Stored.{Stored, IsLog}
 use Rattle.write_history.specs.Seats.{HasOwn, role_left, role_dealt}
 use Rattle.write_history.specs.declared.known.Known.{Known}

@@ -3,7 +3,7 @@ use Rattle.std.specs.Prelude.{◌≡◌, ℕ, ◌+◌, [], ◌∷◌, ◌++◌, 
 use Rattle.semantics.specs.Histories.{Write, Entry, History}
 use Rattle.semantics.specs.Verdicts.{verdict}
 use Rattle.join_types.specs.Causes.{plain_cause}
-use Rattle.write_history.specs.Entries.{IsWrite}
+use Rattle.growing_history.specs.Entered.{IsWrite}
 use Rattle.write_history.specs.Stored.{Stored, IsLog}
 use Rattle.write_history.specs.Steps.{Sat, HasLog}
 use Rattle.write_history.specs.declared.fault.AppendFault.{AppendFault}

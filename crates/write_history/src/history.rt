@@ -1,7 +1,8 @@
 // The history that all threads share.
 ghost use Rattle.std.specs.Prelude.{◌≡◌, ℕ, ◌+◌, ◌-◌, ◌<◌, ◌≤◌, [], ◌∷◌, ◌++◌, length, slice_get, take, drop, IfOk, IfErr, OnErr, OnOk, Some};
 ghost use Rattle.join_types.specs.Writes.{plain_write};
-ghost use Rattle.write_history.specs.Entries.{EndsWith, IsPrefix};
+ghost use Rattle.semantics.specs.Histories.{IsPrefix};
+ghost use Rattle.write_history.specs.Entries.{EndsWith};
 ghost use Rattle.write_history.specs.Passes.{GoesOn, entry_by, new_pass, own};
 ghost use Rattle.write_history.specs.Faults.{SaysWhy};
 ghost use Rattle.write_history.specs.Rule.{dealer};

@@ -3,7 +3,7 @@ ghost use Rattle.std.specs.Prelude.{◌≡◌, ℕ, ◌+◌, ◌-◌, ◌≤◌,
 ghost use Rattle.semantics.specs.Histories.{History};
 ghost use Rattle.semantics.specs.Verdicts.{verdict};
 ghost use Rattle.join_types.specs.Writes.{plain_write};
-ghost use Rattle.write_history.specs.Entries.{IsWrite};
+ghost use Rattle.growing_history.specs.Entered.{IsWrite};
 ghost use Rattle.write_history.specs.Stored.{IsLog};
 ghost use Rattle.write_history.specs.Takes.{Takes, SaysVerdict};
 

@@ -1,0 +1,6 @@
+pub mod Chunks
+pub mod Lists
+pub mod Seating
+pub mod Entering
+pub mod Turning
+pub mod Appending

@@ -1,0 +1,546 @@
+-- Each step on the table keeps the rule, and tells what it says.
+use Rattle.std.proofs.Common.{length-set, ◌≡◌, ◌≢◌, ◌⊎◌, ℕ, zero, suc, ◌+◌, ◌-◌, ◌<◌, ◌≤◌, ◌==◌, List, [], ◌∷◌, ◌++◌, length, set, get_or, take, drop, max, Option, Some, None, refl, sym, ap, ◌∙◌, subst, ⊎_elim, inl, inr, arith}
+use mathlib.Core.Option.{some, none}
+use mathlib.Core.Option as maybe
+use mathlib.Core.Logic.{dite}
+use native.Mathlib.Decide.{ℕ_discrete}
+use lib.ListN.{get_elem?}
+use lib.Seq.{set-get_or}
+use prog.Atomic.{either}
+use Rattle.std.proofs.lemmas.List.{append-nil, length-append, take-append-drop, take-append-le}
+use Rattle.atomic_table.specs.Table.{State, Me, Step, step, Act, keeps, takes, gives, stepped, homes_after, Allows, Splits, Joins, opening}
+use Rattle.atomic_table.proofs.Lists.{at_set, set_here, set_else, set_again, exchanged}
+use Rattle.semantics.specs.Histories.{Write, Entry, History, IsPrefix}
+use Rattle.semantics.specs.Verdicts.{verdict}
+use Rattle.join_set.specs.Summaries.{StandsFor}
+use Rattle.growing_history.specs.Entered.{IsWrite}
+use Rattle.growing_history.proofs.PrefixLemmas.{prefix_refl, prefix_trans}
+use Rattle.write_history.specs.Entries.{IsRecorded, written_by}
+use Rattle.write_history.specs.Stored.{Stored, IsLog}
+use Rattle.write_history.specs.Seats.{HasOwn, KnowsWriters, Apart, role_left, role_dealt}
+use Rattle.write_history.specs.Rule.{Fits, IsFree, IsTaken, Keeps, dealer}
+use Rattle.write_history.specs.Steps.{Sat, TakesTurn, took, freed, held_or, held_by, looked, stored_in, whole_by, entered, dealing, dealt, note_of, read_note, longer, informed, Agrees, agreed}
+use Rattle.write_history.specs.declared.known.Kinds.{Kinds}
+use Rattle.write_history.specs.declared.known.Known.{Known}
+use Rattle.write_history.specs.declared.known.Role.{Role}
+use Rattle.write_history.specs.declared.known.Role.TheVariants.{Deals, Numbered, Notes}
+use Rattle.write_history.proofs.Seating.{all_set, at_below, at_none, at_end, all_end, each_set, each_end}
+use Rattle.write_history.proofs.Entering.{prefix_nil, prefix_more, written_by-append, written_by-other, written_by-between, IsRecorded-nil, IsRecorded-push, IsRecorded-prefix, prefix_longer, prefix_longer_second, longer_either}
+
+-- ---- what a seat knows
+
+abbrev Homes : Type 0
+Homes = List (maybe.Option Stored)
+
+-- whether the turn is free or taken
+abbrev Place : History → ℕ → ℕ → Homes → List Known → Type 0
+Place h floor turn homes views = IsFree h floor turn homes views ⊎ IsTaken h floor turn homes views
+
+-- a seat that knew nothing of the turn has the turn neither
+holds_none : (v : Known) (h : History) → v.held ≡ None → v.held ≡ Some h → ⊥
+holds_none v h nothing something = let both : None ≡ Some h = sym nothing ∙ something in cc
+
+-- what the one that changes does not hold is held as before
+place_set : (h : History) (floor turn : ℕ) (homes : Homes) (views : List Known) (id : ℕ) (v w : Known) → get_elem? views id ≡ some v → v.held ≡ None → w.held ≡ None →
+    Place h floor turn homes views → Place h floor turn homes (set views id w)
+place_set h floor turn homes views id v w at none_v none_w place = ⊎_elim
+    (λ (free : IsFree h floor turn homes views). inl (record {
+      free = free.free;
+      log = free.log;
+      home = free.home;
+      is_log = free.is_log;
+      nobody = all_set (λ seat u. u.held ≡ None) views id w none_w (λ seat u other at'. free.nobody seat u at');
+    }))
+    (λ (taken : IsTaken h floor turn homes views).
+        let elsewhere : id ≢ taken.holder = λ same. holds_none v h none_v (taken.holds v (subst (λ seat. get_elem? views seat ≡ some v) same at)).0 in
+        inr (record {
+          taken = taken.taken;
+          away = taken.away;
+          holder = taken.holder;
+          seated = let less = taken.seated in omega (arith, length-set views id w);
+          holds = λ u at'. taken.holds u (sym (set_else views id taken.holder w (λ same. elsewhere (sym same))) ∙ at');
+          others = λ seat u other at'. all_set (λ seat u. seat ≢ taken.holder → u.held ≡ None) views id w (λ away. none_w) (λ seat u apart at'' away. taken.others seat u away at'') seat u at' other;
+        }))
+    place
+
+-- a seat that comes without the turn leaves it where it is
+place_end : (h : History) (floor turn : ℕ) (homes : Homes) (views : List Known) (w : Known) → w.held ≡ None → Place h floor turn homes views → Place h floor turn homes (views ++ w ∷ [])
+place_end h floor turn homes views w nothing place = ⊎_elim
+    (λ (free : IsFree h floor turn homes views). inl (record {
+      free = free.free;
+      log = free.log;
+      home = free.home;
+      is_log = free.is_log;
+      nobody = all_end (λ seat u. u.held ≡ None) views w nothing free.nobody;
+    }))
+    (λ (taken : IsTaken h floor turn homes views). inr (record {
+      taken = taken.taken;
+      away = taken.away;
+      holder = taken.holder;
+      seated = let less = taken.seated in omega (arith, length-append views (w ∷ []));
+      holds = λ u at. all_end (λ seat u. seat ≡ taken.holder → (u.held ≡ Some h) × (u.floor ≡ floor)) views w
+          (λ same. let less = taken.seated in absurd (omega arith))
+          (λ seat u at' same. taken.holds u (subst (λ i. get_elem? views i ≡ some u) same at')) taken.holder u at refl;
+      others = λ seat u other at. all_end (λ seat u. seat ≢ taken.holder → u.held ≡ None) views w (λ away. nothing) (λ seat u at' away. taken.others seat u away at') seat u at other;
+    }))
+    place
+
+-- ---- numbers that are dealt
+
+apart_left : (role : Role) (next : ℕ) → Apart role (Deals next) → Apart role (Deals (next + 1))
+apart_left (Deals other) next apart = absurd apart
+apart_left (Numbered number) next apart = omega arith
+apart_left Notes next apart = tt
+
+apart_left_first : (role : Role) (next : ℕ) → Apart (Deals next) role → Apart (Deals (next + 1)) role
+apart_left_first (Deals other) next apart = absurd apart
+apart_left_first (Numbered number) next apart = omega arith
+apart_left_first Notes next apart = tt
+
+apart_dealt : (role : Role) (next : ℕ) → Apart role (Deals next) → Apart role (Numbered next)
+apart_dealt (Deals other) next apart = absurd apart
+apart_dealt (Numbered number) next apart = λ same. absurd (omega arith)
+apart_dealt Notes next apart = tt
+
+apart_dealt_first : (role : Role) (next : ℕ) → Apart (Deals next) role → Apart (Numbered next) role
+apart_dealt_first (Deals other) next apart = absurd apart
+apart_dealt_first (Numbered number) next apart = λ same. absurd (omega arith)
+apart_dealt_first Notes next apart = tt
+
+lt_next : (n : ℕ) → n < n + 1
+lt_next n = omega arith
+
+-- a note is apart from each seat
+apart_note : (role : Role) → Apart role Notes
+apart_note (Deals next) = tt
+apart_note (Numbered number) = tt
+apart_note Notes = tt
+
+-- the holder of the turn stays so, and may know of another history
+taken_set : (h h' : History) (floor turn : ℕ) (homes : Homes) (views : List Known) (id : ℕ) (w : Known) (taken : IsTaken h floor turn homes views) → taken.holder ≡ id →
+    w.held ≡ Some h' → w.floor ≡ floor → IsTaken h' floor turn homes (set views id w)
+taken_set h h' floor turn homes views id w taken mine held low = record {
+  taken = taken.taken;
+  away = taken.away;
+  holder = id;
+  seated = let less = taken.seated in omega (arith, length-set views id w);
+  holds = λ u at. all_set (λ seat u. seat ≡ id → (u.held ≡ Some h') × (u.floor ≡ floor)) views id w (λ same. (held, low)) (λ seat u apart at' same. absurd (apart same)) id u at refl;
+  others = λ seat u other at. all_set (λ seat u. seat ≢ id → u.held ≡ None) views id w (λ away. absurd (away refl))
+      (λ seat u apart at' away. taken.others seat u (λ same. away (same ∙ mine)) at') seat u at other;
+}
+
+-- a seat that has seen all entries has seen its own
+own_of_all : (h seen : History) (role : Role) → HasOwn h seen role → HasOwn h h role
+own_of_all h seen (Deals next) own = own
+own_of_all h seen (Numbered number) own = refl
+own_of_all h seen Notes own = tt
+
+-- a seat that has seen a beginning with its own entries has them in what it sees besides
+own_of_more : (h seen more : History) (role : Role) → IsPrefix seen more → IsPrefix more h → HasOwn h seen role → HasOwn h more role
+own_of_more h seen more (Deals next) first next_one own = own
+own_of_more h seen more (Numbered number) first next_one own = written_by-between number seen more h first next_one own
+own_of_more h seen more Notes first next_one own = tt
+
+-- an entry of another number is none of the seat's own
+own_after : (h seen : History) (role : Role) (number : ℕ) (e : Entry) → e.client ≡ number → Apart role (Numbered number) → HasOwn h seen role → HasOwn (h ++ e ∷ []) seen role
+own_after h seen (Deals next) number e by apart own = λ n past.
+    let other : e.client ≢ n = λ same. let m : number ≡ n = sym by ∙ same in absurd (omega arith) in
+    written_by-append n h (e ∷ []) ∙ ap (λ es. written_by n h ++ es) (written_by-other n e other) ∙ append-nil (written_by n h) ∙ own n past
+own_after h seen (Numbered n) number e by apart own =
+    let other : e.client ≢ n = λ same. apart (sym same ∙ by) in
+    written_by-append n h (e ∷ []) ∙ ap (λ es. written_by n h ++ es) (written_by-other n e other) ∙ append-nil (written_by n h) ∙ own
+own_after h seen Notes number e by apart own = tt
+
+-- whatever is known of a history is known of one with an entry more
+fits_after : (kinds : Kinds) (h : History) (floor number : ℕ) (e : Entry) (u : Known) → e.client ≡ number → Apart u.role (Numbered number) → Fits kinds h floor u → Fits kinds (h ++ e ∷ []) floor u
+fits_after kinds h floor number e u by apart fit = record {
+  knows = fit.knows;
+  seen = prefix_trans u.seen h (h ++ e ∷ []) fit.seen (prefix_more h (e ∷ []));
+  told = prefix_trans u.told h (h ++ e ∷ []) fit.told (prefix_more h (e ∷ []));
+  own = own_after h u.seen u.role number e by apart fit.own;
+  reached = fit.reached;
+}
+
+-- the log with an entry more, by its holder, is the whole history with it
+pub whole_is : (m : Sat) (h : History) (log : Stored) (e : Entry) → m.0.held ≡ Some h → m.1 ≡ (0, log) ∷ [] → m.0.floor ≤ length h → IsLog (h ++ e ∷ []) m.0.floor log → whole_by m ≡ h ++ e ∷ []
+whole_is m h log e held has low is_log =
+    let known : held_by m.0 ≡ h = ap (held_or []) held in
+    let more : History = h ++ e ∷ [] in
+    (λ i. take m.0.floor (known i) ++ stored_in (has i))
+    ∙ ap (λ es. take m.0.floor h ++ es) is_log.entries
+    ∙ ap (λ es. es ++ drop m.0.floor more) (sym (take-append-le m.0.floor h (e ∷ []) low))
+    ∙ take-append-drop m.0.floor more
+
+-- a turn that was found free is taken, and one that was taken stays so
+pub exchange_takes : (n : ℕ) → 0 < either (n == 0) 1 n
+exchange_takes n = exchanged n 0 1 (λ k. 0 < k) (λ is_zero. omega arith) (λ isnt_zero. omega arith)
+
+module _ (kinds : Kinds) where
+  abbrev Rule : State Stored Known → Type 0
+  Rule = Keeps kinds
+
+  -- the words after a load are as before
+  loaded : (s : State Stored Known) (i : ℕ) (homes : Homes) (views : List Known) → Rule record { words = s.words; homes = homes; views = views } →
+      Rule record { words = set s.words i (get_or s.words i 0); homes = homes; views = views }
+  loaded s i homes views k = subst (λ (ws : List ℕ). Rule record { words = ws; homes = homes; views = views }) (sym (set-get_or s.words i 0)) k
+
+  -- numbers stay apart where a seat keeps its role
+  apart_set : (s : State Stored Known) (k : Rule s) (id : ℕ) (v w : Known) → get_elem? s.views id ≡ some v → w.role ≡ v.role →
+      (seat other : ℕ) (u u' : Known) → seat ≢ other → get_elem? (set s.views id w) seat ≡ some u → get_elem? (set s.views id w) other ≡ some u' → Apart u.role u'.role
+  apart_set s k id v w at same = each_set (λ (u : Known) (u' : Known). Apart u.role u'.role) s.views id w k.apart
+      (λ seat u away at'. (
+        subst (λ r. Apart u.role r) (sym same) (k.apart seat id u v away at' at),
+        subst (λ r. Apart r u.role) (sym same) (k.apart id seat v u (λ e. away (sym e)) at at'),
+      ))
+
+  -- what each seat knows is true where what the one that changes knows is
+  fits_set : (s : State Stored Known) (k : Rule s) (id : ℕ) (w : Known) → Fits kinds k.history k.floor w →
+      (seat : ℕ) (u : Known) → get_elem? (set s.views id w) seat ≡ some u → Fits kinds k.history k.floor u
+  fits_set s k id w fit = all_set (λ seat u. Fits kinds k.history k.floor u) s.views id w fit (λ seat u apart at'. k.fits seat u at')
+
+  -- one seat changes between calls, and its number stays apart from the others'
+  turns : (s : State Stored Known) (k : Rule s) (id : ℕ) (v w : Known) → get_elem? s.views id ≡ some v → v.held ≡ None → w.held ≡ None →
+      ((seat : ℕ) (u : Known) → seat ≢ id → get_elem? s.views seat ≡ some u → Apart u.role w.role × Apart w.role u.role) →
+      Fits kinds k.history k.floor w → Rule record { words = s.words; homes = s.homes; views = set s.views id w }
+  turns s k id v w at none_v none_w away fit = record {
+    history = k.history;
+    turn = k.turn;
+    floor = k.floor;
+    marks = k.marks;
+    words = k.words;
+    whole = k.whole;
+    recorded = k.recorded;
+    fits = fits_set s k id w fit;
+    apart = each_set (λ (u : Known) (u' : Known). Apart u.role u'.role) s.views id w k.apart away;
+    place = place_set k.history k.floor k.turn s.homes s.views id v w at none_v none_w k.place;
+  }
+
+  -- one seat more, without the turn
+  comes : (s : State Stored Known) (k : Rule s) (w : Known) → w.held ≡ None → ((seat : ℕ) (u : Known) → get_elem? s.views seat ≡ some u → Apart u.role w.role × Apart w.role u.role) →
+      Fits kinds k.history k.floor w → Rule record { words = s.words; homes = s.homes; views = s.views ++ w ∷ [] }
+  comes s k w nothing away fit = record {
+    history = k.history;
+    turn = k.turn;
+    floor = k.floor;
+    marks = k.marks;
+    words = k.words;
+    whole = k.whole;
+    recorded = k.recorded;
+    fits = all_end (λ seat u. Fits kinds k.history k.floor u) s.views w fit k.fits;
+    apart = each_end (λ (u : Known) (u' : Known). Apart u.role u'.role) s.views w k.apart away;
+    place = place_end k.history k.floor k.turn s.homes s.views w nothing k.place;
+  }
+
+  -- one seat comes to know more, between calls
+  quiet : (s : State Stored Known) (k : Rule s) (id : ℕ) (v w : Known) → get_elem? s.views id ≡ some v → v.held ≡ None → w.held ≡ None → w.role ≡ v.role →
+      Fits kinds k.history k.floor w → Rule record { words = s.words; homes = s.homes; views = set s.views id w }
+  quiet s k id v w at none_v none_w same fit = record {
+    history = k.history;
+    turn = k.turn;
+    floor = k.floor;
+    marks = k.marks;
+    words = k.words;
+    whole = k.whole;
+    recorded = k.recorded;
+    fits = fits_set s k id w fit;
+    apart = apart_set s k id v w at same;
+    place = place_set k.history k.floor k.turn s.homes s.views id v w at none_v none_w k.place;
+  }
+
+  -- ---- the turn
+
+  -- the holder of the turn knows the history and the floor
+  mine : (s : State Stored Known) (k : Rule s) (id : ℕ) (v : Known) (h : History) → get_elem? s.views id ≡ some v → v.held ≡ Some h →
+      (taken : IsTaken k.history k.floor k.turn s.homes s.views) × (taken.holder ≡ id) × (k.history ≡ h) × (v.floor ≡ k.floor)
+  mine s k id v h at held = ⊎_elim
+      (λ (free : IsFree k.history k.floor k.turn s.homes s.views). absurd (holds_none v h (free.nobody id v at) held))
+      (λ (taken : IsTaken k.history k.floor k.turn s.homes s.views). dite (ℕ_discrete taken.holder id)
+          (λ same.
+              let has = taken.holds v (subst (λ seat. get_elem? s.views seat ≡ some v) (sym same) at) in
+              let both : Some k.history ≡ Some h = sym has.0 ∙ held in
+              let is : k.history ≡ h = cc in
+              (taken, same, is, has.1))
+          (λ other. absurd (holds_none v h (taken.others id v (λ e. other (sym e)) at) held)))
+      k.place
+
+  pub takes_turn : (slots id : ℕ) (m : Sat) (number : ℕ) (f : ℕ → ℕ) → m.0.role ≡ Numbered number → m.0.held ≡ None → ((n : ℕ) → 0 < f n) → Allows Rule slots id m 0 f (took m)
+  takes_turn slots id m number f numbered nothing positive s k deep at small =
+      let first : get_or s.words 0 0 ≡ k.turn = ap (λ ws. get_or ws 0 0) k.words in
+      let turn : ℕ = f (get_or s.words 0 0) in
+      let fit = k.fits id m.0 at in
+      let knows : m.0.writers ≡ kinds.writers = subst (KnowsWriters kinds.writers m.0.writers) numbered fit.knows in
+      ⊎_elim
+      (λ (free : IsFree k.history k.floor k.turn s.homes s.views).
+          let w : Known = record m.0 { floor = k.floor; held = Some k.history } in (
+            w,
+            takes 0 free.log,
+            ap (λ hs. get_elem? hs 0) free.home,
+            record {
+              history = k.history;
+              turn = turn;
+              floor = k.floor;
+              marks = k.marks;
+              words = ap (λ ws. set ws 0 turn) k.words;
+              whole = k.whole;
+              recorded = k.recorded;
+              fits = fits_set s k id w (record { knows = fit.knows; seen = fit.seen; told = fit.told; own = fit.own; reached = omega arith });
+              apart = apart_set s k id m.0 w at refl;
+              place = inr (record {
+                taken = positive (get_or s.words 0 0);
+                away = ap (λ hs. set hs 0 none) free.home;
+                holder = id;
+                seated = let less = at_below s.views id m.0 at in omega (arith, length-set s.views id w);
+                holds = λ u at'. all_set (λ seat u. seat ≡ id → (u.held ≡ Some k.history) × (u.floor ≡ k.floor)) s.views id w (λ same. (refl, refl)) (λ seat u apart at'' same. absurd (apart same)) id u at' refl;
+                others = λ seat u other at'. all_set (λ seat u. seat ≢ id → u.held ≡ None) s.views id w (λ away. absurd (away refl)) (λ seat u apart at'' away. free.nobody seat u at'') seat u at' other;
+              });
+            },
+            (
+              (λ is_zero. record {
+                history = k.history;
+                floor = k.floor;
+                log = free.log;
+                whole = k.whole;
+                is_log = free.is_log;
+                recorded = subst (λ n. IsRecorded n k.history) (sym knows) k.recorded;
+                begins = fit.seen;
+                own = fit.own;
+                is = refl;
+              }),
+              (λ isnt_zero. absurd (isnt_zero (first ∙ free.free))),
+            ),
+          ))
+      (λ (taken : IsTaken k.history k.floor k.turn s.homes s.views). (
+        m.0,
+        keeps,
+        tt,
+        subst (λ vs. Rule record { words = set s.words 0 turn; homes = s.homes; views = vs }) (sym (set_again s.views id m.0 at)) (record {
+          history = k.history;
+          turn = turn;
+          floor = k.floor;
+          marks = k.marks;
+          words = ap (λ ws. set ws 0 turn) k.words;
+          whole = k.whole;
+          recorded = k.recorded;
+          fits = k.fits;
+          apart = k.apart;
+          place = inr (record { taken = positive (get_or s.words 0 0); away = taken.away; holder = taken.holder; seated = taken.seated; holds = taken.holds; others = taken.others });
+        }),
+        (
+          (λ is_zero. let some_turn = taken.taken in absurd (omega arith)),
+          (λ isnt_zero. refl),
+        ),
+      ))
+      k.place
+
+  pub frees_turn : (slots id : ℕ) (m : Sat) (h : History) (log : Stored) → m.0.held ≡ Some h → m.1 ≡ (0, log) ∷ [] → IsLog h m.0.floor log → Allows Rule slots id m 0 (λ n. 0) (freed m)
+  frees_turn slots id m h log held has is_log s k deep at small =
+      let t = mine s k id m.0 h at held in
+      let taken = t.0 in
+      let fit = k.fits id m.0 at in
+      let w : Known = record m.0 { held = None } in (
+        w,
+        gives,
+        tt,
+        record {
+          history = k.history;
+          turn = 0;
+          floor = k.floor;
+          marks = k.marks;
+          words = ap (λ ws. set ws 0 0) k.words;
+          whole = k.whole;
+          recorded = k.recorded;
+          fits = fits_set s k id w (record { knows = fit.knows; seen = fit.seen; told = fit.told; own = fit.own; reached = fit.reached });
+          apart = apart_set s k id m.0 w at refl;
+          place = inl (record {
+            free = refl;
+            log = log;
+            home = ap (λ c. homes_after s.homes c gives) has ∙ ap (λ hs. set hs 0 (some log)) taken.away;
+            is_log = subst (λ (x : History × ℕ). IsLog x.0 x.1 log) (λ i. (sym t.2 i, t.3 i)) is_log;
+            nobody = all_set (λ seat u. u.held ≡ None) s.views id w refl (λ seat u apart at'. taken.others seat u (λ same. apart (same ∙ t.1)) at');
+          });
+        },
+        refl,
+      )
+
+  -- ---- under the turn
+
+  pub looks : (slots id : ℕ) (m : Sat) (h : History) → m.0.held ≡ Some h → Allows Rule slots id m 1 (λ n. n) (looked m)
+  looks slots id m h held s k deep at small =
+      let t = mine s k id m.0 h at held in
+      let fit = k.fits id m.0 at in
+      let known : held_by m.0 ≡ k.history = ap (held_or []) held ∙ sym t.2 in
+      let w : Known = record m.0 { seen = held_by m.0 } in (
+        w,
+        keeps,
+        tt,
+        loaded s 1 s.homes (set s.views id w) (record {
+          history = k.history;
+          turn = k.turn;
+          floor = k.floor;
+          marks = k.marks;
+          words = k.words;
+          whole = k.whole;
+          recorded = k.recorded;
+          fits = fits_set s k id w (record {
+            knows = fit.knows;
+            seen = subst (λ es. IsPrefix es k.history) (sym known) (prefix_refl k.history);
+            told = fit.told;
+            own = subst (λ es. HasOwn k.history es m.0.role) (sym known) (own_of_all k.history m.0.seen m.0.role fit.own);
+            reached = fit.reached;
+          });
+          apart = apart_set s k id m.0 w at refl;
+          place = inr (taken_set k.history k.history k.floor k.turn s.homes s.views id w t.0 t.1 (held ∙ ap (λ es. Some es) (sym t.2)) t.3);
+        }),
+        (ap (λ ws. get_or ws 1 0) k.words ∙ ap length (sym known), refl),
+      )
+
+  pub enters : (slots id : ℕ) (m : Sat) (number : ℕ) (h : History) (log : Stored) (e : Entry) (new : ℕ) → m.0.role ≡ Numbered number → m.0.held ≡ Some h → m.1 ≡ (0, log) ∷ [] →
+      m.0.floor ≤ length h → IsLog (h ++ e ∷ []) m.0.floor log → e.client ≡ number → number < m.0.writers → verdict e.write h ≡ None → IsWrite e.write → new ≡ length h + 1 →
+      Allows Rule slots id m 1 (λ n. new) (λ n. entered m new)
+  enters slots id m number h log e new numbered held has low is_log by below free write count s k deep at small =
+      let t = mine s k id m.0 h at held in
+      let fit = k.fits id m.0 at in
+      let knows : m.0.writers ≡ kinds.writers = subst (KnowsWriters kinds.writers m.0.writers) numbered fit.knows in
+      let more : History = k.history ++ e ∷ [] in
+      let same : more ≡ whole_by m = ap (λ es. es ++ e ∷ []) t.2 ∙ sym (whole_is m h log e held has low is_log) in
+      let long : new ≡ length more = count ∙ ap (λ es. length es + 1) (sym t.2) ∙ sym (length-append k.history (e ∷ [])) in
+      let w : Known = record m.0 { seen = more; held = Some more } in (
+        w,
+        keeps,
+        tt,
+        record {
+          history = more;
+          turn = k.turn;
+          floor = k.floor;
+          marks = k.marks;
+          words = ap (λ ws. set ws 1 new) k.words ∙ ap (λ n. k.turn ∷ n ∷ k.floor ∷ k.marks) long;
+          whole = k.whole;
+          recorded = IsRecorded-push kinds.writers k.history e k.recorded (ap (λ es. verdict e.write es) t.2 ∙ free) write (omega arith);
+          fits = all_set (λ seat u. Fits kinds more k.floor u) s.views id w
+              (record {
+                knows = fit.knows;
+                seen = prefix_refl more;
+                told = prefix_trans m.0.told k.history more fit.told (prefix_more k.history (e ∷ []));
+                own = subst (HasOwn more more) (sym numbered) refl;
+                reached = fit.reached;
+              })
+              (λ seat u away at'. fits_after kinds k.history k.floor number e u by (subst (Apart u.role) numbered (k.apart seat id u m.0 away at' at)) (k.fits seat u at'));
+          apart = apart_set s k id m.0 w at refl;
+          place = inr (taken_set k.history more k.floor k.turn s.homes s.views id w t.0 t.1 refl t.3);
+        },
+        ap (λ es. (record m.0 { seen = es; held = Some es }, m.1)) same,
+      )
+
+  -- ---- numbers and notes
+
+  pub agrees : (slots id : ℕ) (m : Sat) (number : ℕ) → m.0.role ≡ Numbered number → m.0.held ≡ None → Allows Rule slots id m 1 (λ n. n) (agreed m)
+  agrees slots id m number numbered nothing s k deep at small =
+      let fit = k.fits id m.0 at in
+      let knows : m.0.writers ≡ kinds.writers = subst (KnowsWriters kinds.writers m.0.writers) numbered fit.knows in
+      let more : History = longer m.0.seen m.0.told in
+      let all : IsPrefix more k.history = longer_either (λ es. IsPrefix es k.history) m.0.seen m.0.told fit.seen fit.told in
+      let begins : IsPrefix m.0.seen more = prefix_longer m.0.seen m.0.told k.history fit.seen fit.told in
+      let own : HasOwn k.history m.0.seen (Numbered number) = subst (HasOwn k.history m.0.seen) numbered fit.own in
+      let still : written_by number k.history ≡ written_by number more = written_by-between number m.0.seen more k.history begins all own in
+      let w : Known = record m.0 { seen = more; told = [] } in (
+        w,
+        keeps,
+        tt,
+        loaded s 1 s.homes (set s.views id w) (quiet s k id m.0 w at nothing nothing refl (record {
+          knows = fit.knows;
+          seen = all;
+          told = prefix_nil k.history;
+          own = own_of_more k.history m.0.seen more m.0.role begins all fit.own;
+          reached = fit.reached;
+        })),
+        record {
+          begins = begins;
+          told = prefix_longer_second m.0.seen m.0.told k.history fit.seen fit.told;
+          own = subst (HasOwn more m.0.seen) (sym numbered) (sym still ∙ own);
+          recorded = subst (λ n. IsRecorded n more) (sym knows) (IsRecorded-prefix kinds.writers more k.history all k.recorded);
+          is = refl;
+        },
+      )
+
+  pub deals : (id : ℕ) (v : Known) (next : ℕ) → v.role ≡ Deals next → v.held ≡ None → Splits Rule id v (dealing v) (dealt v)
+  unfolding turns
+  deals id v next deal nothing s k at =
+      let fit = k.fits id v at in
+      let left_is : (dealing v).role ≡ Deals (next + 1) = ap role_left deal in
+      let dealt_is : (dealt v).role ≡ Numbered next = ap role_dealt deal in
+      let own : HasOwn k.history v.seen (Deals next) = subst (HasOwn k.history v.seen) deal fit.own in
+      let knows : v.writers ≡ kinds.writers = subst (KnowsWriters kinds.writers v.writers) deal fit.knows in
+      let away : (seat : ℕ) (u : Known) → seat ≢ id → get_elem? s.views seat ≡ some u → Apart u.role (Deals next) × Apart (Deals next) u.role =
+          λ seat u other at'. (subst (Apart u.role) deal (k.apart seat id u v other at' at), subst (λ r. Apart r u.role) deal (k.apart id seat v u (λ e. other (sym e)) at at')) in
+      let left : Rule record { words = s.words; homes = s.homes; views = set s.views id (dealing v) } =
+          turns s k id v (dealing v) at nothing nothing
+          (λ seat u other at'. let a = away seat u other at' in (
+            subst (Apart u.role) (sym left_is) (apart_left u.role next a.0),
+            subst (λ r. Apart r u.role) (sym left_is) (apart_left_first u.role next a.1),
+          ))
+          (record {
+            knows = subst (KnowsWriters kinds.writers v.writers) (sym left_is) knows;
+            seen = fit.seen;
+            told = fit.told;
+            own = subst (HasOwn k.history v.seen) (sym left_is) (λ n past. own n (omega arith));
+            reached = fit.reached;
+          }) in
+      comes record { words = s.words; homes = s.homes; views = set s.views id (dealing v) } left (dealt v) refl
+      (all_set (λ seat u. Apart u.role (dealt v).role × Apart (dealt v).role u.role) s.views id (dealing v)
+        (subst (λ (x : Role × Role). Apart x.0 x.1 × Apart x.1 x.0) (λ i. (sym left_is i, sym dealt_is i)) (lt_next next, lt_next next))
+        (λ seat u other at'. let a = away seat u other at' in (
+          subst (Apart u.role) (sym dealt_is) (apart_dealt u.role next a.0),
+          subst (λ r. Apart r u.role) (sym dealt_is) (apart_dealt_first u.role next a.1),
+        )))
+      (record {
+        knows = subst (KnowsWriters kinds.writers v.writers) (sym dealt_is) knows;
+        seen = prefix_nil left.history;
+        told = prefix_nil left.history;
+        own = subst (HasOwn left.history []) (sym dealt_is) (own next (omega arith));
+        reached = omega arith;
+      })
+
+  pub notes : (id : ℕ) (v : Known) → v.held ≡ None → Splits Rule id v v (note_of v)
+  notes id v nothing s k at =
+      let fit = k.fits id v at in
+      subst (λ vs. Rule record { words = s.words; homes = s.homes; views = vs ++ note_of v ∷ [] }) (sym (set_again s.views id v at))
+      (comes s k (note_of v) refl (λ seat u at'. (apart_note u.role, tt))
+      (record { knows = tt; seen = fit.seen; told = prefix_nil k.history; own = tt; reached = fit.reached }))
+
+  pub informs : (id other : ℕ) (v w : Known) → v.held ≡ None → w.held ≡ None → w.role ≡ Notes → Joins Rule id v other w (informed v w) read_note
+  informs id other v w nothing none_w note s k at apart at' =
+      let fit = k.fits id v at in
+      let told = k.fits other w (sym (set_else s.views id other (informed v w) apart) ∙ at') in
+      let next : Rule record { words = s.words; homes = s.homes; views = set s.views id (informed v w) } =
+          quiet s k id v (informed v w) at nothing nothing refl (record {
+            knows = fit.knows;
+            seen = fit.seen;
+            told = told.seen;
+            own = fit.own;
+            reached = let a = fit.reached in let b = told.reached in omega arith;
+          }) in
+      quiet record { words = s.words; homes = s.homes; views = set s.views id (informed v w) } next other w read_note at' none_w refl (sym note)
+      (record { knows = tt; seen = prefix_nil next.history; told = prefix_nil next.history; own = tt; reached = omega arith })
+
+  -- the table at the start
+  pub opens : (log : Stored) → IsLog [] 0 log → Rule (opening (0 ∷ 0 ∷ 0 ∷ []) (log ∷ []) (dealer kinds))
+  opens log is_log = record {
+    history = [];
+    turn = 0;
+    floor = 0;
+    marks = [];
+    words = refl;
+    whole = refl;
+    recorded = IsRecorded-nil kinds.writers;
+    fits = all_end (λ seat u. Fits kinds [] 0 u) [] (dealer kinds)
+        (record { knows = refl; seen = prefix_nil []; told = prefix_nil []; own = λ number past. refl; reached = omega arith })
+        (λ seat u at. absurd (at_none seat u at));
+    apart = each_end (λ (u : Known) (u' : Known). Apart u.role u'.role) [] (dealer kinds) (λ seat other u u' away at. absurd (at_none seat u at)) (λ seat u at. absurd (at_none seat u at));
+    place = inl (record {
+      free = refl;
+      log = log;
+      home = refl;
+      is_log = is_log;
+      nobody = all_end (λ seat u. u.held ≡ None) [] (dealer kinds) refl (λ seat u at. absurd (at_none seat u at));
+    });
+  }

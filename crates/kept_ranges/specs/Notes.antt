@@ -1,6 +1,6 @@
 -- Notes of which keys of an output may have changed.
-use Rattle.std.specs.Prelude.{◌≡◌, ℕ, ◌+◌, ◌-◌, ◌≤◌, ◌&&◌, List, [], ◌∷◌, ◌++◌, length, take, drop, Bool, true, false, nat_lt, if◌then◌else◌, is_some, slice_get, Some, Option, None, unwrap_or, option_map}
-use Rattle.std.specs.List.{list_any, AllByRecursion}
+use Rattle.std.specs.Prelude.{◌≡◌, ℕ, zero, suc, ◌-◌, ◌≤◌, ◌&&◌, List, [], ◌∷◌, ◌++◌, length, take, drop, Bool, true, false, nat_lt, is_some}
+use Rattle.std.specs.List.{list_any}
 use Rattle.semantics.specs.Texts.{Text, same, Table, Range, value_at, within}
 use Rattle.semantics.specs.Patterns.{Pattern, Slots, bind}
 use Rattle.semantics.specs.Joins.{Join}
@@ -32,19 +32,21 @@ is_noted output u notes q = list_any (λ note. nat_lt u note.position && marks o
 abbrev pub note_limit : ℕ
 note_limit = 256
 
--- no note was made before an earlier one, nor after a position
-abbrev pub AreInOrder : ℕ → List Note → Type 0
-AreInOrder q [] = Unit {0}
-AreInOrder q (note ∷ notes) = (note.position ≤ q) × AllByRecursion (λ later. note.position ≤ later.position) notes × AreInOrder q notes
+-- notes stand in the order in which they were made: none was made before a first position, before an earlier one, or after a last position
+abbrev pub AreInOrder : ℕ → ℕ → List Note → Type 0
+AreInOrder first last [] = first ≤ last
+AreInOrder first last (note ∷ notes) = (first ≤ note.position) × AreInOrder note.position last notes
 
 -- notes, and the position from which they are complete
 pub record Notes : Type 0 where
   pub start : ℕ
   pub list : List Note
 
--- the last of so many first notes was made at this position; the given one where there is none
+-- the position of the last of so many first notes, the given one where there is none
 abbrev pub last_dropped : ℕ → ℕ → List Note → ℕ
-last_dropped start dropped notes = if nat_lt 0 dropped then unwrap_or (option_map (λ note. note.position) (slice_get notes (dropped - 1))) start else start
+last_dropped start zero notes = start
+last_dropped start (suc dropped) [] = start
+last_dropped start (suc dropped) (note ∷ notes) = last_dropped note.position dropped notes
 
 -- the notes with others added: the last 256 of all; where older ones are pushed out, the notes start at the position of the last of them
 abbrev pub noted : Notes → List Note → Notes

@@ -31,8 +31,7 @@ pub record IsSoundAt (s : KeptRange) (h : History) (q : ℕ) : Type 0 where
   pub stands : HasRank (joins_of (take q h)) s.join s.rank
   pub right : IsRight s.join s.range (below (take q h) s.rank) s.kept
   pub listed : is_aggregate (value_operator s.join) ≡ true → IsListed s (below (take q h) s.rank)
-  pub starts : s.notes.start ≤ q
-  pub in_order : AreInOrder q s.notes.list
+  pub in_order : AreInOrder s.notes.start q s.notes.list
   pub noted : NotesHold s.join s.rank s.range h q s.kept.pending s.notes
 
 -- `Sound`: a kept range that stands nowhere, or is right where it stands

@@ -2,7 +2,7 @@
 use Rattle.std.specs.Prelude.{◌≡◌, ◌⊎◌, ◌↔◌, ℕ, ◌≤◌, List, ◌++◌, [], ◌∷◌, map, length, take, true, Contains, Some}
 use Rattle.std.specs.List.{AllByRecursion}
 use Rattle.semantics.specs.Texts.{Text, is_range, Range, value_at, within}
-use Rattle.semantics.specs.Patterns.{Slots}
+use Rattle.semantics.specs.Patterns.{Pattern, Slots}
 use Rattle.semantics.specs.Joins.{copy, is_aggregate, Join, value_operator}
 use Rattle.semantics.specs.Histories.{History, IsPrefix, joins_of}
 use Rattle.semantics.specs.States.{below}
@@ -19,20 +19,15 @@ use Rattle.kept_ranges.specs.Sound.{KeptRange, IsSoundAt, IsSound}
 
 -- ---- notes
 
--- adding notes that are made at one position, from which none was made later, keeps them in order; their start does not fall
-pub record StaysInOrder (p : ℕ) (before after : Notes) : Type 0 where
-  pub in_order : AreInOrder p after.list
-  pub starts : after.start ≤ p
-  pub later : before.start ≤ after.start
-
+-- adding notes that are made at one position, from which none was made later, keeps them in order, and their start does not fall
 abbrev pub NotedInOrder : Type 0
-NotedInOrder = (q p : ℕ) (notes : Notes) (added : List Note) → q ≤ p → notes.start ≤ q → AreInOrder q notes.list → AllByRecursion (λ note. note.position ≡ p) added →
-    StaysInOrder p notes (noted notes added)
+NotedInOrder = (q p : ℕ) (notes : Notes) (added : List Note) → q ≤ p → AreInOrder notes.start q notes.list → AllByRecursion (λ note. note.position ≡ p) added →
+    (notes.start ≤ (noted notes added).start) × AreInOrder (noted notes added).start p (noted notes added).list
 
 -- a note that was made after the position at which the notes start afterwards is kept
 abbrev pub NotedKeepsLater : Type 0
-NotedKeepsLater = (q p u : ℕ) (notes : Notes) (added : List Note) (j : Join) (k : Text) → q ≤ p → notes.start ≤ q → AreInOrder q notes.list → AllByRecursion (λ note. note.position ≡ p) added →
-    (noted notes added).start ≤ u → is_noted j.output u (noted notes added).list k ≡ is_noted j.output u (notes.list ++ added) k
+NotedKeepsLater = (q p u : ℕ) (notes : Notes) (added : List Note) (output : Pattern) (k : Text) → q ≤ p → AreInOrder notes.start q notes.list → AllByRecursion (λ note. note.position ≡ p) added →
+    (noted notes added).start ≤ u → is_noted output u (noted notes added).list k ≡ is_noted output u (notes.list ++ added) k
 
 -- ---- histories
 

@@ -1,0 +1,5 @@
+pub mod PathLemmas
+pub mod OutputPathLemmas
+pub mod TouchLemmas
+pub mod ApplyLemmas
+pub mod AdvanceLemmas

@@ -1,11 +1,11 @@
 -- An advance of a copy join keeps what is right.
-use Rattle.std.proofs.Common.{◌≡◌, ◌⊎◌, ℕ, ◌<◌, ◌≤◌, true, false, List, [], ◌∷◌, length, map, take, slice_get, Any, Contains, Option, Some, None, is_some, IsSomeAnd, refl, sym, ap, ◌∙◌, subst, inl, inr, ⊎_elim, arith}
-use Rattle.std.specs.List.{list_any, AllByRecursion}
+use Rattle.std.proofs.Common.{◌≡◌, ℕ, ◌≤◌, true, false, List, length, map, take, slice_get, Any, Contains, Option, Some, None, is_some, refl, sym, ap, ◌∙◌, subst, ⊎_elim, arith}
+use Rattle.std.specs.List.{AllByRecursion}
 use Rattle.std.proofs.lemmas.Bool.{false≢true}
-use Rattle.std.proofs.lemmas.Option.{none-some, same_Some, slice_get_within}
+use Rattle.std.proofs.lemmas.Option.{same_Some, slice_get_within}
 use Rattle.std.proofs.lemmas.List.{length-take-le}
 use Rattle.semantics.specs.Texts.{Text, Table, Range, value_at, within}
-use Rattle.semantics.specs.Patterns.{Slots, is_pattern, Fits, IsPartOf, bind, fill}
+use Rattle.semantics.specs.Patterns.{Slots, is_pattern, Fits, IsPartOf, bind}
 use Rattle.semantics.specs.Joins.{Source, Join, is_check}
 use Rattle.semantics.specs.Outputs.{out}
 use Rattle.semantics.specs.OutputLaws.{IsCopyJoin}
@@ -13,7 +13,7 @@ use Rattle.semantics.proofs.PatternLemmas.{part_itself, part_trans, fill_fits, b
 use Rattle.semantics.proofs.BindLemmas.{texts_bind}
 use Rattle.semantics.proofs.TableLemmas.{IsAscending}
 use Rattle.semantics.proofs.MemberLemmas.{Has, has_from_contains, contains_from_has, has_map, has_mapped, any_from_has, passes_from_all}
-use Rattle.semantics.proofs.OutputLemmas.{output_of_join, sources_of_join, out_keys_fit_short}
+use Rattle.semantics.proofs.OutputLemmas.{output_of_join, sources_of_join}
 use Rattle.key_ranges.specs.Containing.{only}
 use Rattle.key_ranges.proofs.OnlyLemmas.{only_has_places}
 use Rattle.range_evaluation.specs.Trees.{Need, placed_sources}
@@ -24,14 +24,14 @@ use Rattle.range_evaluation.proofs.FollowedLemmas.{short_keys}
 use Rattle.range_evaluation.proofs.PathLemmas.{short_at, is_any, path_before, path_key}
 use Rattle.growing_history.proofs.ElementLemmas.{all_from_has, has_of_all}
 use Rattle.kept_ranges.specs.Kept.{Kept, is_covered, IsRowKey, AreRows, AreFollowed, CameBy, IsRight}
-use Rattle.kept_ranges.specs.Rules.{source_of, Touch, touches, is_left, Application, applications, applied, IsCut, IsAdvanced}
+use Rattle.kept_ranges.specs.Rules.{source_of, touches, Application, applications, applied, IsCut}
 use Rattle.kept_ranges.specs.Listing.{IsApplied}
 use Rattle.kept_ranges.specs.FillLaws.{IsSource}
 use Rattle.kept_ranges.specs.AdvanceLaws.{AreReported, AdvancedIsRight, UnappliedIsSame}
-use Rattle.kept_ranges.proofs.PathLemmas.{has_of_any, has_at, has_from_at, has_from_take, some_with, path_wider, StandsNext, path_over, stands_at, source_before, IsLaidOut, copy_laid_out, checked_before, value_last}
-use Rattle.kept_ranges.proofs.OutputPathLemmas.{LeadsTo, out_is_source, IsMadeBy, path_from_out, filled_by_path}
+use Rattle.kept_ranges.proofs.PathLemmas.{has_of_any, has_at, has_from_at, has_from_take, some_with, path_wider, path_over, stands_at, source_before, IsLaidOut, copy_laid_out, checked_before, value_last}
+use Rattle.kept_ranges.proofs.OutputPathLemmas.{LeadsTo, out_is_source, path_from_out, filled_by_path}
 use Rattle.kept_ranges.proofs.TouchLemmas.{only_part, touches_have, left_unreported, left_untouched, left_fewer, cut_left, cut_keeps, cut_pends, cut_uncovered, cut_pending}
-use Rattle.kept_ranges.proofs.ApplyLemmas.{IsApplication, application_from, application_has, applied_row_key, ascending-applied, StaysAt, IsSetAt, stays_or_set, applied_keys}
+use Rattle.kept_ranges.proofs.ApplyLemmas.{IsApplication, application_from, application_has, applied_row_key, ascending-applied, StaysAt, stays_or_set, applied_keys}
 
 -- ---- an advance
 

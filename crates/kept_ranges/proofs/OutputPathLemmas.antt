@@ -1,18 +1,18 @@
 -- The output of a copy join at a key, from a full path and back.
-use Rattle.std.proofs.Common.{◌≡◌, ℕ, ◌+◌, ◌<◌, ◌≤◌, List, [], ◌∷◌, ◌++◌, length, get_or, map, filter, take, slice_get, true, false, Contains, Option, Some, None, is_some, option_map, refl, sym, ap, ◌∙◌, subst, inl, inr, ⊎_elim, arith, length-append}
+use Rattle.std.proofs.Common.{◌≡◌, ℕ, ◌+◌, ◌≤◌, List, [], ◌∷◌, ◌++◌, length, get_or, map, filter, take, slice_get, true, Contains, Option, Some, None, is_some, option_map, refl, sym, ap, ◌∙◌, subst, inl, inr, ⊎_elim, arith, length-append}
 use Rattle.std.specs.List.{list_all, join_with_byte}
 use Rattle.std.proofs.lemmas.Bool.{false≢true, and_parts}
 use Rattle.std.proofs.lemmas.Option.{none-some, same_Some, slice_get-get_or}
 use Rattle.std.proofs.lemmas.List.{length-take-le}
 use Rattle.semantics.specs.Texts.{Text, bar, same, Table, value_at}
 use Rattle.semantics.specs.Patterns.{Pattern, Slots, is_pattern, segments, Fits, IsPartOf, bind, fill}
-use Rattle.semantics.specs.Joins.{copy, Source, Join, is_join, is_check, evaluation_order, slots_of, occurs, keeps_slot_rule, value_operator}
+use Rattle.semantics.specs.Joins.{copy, Source, Join, is_join, slots_of, occurs}
 use Rattle.semantics.specs.Outputs.{Match, no_match, extended, after_fit, matches_from, matches, value_of_last, contribution, contributions, result_of, listed, out}
 use Rattle.semantics.specs.OutputLaws.{IsCopyJoin, last_key}
 use Rattle.semantics.proofs.PieceLemmas.{same_itself, join-pieces}
 use Rattle.semantics.proofs.PatternLemmas.{length-no_slots, no_slots_part, part_itself, part_trans, fits_more, fit_is_fill, fill_fits, bind_some, segments_of_pattern}
 use Rattle.semantics.proofs.BindLemmas.{length-bind}
-use Rattle.semantics.proofs.MemberLemmas.{Has, contains_from_has, has_from_contains, has_filtered, has_mapped, has_filter_mapped, has_flat_mapped}
+use Rattle.semantics.proofs.MemberLemmas.{Has, has_filtered, has_mapped, has_filter_mapped, has_flat_mapped}
 use Rattle.semantics.proofs.TableLemmas.{IsAscending, value_from_has}
 use Rattle.semantics.proofs.GatherLemmas.{value_at-out}
 use Rattle.semantics.proofs.MatchLemmas.{match_step, match_keeps, match_from, match_texts}

@@ -1,15 +1,15 @@
 -- What is touched: the slots that a changed key of a check source sets, and the needs that are left.
-use Rattle.std.proofs.Common.{◌≡◌, ◌⊎◌, ℕ, Bool, true, false, cond, not, List, [], ◌∷◌, length, map, filter, flat_map, filter_map, slice_get, Contains, Option, Some, None, is_some, option_map, refl, sym, ap, ◌∙◌, subst, inl, inr, ⊎_elim}
-use Rattle.std.specs.List.{list_any, list_all, AllByRecursion}
+use Rattle.std.proofs.Common.{◌≡◌, ℕ, Bool, true, false, cond, not, List, [], map, filter_map, Contains, Option, Some, None, is_some, option_map, refl, sym, ap, ◌∙◌, subst, inl, inr, ⊎_elim}
+use Rattle.std.specs.List.{list_any, AllByRecursion}
 use Rattle.std.proofs.lemmas.Bool.{false≢true, not-true}
 use Rattle.std.proofs.lemmas.Option.{none-some, same_Some}
 use Rattle.semantics.specs.Texts.{Text, same, Table, within}
-use Rattle.semantics.specs.Patterns.{Pattern, Slots, text_at, is_segment, is_pattern, IsPartOf, bind}
+use Rattle.semantics.specs.Patterns.{Pattern, Slots, text_at, is_pattern, IsPartOf, bind}
 use Rattle.semantics.specs.PatternLaws.{AreSegmentTexts}
 use Rattle.semantics.specs.Joins.{Source, Join, is_join, is_check, slots_of, occurs}
 use Rattle.semantics.proofs.PieceLemmas.{same_itself, equal_by_same}
 use Rattle.semantics.proofs.PatternLemmas.{segments_of_pattern}
-use Rattle.semantics.proofs.BindLemmas.{texts_bind, length-bind}
+use Rattle.semantics.proofs.BindLemmas.{texts_bind}
 use Rattle.semantics.proofs.MemberLemmas.{Has, has_from_contains, contains_from_has, has_filter, has_filtered, has_map, has_mapped, has_filter_map, has_filter_mapped, has_flat_map, has_flat_mapped, any_from_has, has_from_any}
 use Rattle.semantics.proofs.OutputLemmas.{output_of_join}
 use Rattle.key_ranges.specs.Containing.{only}
@@ -18,7 +18,7 @@ use Rattle.range_evaluation.specs.Trees.{Need}
 use Rattle.range_evaluation.specs.TreeLaws.{AreOutputSlots}
 use Rattle.growing_history.proofs.ElementLemmas.{all_from_has, has_of_all}
 use Rattle.kept_ranges.specs.Kept.{Kept, is_covered, CameBy}
-use Rattle.kept_ranges.specs.Rules.{source_of, reported_in, Touch, touch_of, touches_by, touches, is_touched, is_left, AddsTouched, IsCut}
+use Rattle.kept_ranges.specs.Rules.{source_of, reported_in, Touch, touch_of, touches_by, touches, is_touched, is_left, IsCut}
 
 -- ---- slots of the output alone
 
@@ -161,6 +161,7 @@ cut_uncovered j reported before after key cut h = by_before (is_covered j.output
   where
     covers : Slots → Bool
     covers slots = is_some (bind j.output key slots)
+
     by_before : (b : Bool) → is_covered j.output before.pending key ≡ b → b ≡ false
     by_before false e = refl
     by_before true e =

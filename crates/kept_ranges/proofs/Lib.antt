@@ -5,3 +5,5 @@ pub mod OutputPathLemmas
 pub mod TouchLemmas
 pub mod ApplyLemmas
 pub mod AdvanceLemmas
+pub mod ReadLemmas
+pub mod FillLemmas

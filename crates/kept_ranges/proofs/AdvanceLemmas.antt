@@ -35,7 +35,7 @@ use Rattle.kept_ranges.proofs.ApplyLemmas.{IsApplication, application_from, appl
 
 -- ---- an advance
 
--- needs and slots that are kept from one table to another, beside reported keys: what was right for the first table, and is cut
+-- what is kept goes from one table to another: it was right for the first, both are the same beside the reported keys, and it was cut for these
 record IsCarried (j : Join) (s : Source) (range : Range) (reported : List Text) (table other : Table) (before after : Kept) : Type 0 where
   rules : IsCopyJoin j
   laid : IsLaidOut j s
@@ -56,7 +56,7 @@ record IsSameKey (reported : List Text) (table other : Table) (key : Text) : Typ
   unreported : Has reported key → ⊥
   value : value_at key table ≡ value_at key other
 
--- the key of a need's range is the same in both tables, where it is not reported
+-- a key of a need's range that is not reported is the same in both tables
 same_key : (j : Join) (s : Source) (range : Range) (reported : List Text) (table other : Table) (before after : Kept) (need : Need) (key : Text) → IsCarried j s range reported table other before after
     → Has before.needs need → within need.range key ≡ true → (Has reported key → ⊥) → IsSameKey reported table other key
 same_key j s range reported table other before after need key c has holds none = record {
@@ -78,7 +78,7 @@ next_need j s range reported table other before after key more wider path source
     has_of_any (HoldsNext source path more next) before.needs
     (c.right.followed key path more wider source r next is_open.inside (cut_uncovered j reported before after key c.cut is_open.uncovered) is_open.agrees path_is at wide fit short)
 
--- a reported key of a check that such a need holds would cover the open key
+-- the next key of a check is not reported: what it then touched would cover the open key
 next_is_same : (j : Join) (s : Source) (range : Range) (reported : List Text) (table other : Table) (before after : Kept) (key : Text) (more : Slots) (path : List Text) (source : ℕ) (r : Source) (next : Text)
     → IsCarried j s range reported table other before after → IsOpen j range after key more → IsPath (placed_sources j) table path more → slice_get (placed_sources j) (length path) ≡ Some (source, r)
     → is_check r.operator ≡ true → Fits r.pattern next more → length next ≤ 512 → IsSameKey reported table other next
@@ -99,7 +99,7 @@ next_is_same j s range reported table other before after key more path source r 
 abbrev AreChecks : Join → List Text → Type 0
 AreChecks j path = (i source : ℕ) (r : Source) (key : Text) → slice_get (placed_sources j) i ≡ Some (source, r) → slice_get path i ≡ Some key → is_check r.operator ≡ true
 
--- those of a path from which a source goes on
+-- those of a path after which a source follows
 checks_before : (j : Join) (s : Source) (path : List Text) (p : ℕ × Source) → IsLaidOut j s → slice_get (placed_sources j) (length path) ≡ Some p → AreChecks j path
 checks_before j s path p laid at i source r key there is = checked_before j s (length path) i (source, r) p laid at (slice_get_within path i key is) there
 
@@ -228,11 +228,11 @@ same_by_path j s range reported table other before after key path next slots c i
     ∙ sym (same_key j s range reported table other before after w.0 next c w.1 w.3.holds unreported).value
     ∙ sym (out_is_source j s table key path next slots c.rules c.laid c.first.ascending leads full)
 
--- the other path's table
+-- what leads to a key over one table leads to it over another in which the checks' keys are a path
 leads_over : (j : Join) (s : Source) (place : ℕ) (table other : Table) (key : Text) (path : List Text) (next : Text) (slots : Slots) → LeadsTo j s place table key path next slots → IsPath (placed_sources j) other path slots → LeadsTo j s place other key path next slots
 leads_over j s place table other key path next slots leads path_is = record { path_is = path_is; at = leads.at; fits = leads.fits; agrees = leads.agrees; short = leads.short }
 
--- where the output has a key in neither table it is the same
+-- two values are the same, where they are so as soon as one of them is there
 same_by : (a b : Option Text) → (is_some a ≡ true → a ≡ b) → (is_some b ≡ true → a ≡ b) → a ≡ b
 same_by None None f g = refl
 same_by None (Some y) f g = g refl

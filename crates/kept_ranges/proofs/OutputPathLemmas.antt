@@ -6,7 +6,7 @@ use Rattle.std.proofs.lemmas.Option.{none-some, same_Some, slice_get-get_or}
 use Rattle.std.proofs.lemmas.List.{length-take-le}
 use Rattle.semantics.specs.Texts.{Text, bar, same, Table, value_at}
 use Rattle.semantics.specs.Patterns.{Pattern, Slots, is_pattern, segments, Fits, IsPartOf, bind, fill}
-use Rattle.semantics.specs.Joins.{copy, Source, Join, is_join, slots_of, occurs}
+use Rattle.semantics.specs.Joins.{copy, Source, Join, slots_of, occurs}
 use Rattle.semantics.specs.Outputs.{Match, no_match, extended, after_fit, matches_from, matches, value_of_last, contribution, contributions, result_of, listed, out}
 use Rattle.semantics.specs.OutputLaws.{IsCopyJoin, last_key}
 use Rattle.semantics.proofs.PieceLemmas.{same_itself, join-pieces}
@@ -56,7 +56,7 @@ pub record GoesOn (output : Pattern) (ss : List Source) (table : Table) (more : 
   pub part : IsPartOf after.slots more
   pub ready : IsReady output [] after.slots
 
--- a full path is that of a match
+-- a full path gives a match
 pub path_match : (output : Pattern) (ps : List (ℕ × Source)) (table : Table) (keys : List Text) (more : Slots) (before : Match) → ArePatterns ps → length keys ≡ length ps → IsPath ps table keys more
     → length before.slots ≡ 16 → IsPartOf before.slots more → IsReady output (unplaced ps) before.slots → (after : Match) × GoesOn output (unplaced ps) table more before after
 path_match output [] table [] more before patterns full h long part ready = (before, record { matches = inl refl; part = part; ready = ready })
@@ -120,7 +120,7 @@ placed_matches : (j : Join) (table : Table) (m : Match) → Has (matches_from (u
 unfolding matches
 placed_matches j table m h = subst (λ ss. Has (matches_from ss table no_match) m) (unplaced-placed_sources j) h
 
--- and back
+-- a match of the join is one of the sources with their places
 matches_placed : (j : Join) (table : Table) (m : Match) → Contains (matches j table) m → Has (matches_from (unplaced (placed_sources j)) table no_match) m
 matches_placed j table m h = subst (λ ss. Has (matches_from ss table no_match) m) (sym (unplaced-placed_sources j)) (match_from j table m h)
 
@@ -150,7 +150,7 @@ path_more (q ∷ ps) table [] slots p key h at stands fit = (stands, subst (λ r
 path_more [] table (k ∷ ks) slots p key h at stands fit = absurd h
 path_more (q ∷ ps) table (k ∷ ks) slots p key h at stands fit = (h.0, h.1, path_more ps table ks slots p key h.2 at stands fit)
 
--- where none is there
+-- a value that is never there is none
 none_by : (o : Option Text) → ((v : Text) → o ≡ Some v → ⊥) → o ≡ None
 none_by None h = refl
 none_by (Some v) h = absurd (h v refl)

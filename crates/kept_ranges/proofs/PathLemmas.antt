@@ -85,12 +85,12 @@ at_pushed (z ∷ zs) y x (suc i) h = ⊎_elim
     (λ w. inr (omega (arith, w.0), w.1))
     (at_pushed zs y x i h)
 
--- the one more stands behind the list
+-- the last of a list with one more is that one
 pub pushed_at : {A : Type 0} (xs : List A) (y : A) → slice_get (xs ++ y ∷ []) (length xs) ≡ Some y
 pushed_at [] y = refl
 pushed_at (x ∷ xs) y = pushed_at xs y
 
--- before a source there are others
+-- at each place before a source's there is a source
 pub source_before : (ps : List (ℕ × Source)) (n i : ℕ) (p : ℕ × Source) → slice_get ps n ≡ Some p → i < n → (source : ℕ) × (s : Source) × (slice_get ps i ≡ Some (source, s))
 source_before [] n i p h less = absurd (none-some p h)
 source_before (q ∷ qs) zero i p h less = absurd (omega (arith, less))
@@ -106,7 +106,7 @@ pub record IsLaidOut (j : Join) (s : Source) : Type 0 where
   pub value : is_check s.operator ≡ false
   pub source : IsCopySource j s
 
--- a filter of sources with their places is one of the sources
+-- filtering sources with their places filters the sources
 kept_sources : (test : Source → Bool) (n : ℕ) (ss : List Source) → map (λ p. p.1) (filter (λ p. test p.1) (enumerate_from n ss)) ≡ filter test ss
 kept_sources test n [] = refl
 kept_sources test n (s ∷ ss) = by_test (test s) (kept_sources test (n + 1) ss)
@@ -116,7 +116,7 @@ kept_sources test n (s ∷ ss) = by_test (test s) (kept_sources test (n + 1) ss)
     by_test true e = ap (λ l. s ∷ l) e
     by_test false e = e
 
--- one source with its place
+-- a list of one source, with its place
 one_placed : (ps : List (ℕ × Source)) (s : Source) → map (λ p. p.1) ps ≡ s ∷ [] → (place : ℕ) × (ps ≡ (place, s) ∷ [])
 one_placed [] s h = absurd (cc)
 one_placed (p ∷ []) s h = let e : p.1 ≡ s = cc in (p.0, ap (λ r. (p.0, r) ∷ []) e)

@@ -1,5 +1,5 @@
 // Asking a reader which keys of the needs' ranges have changed.
-ghost use Rattle.std.specs.Prelude.{◌≡◌, ◌≤◌, ◌++◌, length, IfOk, IfSome, OnOk};
+ghost use Rattle.std.specs.Prelude.{◌≡◌, ◌≤◌, length, IfOk, IfSome};
 ghost use Rattle.std.specs.List.Sorted.{IsStrictlySortedBy};
 ghost use Rattle.semantics.specs.Texts.{text_cmp};
 ghost use Rattle.growing_history.specs.Changes.{in_order};
@@ -15,25 +15,26 @@ use std::collections::BTreeSet;
 use std::sync::ledger::Ledger;
 use steps::Steps;
 
-/// Adds the keys to the set.
-fn add_keys(reported: &mut BTreeSet<Key>, keys: Vec<Key>) -> Result<(), OutOfMemory>
-    ensures { OnOk result (reported.new.keys ≡ in_order (reported.old.keys ++ keys.items)) }
-{
-    for key in keys {
-        reported.insert(key)?;
-    }
-    Ok(())
-}
-
 /// The keys of a set, in order.
-fn listed(alloc: Global, reported: BTreeSet<Key>) -> Result<Vec<Key>, OutOfMemory>
-    ensures { IfOk result (λ keys. keys.items ≡ reported.keys) }
+fn listed(alloc: Global, sorted: BTreeSet<Key>) -> Result<Vec<Key>, OutOfMemory>
+    ensures { IfOk result (λ keys. keys.items ≡ sorted.keys) }
 {
     let mut keys = Vec::new(alloc);
-    for key in reported {
+    for key in sorted {
         keys.push(key)?;
     }
     Ok(keys)
+}
+
+/// The keys in order, each once. It takes as long as to sort them.
+fn sorted(alloc: Global, keys: Vec<Key>) -> Result<Vec<Key>, OutOfMemory>
+    ensures { IfOk result (λ sorted. sorted.items ≡ in_order keys.items) }
+{
+    let mut set = BTreeSet::new(alloc);
+    for key in &keys {
+        set.insert(key.copy()?)?;
+    }
+    listed(alloc, set)
 }
 
 /// The changed keys of the needs' ranges from the first q to the first p entries, ascending, each once; none where the
@@ -58,12 +59,12 @@ pub fn ask_needs<R: Reader, L: Ledger>(
     ensures moves { Moves R.list R.floor R.went reader.old reader.new }
     ensures counted { steps.old ≤ steps.new }
 {
-    let mut reported = BTreeSet::new(alloc);
+    let mut reported = Vec::new(alloc);
     for need in needs {
         match reader.changed(q, p, &need.range, rank, steps)? {
             Changed::All => return Ok(None),
-            Changed::Keys(keys) => add_keys(&mut reported, keys)?,
+            Changed::Keys(mut keys) => reported.append(&mut keys)?,
         }
     }
-    Ok(Some(listed(alloc, reported)?))
+    Ok(Some(sorted(alloc, reported)?))
 }

@@ -4,3 +4,4 @@ pub mod MendLemmas
 pub mod ApplyLemmas
 pub mod ListingLemmas
 pub mod ListingSourceLemmas
+pub mod ListingStepLemmas

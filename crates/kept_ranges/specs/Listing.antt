@@ -2,7 +2,7 @@
 use Rattle.std.specs.Prelude.{◌≡◌, List, map, filter, fold, if◌then◌else◌, Contains, Option}
 use Rattle.semantics.specs.Texts.{Text, same, Table, Range, value_at}
 use Rattle.semantics.specs.Patterns.{no_slots}
-use Rattle.semantics.specs.Joins.{Operator, Join, value_operator}
+use Rattle.semantics.specs.Joins.{Operator, Join}
 use Rattle.semantics.specs.Outputs.{result_of}
 use Rattle.range_evaluation.specs.Contributions.{Contribution, listed_contributions}
 use Rattle.agg_rows.specs.Kept.{set_source}

@@ -1,5 +1,5 @@
 -- What filling, advancing and mending make of what is kept.
-use Rattle.std.specs.Prelude.{◌≡◌, ◌⊎◌, ◌↔◌, ◌&&◌, List, [], ◌∷◌, map, filter, flat_map, filter_map, fold, Contains, Bool, false, not, if◌then◌else◌, slice_get, is_some, Option, Some, None, option_map, option_and_then, MatchOption}
+use Rattle.std.specs.Prelude.{◌≡◌, ◌⊎◌, ◌↔◌, ◌&&◌, List, [], map, filter, flat_map, filter_map, fold, Contains, Bool, not, if◌then◌else◌, slice_get, is_some, Option, Some, None, option_map, option_and_then, MatchOption}
 use Rattle.std.specs.List.{list_any}
 use Rattle.semantics.specs.Texts.{Text, same, Table, Range, value_at, within, pairs_where, pairs_within}
 use Rattle.semantics.specs.Patterns.{Slots, bind, fill}

@@ -27,12 +27,15 @@ use Rattle.kept_ranges.specs.Rules.{Touch, Application, touches, applications, I
 use Rattle.kept_ranges.specs.Listing.{AreListed, IsApplied}
 use Rattle.kept_ranges.specs.Notes.{Mark, key, slots, Note, Notes, marks, is_noted, AreInOrder, noted, NotesHold}
 use Rattle.kept_ranges.specs.Sound.{KeptRange, IsListed, IsSoundAt, IsSound}
-use Rattle.kept_ranges.specs.FillLaws.{IsSource, FilledIsRight}
-use Rattle.kept_ranges.specs.AdvanceLaws.{AreReported, AdvancedIsRight, UnappliedIsSame}
-use Rattle.kept_ranges.specs.MendLaws.{MendedIsRight}
-use Rattle.kept_ranges.specs.ListingLaws.{IsAggregateJoin, IsRelisted, RelistedAreListed, RelistedIsRight, UnlistedIsSame}
+use Rattle.kept_ranges.specs.FillLaws.{IsSource}
+use Rattle.kept_ranges.specs.AdvanceLaws.{AreReported}
+use Rattle.kept_ranges.specs.ListingLaws.{IsAggregateJoin, IsRelisted}
 use Rattle.kept_ranges.specs.SoundLaws.{SoundOverLonger, MakesNotes, IsAdvanceMark, IsMendMark, AreReportedBetween, CanStand, FilledIsSound, AdvancedIsSound, RelistedIsSound, MendedIsSound}
 use Rattle.kept_ranges.proofs.NoteLemmas.{noted_in_order, noted_keeps_later}
+use Rattle.kept_ranges.proofs.FillLemmas.{filled_is_right}
+use Rattle.kept_ranges.proofs.AdvanceLemmas.{unapplied_is_same, advanced_is_right}
+use Rattle.kept_ranges.proofs.MendLemmas.{mended_is_right}
+use Rattle.kept_ranges.proofs.ListingStepLemmas.{relisted_are_listed, unlisted_is_same, relisted_is_right}
 
 -- ---- longer histories
 
@@ -85,8 +88,8 @@ aggregates_at s h p can aggregates = record { is_join = join_at s h p can; rules
 
 -- ---- filling
 
-pub filled_is_sound : FilledIsRight → FilledIsSound
-filled_is_sound filled_is_right s kept groups h p can filled listed = record {
+pub filled_is_sound : FilledIsSound
+filled_is_sound s kept groups h p can filled listed = record {
   place = can.place;
   stands = can.stands;
   right = filled_is_right s.join s.range (below (take p h) s.rank) kept (join_at s h p can) (rules_at s h p can) can.is_range (source_at h p s.rank can.entered) filled;
@@ -136,21 +139,21 @@ quiet_before s q p u added is_mark k le in_order makes starts quiet =
 notes_go_on : (s : KeptRange) (h : History) (q p : ℕ) (pending : List Slots) (added : List Note) (is_mark : Mark → Type 0) → q ≤ p → IsSoundAt s h q → MakesNotes p is_mark added
     → ((k : Text) → is_covered s.join.output pending k ≡ false → is_covered s.join.output s.kept.pending k ≡ false)
     → ((x : ℕ) (k : Text) → q ≤ x → x ≤ p → within s.range k ≡ true → is_covered s.join.output pending k ≡ false → ((mark : Mark) → is_mark mark → marks s.join.output k mark ≡ true → ⊥)
-        → value_at k (out s.join (below (take x h) s.rank)) ≡ value_at k (out s.join (below (take q h) s.rank)))
+    → value_at k (out s.join (below (take x h) s.rank)) ≡ value_at k (out s.join (below (take q h) s.rank)))
     → NotesHold s.join s.rank s.range h p pending (noted s.notes added)
 notes_go_on s h q p pending added is_mark le sound makes carry same u x k starts order last inside uncovered quiet =
     let calm = quiet_before s q p u added is_mark k le sound.in_order makes starts quiet in
     ⊎_elim
     (λ less.
-        ⊎_elim
-        (λ late.
-            same x k (omega arith) last inside uncovered (calm.unmarked less)
-            ∙ ⊎_elim
-            (λ after. sym (same u k (omega arith) (omega arith) inside uncovered (calm.unmarked less)))
-            (λ before. sound.noted u q k calm.begins before (omega arith) inside (carry k uncovered) calm.old)
-            (cases_lt q u))
-        (λ early. sound.noted u x k calm.begins order early inside (carry k uncovered) calm.old)
-        (cases_lt q x))
+    ⊎_elim
+    (λ late.
+    same x k (omega arith) last inside uncovered (calm.unmarked less)
+    ∙ ⊎_elim
+    (λ after. sym (same u k (omega arith) (omega arith) inside uncovered (calm.unmarked less)))
+    (λ before. sound.noted u q k calm.begins before (omega arith) inside (carry k uncovered) calm.old)
+    (cases_lt q u))
+    (λ early. sound.noted u x k calm.begins order early inside (carry k uncovered) calm.old)
+    (cases_lt q x))
     (λ past. ap (λ y. value_at k (out s.join (below (take y h) s.rank))) (le_antisymm (omega arith) order))
     (cases_lt u p)
 
@@ -167,18 +170,19 @@ covered_by_more output old new k more uncovered = by_test (is_covered output old
   where
     covers : Slots → Bool
     covers other = is_some (bind output k other)
+
     by_test : (b : Bool) → is_covered output old k ≡ b → b ≡ false
     by_test false e = refl
     by_test true e =
         let w = has_from_any covers old e in
         absurd (false≢true (sym uncovered ∙ any_from_has covers new w.0 (has_from_contains new w.0 (more w.0 (contains_from_has old w.0 w.1))) w.2))
 
-pub advanced_is_sound : AdvancedIsRight → UnappliedIsSame → AdvancedIsSound
-advanced_is_sound advanced_is_right unapplied_is_same s kept reported added h q p can le copies sound between advanced makes =
+pub advanced_is_sound : AdvancedIsSound
+advanced_is_sound s kept reported added h q p can le copies sound between advanced makes =
     let join = copies_at s h p can copies in
     let at : (x : ℕ) → IsSource (below (take x h) s.rank) = λ x. source_at h x s.rank can.entered in
     let carry : (k : Text) → is_covered s.join.output kept.pending k ≡ false → is_covered s.join.output s.kept.pending k ≡ false =
-        λ k uncovered. covered_by_more s.join.output s.kept.pending kept.pending k (λ other c. (advanced.cut.pending other).1 (inl c)) uncovered in
+    λ k uncovered. covered_by_more s.join.output s.kept.pending kept.pending k (λ other c. (advanced.cut.pending other).1 (inl c)) uncovered in
     record {
       place = can.place;
       stands = can.stands;
@@ -190,8 +194,8 @@ advanced_is_sound advanced_is_right unapplied_is_same s kept reported added h q 
           (λ applied. unmarked (key k) applied (same_by_equal k k refl)));
     }
 
-pub relisted_is_sound : RelistedIsRight → RelistedAreListed → UnlistedIsSame → RelistedIsSound
-relisted_is_sound relisted_is_right relisted_are_listed unlisted_is_same s kept groups reported added h q p can le aggregates sound between relisted makes =
+pub relisted_is_sound : RelistedIsSound
+relisted_is_sound s kept groups reported added h q p can le aggregates sound between relisted makes =
     let join = aggregates_at s h p can aggregates in
     let at : (x : ℕ) → IsSource (below (take x h) s.rank) = λ x. source_at h x s.rank can.entered in
     let was = sound.listed aggregates in
@@ -221,6 +225,7 @@ uncovered_before output mended old new k parts uncovered apart = by_test (is_cov
   where
     covers : Slots → Bool
     covers other = is_some (bind output k other)
+
     by_test : (b : Bool) → is_covered output old k ≡ b → b ≡ false
     by_test false e = refl
     by_test true e =
@@ -230,8 +235,8 @@ uncovered_before output mended old new k parts uncovered apart = by_test (is_cov
         (λ there. absurd (false≢true (sym uncovered ∙ any_from_has covers new w.0 (has_from_contains new w.0 there) w.2)))
         ((parts w.0).0 (contains_from_has old w.0 w.1))
 
-pub mended_is_sound : MendedIsRight → MendedIsSound
-mended_is_sound mended_is_right s kept mended added h q can copies sound there mends makes =
+pub mended_is_sound : MendedIsSound
+mended_is_sound s kept mended added h q can copies sound there mends makes =
     let join = copies_at s h q can copies in
     record {
       place = can.place;

@@ -7,5 +7,7 @@
 
 pub mod advance_laws;
 pub mod fill_laws;
+pub mod listing_laws;
+pub mod mend_laws;
 pub mod read_laws;
 pub mod sound_laws;

@@ -1,5 +1,5 @@
 // Laws on kept ranges over histories that grow, and on their notes.
-ghost use Rattle.kept_ranges.specs.SoundLaws.{NotedInOrder, NotedKeepsLater, SoundOverLonger, FilledIsSound, AdvancedIsSound};
+ghost use Rattle.kept_ranges.specs.SoundLaws.{NotedInOrder, NotedKeepsLater, SoundOverLonger, FilledIsSound, AdvancedIsSound, RelistedIsSound, MendedIsSound};
 
 /// Added notes stay in the order in which they were made, and their start does not fall.
 pub fn noted_in_order()
@@ -24,4 +24,14 @@ pub fn filled_is_sound()
 /// A range of a copy join that is advanced is right at the later position.
 pub fn advanced_is_sound()
     ensures { AdvancedIsSound }
+{}
+
+/// A range of an aggregate that is advanced is right at the later position.
+pub fn relisted_is_sound()
+    ensures { RelistedIsSound }
+{}
+
+/// A range of a copy join of which pending slots are mended is right where it stands.
+pub fn mended_is_sound()
+    ensures { MendedIsSound }
 {}

@@ -79,14 +79,14 @@ known_to table (t ∷ ts) key (inr old) =
     known_to (with_pair t [] table) ts key (inr (w.0, value_at-with_pair key t [] table ∙ w.1))
 
 -- what stands in the ordered list is one of the texts
-has_from_in_order : (ts : List Text) (key : Text) → Has (in_order ts) key → Has ts key
+pub has_from_in_order : (ts : List Text) (key : Text) → Has (in_order ts) key → Has ts key
 has_from_in_order ts key h =
     let w = has_map (λ pair. pair.0) (with_texts [] ts) key h in
     let at = value_from_has w.0.0 w.0.1 (with_texts [] ts) (ascending-with_texts [] ts refl) w.1 in
     ⊎_elim (λ (g : Has ts key). g) (λ old. absurd (none-some old.0 old.1)) (known_from [] ts key w.0.1 (ap (λ k. value_at k (with_texts [] ts)) (sym w.2) ∙ at))
 
 -- each of the texts stands in the ordered list
-has_in_order : (ts : List Text) (key : Text) → Has ts key → Has (in_order ts) key
+pub has_in_order : (ts : List Text) (key : Text) → Has ts key → Has (in_order ts) key
 has_in_order ts key h =
     let w = known_to [] ts key (inl h) in
     has_mapped (λ pair. pair.0) (with_texts [] ts) (key, w.0) (has_from_value key w.0 (with_texts [] ts) w.1)

@@ -4,5 +4,6 @@ pub mod PrefixLemmas
 pub mod EnteredLemmas
 pub mod KeyLemmas
 pub mod ChangeLemmas
+pub mod OrderLemmas
 pub mod TableNameLemmas
 pub mod UnchangedLemmas

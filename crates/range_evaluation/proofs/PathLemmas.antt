@@ -32,7 +32,7 @@ enumerated n (s ∷ ss) p (inl e) = inl (ap (λ q. q.1) e)
 enumerated n (s ∷ ss) p (inr h) = inr (enumerated (n + 1) ss p h)
 
 -- the sources with their places have patterns
-placed_patterns : (j : Join) → is_join j ≡ true → list_all (λ p. is_pattern p.1.pattern) (placed_sources j) ≡ true
+pub placed_patterns : (j : Join) → is_join j ≡ true → list_all (λ p. is_pattern p.1.pattern) (placed_sources j) ≡ true
 placed_patterns j ok = all_from_each (λ p. is_pattern p.1.pattern) (placed_sources j) (λ p h.
     passes_from_all (λ s. is_pattern s.pattern) j.sources p.1 (sources_of_join j ok) (enumerated 0 j.sources p (⊎_elim
     (λ (a : Has (filter (λ p. is_check p.1.operator) (enumerate_from 0 j.sources)) p). (has_filter (λ p. is_check p.1.operator) (enumerate_from 0 j.sources) p a).1)
@@ -47,11 +47,11 @@ value_by None h = absurd (false≢true h)
 value_by (Some value) h = (value, refl)
 
 -- a key of the table stands in it with its value
-pair_at : (key : Text) (table : Table) → is_some (value_at key table) ≡ true → (value : Text) × Has table (key, value)
+pub pair_at : (key : Text) (table : Table) → is_some (value_at key table) ≡ true → (value : Text) × Has table (key, value)
 pair_at key table h = let w = value_by (value_at key table) h in (w.0, has_from_value key w.0 table w.1)
 
 -- a key of the table is short
-short_at : (key : Text) (table : Table) → AllByRecursion HasShortKey table → is_some (value_at key table) ≡ true → length key ≤ 512
+pub short_at : (key : Text) (table : Table) → AllByRecursion HasShortKey table → is_some (value_at key table) ≡ true → length key ≤ 512
 short_at key table small h = let w = pair_at key table h in has_of_all HasShortKey table (key, w.0) small w.1
 
 -- ---- a path that goes on
@@ -102,7 +102,7 @@ holds_from (p ∷ ps) table by slots more wider (k ∷ ks) source s key patterns
     )
 
 -- an element with a fact is one that the list has
-is_any : {A : Type 0} (P : A → Type 0) (xs : List A) (x : A) → Has xs x → P x → Any P xs
+pub is_any : {A : Type 0} (P : A → Type 0) (xs : List A) (x : A) → Has xs x → P x → Any P xs
 is_any P xs x h p = let c = contains_from_has xs x h in (c.0, x, c.1, c.2, p)
 
 -- whichever key goes on from a path, some need by that path holds it
@@ -195,14 +195,14 @@ needs_came_by_paths j slots table ok long sorted =
 -- ---- the needs of a path's keys
 
 -- a beginning of a path is a path
-path_before : (ps : List (ℕ × Source)) (table : Table) (path : List Text) (slots : Slots) (i : ℕ) → IsPath ps table path slots → IsPath ps table (take i path) slots
+pub path_before : (ps : List (ℕ × Source)) (table : Table) (path : List Text) (slots : Slots) (i : ℕ) → IsPath ps table path slots → IsPath ps table (take i path) slots
 path_before ps table path slots zero h = tt
 path_before ps table [] slots (suc i) h = tt
 path_before [] table (k ∷ ks) slots (suc i) h = absurd h
 path_before (p ∷ ps) table (k ∷ ks) slots (suc i) h = (h.0, h.1, path_before ps table ks slots i h.2)
 
 -- a key of a path is one of the table, and fits its source
-path_key : (ps : List (ℕ × Source)) (table : Table) (path : List Text) (slots : Slots) (i source : ℕ) (s : Source) (key : Text) → IsPath ps table path slots → slice_get ps i ≡ Some (source, s) → slice_get path i ≡ Some key
+pub path_key : (ps : List (ℕ × Source)) (table : Table) (path : List Text) (slots : Slots) (i source : ℕ) (s : Source) (key : Text) → IsPath ps table path slots → slice_get ps i ≡ Some (source, s) → slice_get path i ≡ Some key
     → (is_some (value_at key table) ≡ true) × Fits s.pattern key slots
 path_key ps table [] slots i source s key h at k = absurd (none-some key (sym (slice_get_past [] i (omega arith)) ∙ k))
 path_key [] table (first ∷ ks) slots i source s key h at k = absurd h

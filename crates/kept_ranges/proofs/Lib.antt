@@ -1,0 +1,13 @@
+pub mod NoteLemmas
+pub mod ReadLemmas
+pub mod FillLemmas
+pub mod MendLemmas
+pub mod PathLemmas
+pub mod OutputPathLemmas
+pub mod TouchLemmas
+pub mod ApplyLemmas
+pub mod AdvanceLemmas
+pub mod ListingLemmas
+pub mod ListingSourceLemmas
+pub mod ListingStepLemmas
+pub mod SoundLemmas

@@ -1,0 +1,11 @@
+pub mod Kept
+pub mod Rules
+pub mod Listing
+pub mod Notes
+pub mod Sound
+pub mod FillLaws
+pub mod AdvanceLaws
+pub mod MendLaws
+pub mod ListingLaws
+pub mod ReadLaws
+pub mod SoundLaws

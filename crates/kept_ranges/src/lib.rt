@@ -1,0 +1,13 @@
+// What is kept for a range of a join's output, when it is right, and what filling, advancing and mending make of it.
+//
+// It stands on `semantics`, `key_ranges`, `growing_history` and `range_evaluation` and, for the words of what code keeps,
+// on `join_rows` and `agg_rows`. `specs/` has the definitions; the modules below have no code: each public function has an
+// empty body, and its contract is a law on the definitions.
+#![tactic(auto)]
+
+pub mod advance_laws;
+pub mod fill_laws;
+pub mod listing_laws;
+pub mod mend_laws;
+pub mod read_laws;
+pub mod sound_laws;

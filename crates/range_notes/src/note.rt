@@ -1,0 +1,36 @@
+// One note.
+ghost use Rattle.std.specs.Prelude.{◌≡◌, [], ◌∷◌};
+ghost use Rattle.lazy_log.specs.Pending.{meets_output};
+ghost use Rattle.range_notes.specs.Plain.{plain_mark};
+ghost use Rattle.range_notes.specs.Answers.{is_wide};
+
+use key_pattern::{Pattern, SlotTexts};
+use key_space::{Key, Range};
+use std::marker::Model;
+
+/// What is noted.
+#[derive(Debug, Drop)]
+pub enum Marked {
+    /// One output key.
+    Key(Key),
+    /// Slots of the output, for every key that fits it under them.
+    Slots(SlotTexts),
+}
+
+/// A note, and the position at which it was made.
+#[derive(Debug, Drop)]
+pub struct Note {
+    /// The position.
+    pub position: u64,
+    /// What is noted.
+    pub mark: Marked,
+}
+
+impl Model for Note {
+    ghost use Rattle.kept_ranges.specs.Notes.{Note as PlainNote};
+    ghost use Rattle.range_notes.specs.Plain.{plain_mark};
+
+    ghost Value = { PlainNote };
+
+    ghost view = { λ n. record { position = n.position; mark = plain_mark n.mark } };
+}

@@ -7,10 +7,10 @@ ghost use Rattle.semantics.specs.Verdicts.{AllEntered};
 use crate::hiding::hide_computed;
 use crate::outputs::rank_outputs;
 use crate::replay::{Left, replay};
-use join_output::Table;
 use join_types::{Entry, Pair};
 use key_space::{Key, Range, Value};
 use out_of_memory::OutOfMemory;
+use pair_table::Table;
 use std::alloc::Global;
 
 /// The number of ranks that a join may have, from 0.
@@ -58,7 +58,7 @@ pub fn afresh_below(
     requires rank { rank ≤ 8 }
     ensures { IfOk result (λ pairs. pairs.items ≡ pairs_within range.now (below entries.now rank)) }
 {
-    state_below(alloc, entries, rank)?.within(alloc, range)
+    state_below(alloc, entries, rank)?.within(range)
 }
 
 /// Copies of the pairs of the state after the entries whose keys lie in the range, in order, at the cost of `state`.
@@ -66,7 +66,7 @@ pub fn afresh(alloc: Global, entries: &[Entry], range: &Range) -> Result<Vec<Pai
     requires { AllEntered entries.now }
     ensures { IfOk result (λ pairs. pairs.items ≡ pairs_within range.now (state entries.now)) }
 {
-    state(alloc, entries)?.within(alloc, range)
+    state(alloc, entries)?.within(range)
 }
 
 /// A copy of the value at the key in the state after the entries, at the cost of `state`.

@@ -3,15 +3,17 @@ ghost use Rattle.std.specs.Prelude.{◌≡◌, not};
 ghost use Rattle.semantics.specs.Texts.{pairs_where};
 ghost use Rattle.semantics.specs.Histories.{is_computed};
 
-use join_output::Table;
 use join_set::JoinSet;
+use key_pattern::Slots;
+use pair_table::Table;
 
-/// Leaves out the pairs whose keys fit the output of a join that stands. Each key is matched against each output.
+/// Leaves out the pairs whose keys fit the output of a join that stands. It looks, for each join, at the keys that begin as
+/// its output does.
 pub fn hide_computed(table: &mut Table, joins: &JoinSet)
     ensures { table.new ≡ pairs_where (λ key. not (is_computed joins.now key)) table.old }
 {
     for i in 0..joins.len() {
         let join = joins.join(i);
-        table.hide(&join.output);
+        table.drop_fitting(&join.output, &Slots::none());
     }
 }

@@ -1,6 +1,2 @@
-pub mod NumberLemmas
-pub mod MapLemmas
-pub mod ListLemmas
-pub mod GroupLemmas
 pub mod SlotLemmas
 pub mod EvaluationLemmas

@@ -8,7 +8,9 @@ ghost use Rattle.key_pattern.specs.Plain.{plain_segments};
 use super::*;
 use join_types::{Join, JoinSource, Kind, Op};
 use key_pattern::{Pattern, Segment};
-use key_space::{Key, Range, Value};
+use key_space::{Key, Value};
+use operators::gather;
+use pair_table::Table;
 use std::alloc::Global;
 use std::process::Abort;
 use std::test::Fail;
@@ -35,13 +37,13 @@ fn read_table(rt: &impl Abort, alloc: Global, text: &str) -> Result<Table, Fail>
 /// The pairs of a table, written so.
 fn shown(alloc: Global, table: &Table) -> Result<String, Fail> {
     let mut all = String::new(alloc);
-    for (key, value) in table.iter() {
+    for pair in table.iter() {
         if !all.is_empty() {
             all.push(' ')?;
         }
-        all.push_str(key.text())?;
+        all.push_str(pair.key.text())?;
         all.push('=')?;
-        all.push_str(value.text())?;
+        all.push_str(pair.value.text())?;
     }
     Ok(all)
 }
@@ -237,59 +239,5 @@ fn checks(rt: HostRuntime) -> Result<(), Fail> {
     let given = contributions(alloc, &feed, &read_table(&rt, alloc, both)?)?;
     let made = gather(alloc, Op::Count, given)?;
     assert_eq!(rt; shown(alloc, &made)?.as_str(), "f|ann|7=2");
-    Ok(())
-}
-
-#[test]
-fn tables(rt: HostRuntime) -> Result<(), Fail> {
-    let alloc = rt.alloc();
-    let mut table = read_table(&rt, alloc, "o|1|a=A o|10|a=B o|10|a=C")?;
-    assert_eq!(rt; shown(alloc, &table)?.as_str(), "o|10|a=C o|1|a=A");
-    let rows = [
-        ("o|", "o}", "o|10|a=C o|1|a=A "),
-        ("o|1|", "o}", "o|1|a=A "),
-        ("o|1", "o|1|", "o|10|a=C "),
-        ("o|2", "o}", ""),
-    ];
-    for (low, high, wanted) in rows {
-        let range = Range::read(alloc, low, high).expect(&rt, "a range");
-        let mut text = String::new(alloc);
-        for pair in table.within(alloc, &range)? {
-            write!(&mut text, "{}={} ", pair.key.text(), pair.value.text())?;
-        }
-        assert_eq!(rt; text.as_str(), wanted, "from {low}");
-    }
-    let mut table = table.merge(read_table(&rt, alloc, "p|1=D o|1|a=E")?)?;
-    table.remove(&read_key(&rt, alloc, "o|10|a"));
-    assert_eq!(rt; shown(alloc, &table)?.as_str(), "o|1|a=E p|1=D");
-    table.hide(&slot_at(&rt, alloc, "p", 0)?);
-    assert_eq!(rt; shown(alloc, &table)?.as_str(), "o|1|a=E");
-    assert!(rt; table.get(&read_key(&rt, alloc, "p|1")).is_none());
-    Ok(())
-}
-
-#[test]
-fn numbers(rt: HostRuntime) -> Result<(), Fail> {
-    let alloc = rt.alloc();
-    let rows = [
-        ("0", Some(0)),
-        ("-0", None),
-        ("+1", None),
-        ("", None),
-        ("-", None),
-        ("9223372036854775807", Some(i64::MAX)),
-        ("9223372036854775808", None),
-        ("-9223372036854775808", Some(i64::MIN)),
-        ("-9223372036854775809", None),
-        ("99999999999999999999999999999999999999999999", None),
-    ];
-    for (text, wanted) in rows {
-        assert!(rt; whole(&read_value(&rt, alloc, text)) == wanted, "of {text}");
-    }
-    let least = decimal(alloc, i128::MIN)?;
-    assert_eq!(rt; least.text(), "-170141183460469231731687303715884105728");
-    let values = vec![in alloc; read_value(&rt, alloc, "3"), read_value(&rt, alloc, "x")]?;
-    let made = result_of(alloc, Op::Copy, values.as_slice())?.expect(&rt, "a value");
-    assert_eq!(rt; made.text(), "x");
     Ok(())
 }

@@ -1,2 +1,1 @@
 mod NeedLemmas
-mod PlacedLemmas

@@ -60,9 +60,13 @@ alike t u true false h g = absurd (false≢true (sym g ∙ same_by_equal u t (sy
 alike t u false true h g = absurd (false≢true (sym h ∙ same_by_equal t u (sym (equal_by_same u t g))))
 alike t u false false h g = refl
 
+-- a text is the same as another where that is the same as it
+pub same_either_way : (t u : Text) → same t u ≡ same u t
+same_either_way t u = alike t u (same t u) (same u t) refl refl
+
 -- a place ties with the key that is the same
 tie_is_same : (key other : Text) → is_eq (text_cmp key other) ≡ same other key
-tie_is_same key other = sym (same_is_tie key other) ∙ alike key other (same key other) (same other key) refl refl
+tie_is_same key other = sym (same_is_tie key other) ∙ same_either_way key other
 
 -- a table that has nothing at a key is the same without it
 absent_by : (q key : Text) (table : Table) (b : Bool) → same q key ≡ b → value_at key table ≡ None → cond (not b) (value_at q table) None ≡ value_at q table

@@ -8,3 +8,5 @@ pub mod table;
 
 pub use table::Table;
 
+#[cfg(test)]
+mod tests;

@@ -3,8 +3,8 @@ use Rattle.std.specs.Fmt.{signed_decimal}
 use Rattle.std.proofs.lemmas.Bool.{false≢true}
 use Rattle.std.proofs.lemmas.Int.{to_z-of_z}
 use Rattle.semantics.specs.Texts.{is_value}
-use Rattle.join_output.proofs.NumberLemmas.{decimal_is_value}
-use Rattle.join_output.proofs.number.decimal.Goals as goal
+use Rattle.operators.proofs.NumberLemmas.{decimal_is_value}
+use Rattle.operators.proofs.number.decimal.Goals as goal
 
 pub unreachable-requires : goal.unreachable-requires
 unreachable-requires c =

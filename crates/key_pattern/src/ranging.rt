@@ -7,8 +7,8 @@ ghost use Rattle.semantics.specs.Texts.{Text, bar, names_table, text_cmp, within
 ghost use Rattle.semantics.specs.Patterns as plain;
 ghost use Rattle.semantics.specs.Patterns.{bind, is_pattern, short};
 ghost use Rattle.key_ranges.specs.Ranges.{just, prefix_range};
-ghost use Rattle.key_ranges.specs.Containing.{bind_range, containing};
-ghost use Rattle.key_ranges.specs.ContainingLaws.{HoldsFitting};
+ghost use Rattle.key_ranges.specs.Containing.{bind_range, pattern_range, containing};
+ghost use Rattle.key_ranges.specs.ContainingLaws.{HoldsFitting, HoldsTogether};
 ghost use Rattle.key_pattern.specs.Plain.{plain_segment, plain_segments};
 ghost use Rattle.key_pattern.specs.Shared.{Shares};
 ghost use Rattle.key_pattern.specs.Fixed.{fixed_text, AddsFixed, JoinsFixed};
@@ -159,15 +159,15 @@ impl Pattern {
         None
     }
 
-    /// The range that holds every key which fits the pattern under the slots: that of the one key where each segment is a
-    /// literal or a set slot, and otherwise that of all keys that begin with the texts of the longest beginning of such
-    /// segments. None only where each such key has more than 512 bytes. Linear in the texts.
-    pub fn fitting_range(
+    /// The range that holds every key which fits the pattern under the slots, or under more: that of the one key where
+    /// each segment is a literal or a set slot, and otherwise that of all keys that begin with the texts of the longest
+    /// beginning of such segments. None only where each such key has more than 512 bytes. Linear in the texts.
+    pub fn prefix_range(
         &self,
         alloc: Global,
         slots: &Slots<'_>,
     ) -> Result<Option<Range>, OutOfMemory>
-        ensures exact { IfOk result (λ found. found ≡ containing self.now slots.now) }
+        ensures exact { IfOk result (λ found. found ≡ pattern_range self.now slots.now) }
         ensures more { IfOk result (λ found. (more : plain.Slots) (key : Text) → HoldsFitting self.now slots.now found more key) }
         ensures holds { IfOk result (λ found. (key : Text) → length key ≤ 512 → is_some (bind self.now key slots.now) ≡ true → IsSomeAnd found (λ r. within r key ≡ true)) }
     {
@@ -179,20 +179,20 @@ impl Pattern {
         }
     }
 
-    /// The range that holds every key which fits the pattern under the slots, or under more: `fitting_range` of them.
-    /// None only where each such key has more than 512 bytes. Linear in the texts.
+    /// The range that holds every key which fits the pattern together with an output key of the range, under the slots or
+    /// under more. None only where there is no such key of at most 512 bytes. Linear in the texts.
     ///
-    /// Today the answer does not depend on the pattern of the output and the range of it that is asked for.
+    /// It is the pattern's prefix range: the range of the output does not narrow it yet.
     pub fn containing(
         &self,
         alloc: Global,
         slots: &Slots<'_>,
-        _out: &Pattern,
-        _range: &Range,
+        out: &Pattern,
+        range: &Range,
     ) -> Result<Option<Range>, OutOfMemory>
-        ensures exact { IfOk result (λ found. found ≡ containing self.now slots.now) }
-        ensures holds { IfOk result (λ found. (more : plain.Slots) (key : Text) → HoldsFitting self.now slots.now found more key) }
+        ensures exact { IfOk result (λ found. found ≡ containing self.now slots.now out.now range.now) }
+        ensures holds { IfOk result (λ found. (more : plain.Slots) (key output : Text) → HoldsTogether self.now slots.now out.now range.now found more key output) }
     {
-        self.fitting_range(alloc, slots)
+        self.prefix_range(alloc, slots)
     }
 }

@@ -112,7 +112,7 @@ impl LazyLog {
         if are_noted(self.noted.as_slice(), &slots) {
             return Ok(());
         }
-        let held = self.output.fitting_range(self.alloc, &slots.lend())?;
+        let held = self.output.prefix_range(self.alloc, &slots.lend())?;
         self.noted.push(Noted { slots, held })?;
         Ok(())
     }
@@ -127,7 +127,7 @@ impl LazyLog {
             .any(|noted| fits_under(&self.output, &noted.slots, key))
     }
 
-    /// Whether the containing range of the output under some of the noted slots meets the range. Linear in the noted
+    /// Whether the prefix range of the output under some of the noted slots meets the range. Linear in the noted
     /// slots and the bounds, and nothing is allocated.
     pub fn meets(&self, range: &Range) -> bool
         ensures { result ≡ list_any (meets_output self.now.output range.now) self.now.noted }
@@ -135,7 +135,7 @@ impl LazyLog {
         self.noted.iter().any(|noted| noted.meets(range))
     }
 
-    /// Takes out the slots under which the containing range of the output meets the range, in the order of noting. The
+    /// Takes out the slots under which the prefix range of the output meets the range, in the order of noting. The
     /// others are left, in their order. Linear in the noted slots and the bounds, and no text is copied.
     ///
     /// On `OutOfMemory` all is unchanged.

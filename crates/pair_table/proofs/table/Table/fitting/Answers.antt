@@ -15,7 +15,7 @@ pub returns-in-None-clause-keys : goal.returns-in-None-clause-keys
 unfolding HoldsAll
 returns-in-None-clause-keys c =
     let fits = λ (key : Text). is_some (bind c.args.pattern.now key c.args.slots.now) in
-    let holds = subst (HoldsAll c.args.pattern.now c.args.slots.now) c.in-None.is c.in_ok-fitting_range.ensures.holds in
+    let holds = subst (HoldsAll c.args.pattern.now c.args.slots.now) c.in-None.is c.in_ok-prefix_range.ensures.holds in
     c.new.ensures.items
     ∙ ap (λ (table : Table). map (λ pair. pair.0) table) (sym (where-none fits (pairs_of c.self.inside.pairs.entries) (each_inside fits None c.self.inside.pairs.entries c.self.invariant.own holds)) ∙ ap (pairs_where fits) c.self.view_is)
 
@@ -23,7 +23,7 @@ pub returns-in-Some-clause-keys : goal.returns-in-Some-clause-keys
 unfolding HoldsAll
 returns-in-Some-clause-keys c =
     let fits = λ (key : Text). is_some (bind c.args.pattern.now key c.args.slots.now) in
-    let holds = subst (HoldsAll c.args.pattern.now c.args.slots.now) c.in-Some.is c.in_ok-fitting_range.ensures.holds in
+    let holds = subst (HoldsAll c.args.pattern.now c.args.slots.now) c.in-Some.is c.in_ok-prefix_range.ensures.holds in
     IfOk-weaker c.fitting_within.result _ _ (λ keys e. e ∙ ap (λ (table : Table). map (λ pair. pair.0) table)
     (ap (λ (table : Table). pairs_where fits (pairs_within c.in-Some.range table)) (sym c.self.view_is)
     ∙ where-within fits c.in-Some.range (pairs_of c.self.inside.pairs.entries) (each_inside fits (Some c.in-Some.range) c.self.inside.pairs.entries c.self.invariant.own holds) ∙ ap (pairs_where fits) c.self.view_is)) c.fitting_within.ensures

@@ -11,7 +11,7 @@ use Rattle.semantics.specs.PatternLaws.{AreSegmentTexts}
 use Rattle.semantics.specs.Joins.{Source, Join, is_join}
 use Rattle.semantics.specs.Outputs.{out}
 use Rattle.semantics.proofs.PieceLemmas.{Lacks, pieces_lack}
-use Rattle.semantics.proofs.PatternLemmas.{segments_of_pattern}
+use Rattle.semantics.proofs.PatternLemmas.{fits_more, segments_of_pattern}
 use Rattle.semantics.proofs.MemberLemmas.{Has, has_from_contains, contains_from_has, has_filter}
 use Rattle.semantics.proofs.TableLemmas.{IsAscending, value_from_has}
 use Rattle.semantics.proofs.MergedLemmas.{ascending-pairs_within, value_at-pairs_within}
@@ -83,27 +83,27 @@ cleaned_texts given part place t at =
 -- ---- the needs of a tree
 
 -- a need that came by a path has only segment texts, where the given slots have: they are the least, and without other texts its keys are a path still
-need_texts : (j : Join) (slots : Slots) (table : Table) (need : Need) → AreSegmentTexts slots → CameByPath j slots table need → AreSegmentTexts need.slots
-need_texts j slots table need are came =
+need_texts : (j : Join) (slots : Slots) (range : Range) (table : Table) (need : Need) → AreSegmentTexts slots → CameByPath j slots range table need → AreSegmentTexts need.slots
+need_texts j slots range table need are came =
     cleaned_texts need.slots (came.least (cleaned need.slots) (cleaned_path (placed_sources j) table need.by need.slots came.path)
     (λ place t at. let own = are place t at in cleaned_keeps place t need.slots own.0 own.1 (came.part place t at)))
 
 -- the source of a need is the next
-next_by : (o : Option (ℕ × Source)) (need : Need) → IsSomeAnd o (λ p. (p.0 ≡ need.source) × (containing p.1.pattern need.slots ≡ Some need.range)) → IsSomeAnd o (λ p. p.0 ≡ need.source)
-next_by None need h = h
-next_by (Some p) need h = h.0
+next_by : (output : Pattern) (range : Range) (o : Option (ℕ × Source)) (need : Need) → IsSomeAnd o (λ p. (p.0 ≡ need.source) × (containing p.1.pattern need.slots output range ≡ Some need.range)) → IsSomeAnd o (λ p. p.0 ≡ need.source)
+next_by output range None need h = h
+next_by output range (Some p) need h = h.0
 
 -- each need of a tree came by a path
-pub tree_came : (j : Join) (slots : Slots) (table : Table) (need : Need) → is_join j ≡ true → IsSource table → length slots ≡ 16 → AreSegmentTexts slots → Has (tree j slots table) need → CameBy j table (tree j slots table) need
-tree_came j slots table need ok source long are h =
-    let needs = tree j slots table in
-    let came = has_of_all (CameByPath j slots table) needs need (recursion_from_All (CameByPath j slots table) needs (needs_came_by_paths j slots table ok long source.ascending)) h in
-    let held = has_of_all (HasHeldPath j slots table) needs need (recursion_from_All (HasHeldPath j slots table) needs (needs_hold_their_paths j slots table ok source.keys long source.ascending)) h in
+pub tree_came : (j : Join) (slots : Slots) (range : Range) (table : Table) (need : Need) → is_join j ≡ true → IsSource table → length slots ≡ 16 → AreSegmentTexts slots → Has (tree j slots range table) need → CameBy j table (tree j slots range table) need
+tree_came j slots range table need ok source long are h =
+    let needs = tree j slots range table in
+    let came = has_of_all (CameByPath j slots range table) needs need (recursion_from_All (CameByPath j slots range table) needs (needs_came_by_paths j slots range table ok long source.ascending)) h in
+    let held = has_of_all (HasHeldPath j slots range table) needs need (recursion_from_All (HasHeldPath j slots range table) needs (needs_hold_their_paths j slots range table ok long source.ascending)) h in
     record {
       places = came.places;
-      texts = need_texts j slots table need are came;
+      texts = need_texts j slots range table need are came;
       path = came.path;
-      next = next_by (slice_get (placed_sources j) (length need.by)) need came.next;
+      next = next_by j.output range (slice_get (placed_sources j) (length need.by)) need came.next;
       held = held;
     }
 
@@ -138,22 +138,22 @@ filled_rows j range table kept ok rows = record {
 }
 
 -- the needs that are filled, by the slots that the range shares
-abbrev AreFilled : Join → Table → List Need → Option Slots → Type 0
-AreFilled j table needs o = MatchOption o (needs ≡ []) (λ slots. needs ≡ tree j slots table)
+abbrev AreFilled : Join → Range → Table → List Need → Option Slots → Type 0
+AreFilled j range table needs o = MatchOption o (needs ≡ []) (λ slots. needs ≡ tree j slots range table)
 
 -- a key that goes on from a path of an output key, which has the shared slots as a part, is held
-followed_by : (j : Join) (table : Table) (needs : List Need) (o : Option Slots) (path : List Text) (more wider : Slots) (source : ℕ) (s : Source) (next : Text) → is_join j ≡ true → IsSource table
-    → AreFilled j table needs o → IfSome o (AreOutputSlots j) → IsSomeAnd o (λ shared. IsPartOf shared more) → IsPath (placed_sources j) table path more
+followed_by : (j : Join) (range : Range) (out : Text) (table : Table) (needs : List Need) (o : Option Slots) (path : List Text) (more wider : Slots) (source : ℕ) (s : Source) (next : Text) → is_join j ≡ true → is_range range.low range.high ≡ true → within range out ≡ true → Fits j.output out more → IsSource table
+    → AreFilled j range table needs o → IfSome o (AreOutputSlots j) → IsSomeAnd o (λ shared. IsPartOf shared more) → IsPath (placed_sources j) table path more
     → slice_get (placed_sources j) (length path) ≡ Some (source, s) → IsPartOf more wider → Fits s.pattern next wider → length next ≤ 512 → Any (HoldsNext source path more next) needs
-followed_by j table needs None path more wider source s next ok below filled are part is at wide fit short = absurd part
-followed_by j table needs (Some shared) path more wider source s next ok below filled are part is at wide fit short =
-    subst (Any (HoldsNext source path more next)) (sym filled) (needs_hold_next j shared more wider table path source s next ok below.keys are.places part is at wide fit short)
+followed_by j range out table needs None path more wider source s next ok good inside fits below filled are part is at wide fit short = absurd part
+followed_by j range out table needs (Some shared) path more wider source s next ok good inside fits below filled are part is at wide fit short =
+    subst (Any (HoldsNext source path more next)) (sym filled) (needs_hold_next j shared more wider range table path source s next out ok good below.keys are.places part is at wide fit short inside (fits_more j.output out more wider wide fits))
 
-came_by : (j : Join) (table : Table) (needs : List Need) (o : Option Slots) → is_join j ≡ true → IsSource table → AreFilled j table needs o → IfSome o (AreOutputSlots j) → AllByRecursion (CameBy j table needs) needs
-came_by j table needs None ok below filled are = subst (λ ns. AllByRecursion (CameBy j table ns) ns) (sym filled) tt
-came_by j table needs (Some shared) ok below filled are =
+came_by : (j : Join) (range : Range) (table : Table) (needs : List Need) (o : Option Slots) → is_join j ≡ true → IsSource table → AreFilled j range table needs o → IfSome o (AreOutputSlots j) → AllByRecursion (CameBy j table needs) needs
+came_by j range table needs None ok below filled are = subst (λ ns. AllByRecursion (CameBy j table ns) ns) (sym filled) tt
+came_by j range table needs (Some shared) ok below filled are =
     subst (λ ns. AllByRecursion (CameBy j table ns) ns) (sym filled)
-    (all_from_has (CameBy j table (tree j shared table)) (tree j shared table) (λ need h. tree_came j shared table need ok below are.places are.texts h))
+    (all_from_has (CameBy j table (tree j shared range table)) (tree j shared range table) (λ need h. tree_came j shared range table need ok below are.places are.texts h))
 
 -- what is filled is right
 pub filled_is_right : FilledIsRight
@@ -163,7 +163,7 @@ filled_is_right j range table kept ok rules is below filled =
     record {
       rows = filled_rows j range table kept ok filled.rows;
       followed = λ key path more wider source s next inside clear fit on at wide follows short.
-          followed_by j table kept.needs (bind_range j.output range) path more wider source s next ok below filled.needs are (bind_range_is_shared j.output range key more segments is inside fit) on at wide follows short;
-      came = came_by j table kept.needs (bind_range j.output range) ok below filled.needs are;
+          followed_by j range key table kept.needs (bind_range j.output range) path more wider source s next ok is inside fit below filled.needs are (bind_range_is_shared j.output range key more segments is inside fit) on at wide follows short;
+      came = came_by j range table kept.needs (bind_range j.output range) ok below filled.needs are;
       pending = subst (AllByRecursion (AreOutputSlots j)) (sym filled.pending) tt;
     }

@@ -3,12 +3,12 @@ use Rattle.std.proofs.Common.{◌≡◌, ◌⊎◌, ℕ, ◌≤◌, ◌&&◌, Bo
 use Rattle.std.specs.Option.{option_or}
 use Rattle.std.specs.List.{AllByRecursion}
 use Rattle.std.proofs.lemmas.Bool.{false≢true, false_from_ne_true, and_parts}
-use Rattle.semantics.specs.Texts.{Text, Table, Range, value_at, within, pairs_where}
+use Rattle.semantics.specs.Texts.{is_range, Text, Table, Range, value_at, within, pairs_where}
 use Rattle.semantics.specs.Patterns.{Slots, is_pattern, segments, Fits, IsPartOf, bind}
 use Rattle.semantics.specs.Joins.{Source, Join, is_join}
 use Rattle.semantics.specs.Outputs.{out}
 use Rattle.semantics.specs.States.{merged}
-use Rattle.semantics.proofs.PatternLemmas.{segments_of_pattern, bind_some}
+use Rattle.semantics.proofs.PatternLemmas.{fits_more, segments_of_pattern, bind_some}
 use Rattle.semantics.proofs.CopyLemmas.{take_agree}
 use Rattle.semantics.proofs.MemberLemmas.{Has, has_from_contains, contains_from_has, has_from_any, any_from_has}
 use Rattle.semantics.proofs.TableLemmas.{IsAscending, ascending-pairs_where, value_at-pairs_where, value_from_has}
@@ -117,13 +117,13 @@ mended_rows j range table slots before after ok are mended =
 
 -- a key that goes on from a path of an output key is held by a need of the tree under the slots, or by one that was there
 mended_followed : (j : Join) (range : Range) (table : Table) (slots : Slots) (before after : Kept) (fit : Bool) (key : Text) (path : List Text) (more wider : Slots) (source : ℕ) (s : Source) (next : Text) → is_some (bind j.output key slots) ≡ fit
-    → is_join j ≡ true → IsSource table → AreOutputSlots j slots → AreFollowed j range table before → IsMended j range table slots before after
+    → is_join j ≡ true → is_range range.low range.high ≡ true → IsSource table → AreOutputSlots j slots → AreFollowed j range table before → IsMended j range table slots before after
     → within range key ≡ true → is_covered j.output after.pending key ≡ false → Fits j.output key more → IsPath (placed_sources j) table path more
     → slice_get (placed_sources j) (length path) ≡ Some (source, s) → IsPartOf more wider → Fits s.pattern next wider → length next ≤ 512 → Any (HoldsNext source path more next) after.needs
-mended_followed j range table slots before after true key path more wider source s next e ok below are followed mended inside clear fit is at wide follows short =
-    any_more (HoldsNext source path more next) (tree j slots table) after.needs (λ need h. (mended.needs need).1 (inr h))
-    (needs_hold_next j slots more wider table path source s next ok below.keys are.places (output_slots_part j key slots more (output_of_join j ok) are e fit) is at wide follows short)
-mended_followed j range table slots before after false key path more wider source s next e ok below are followed mended inside clear fit is at wide follows short =
+mended_followed j range table slots before after true key path more wider source s next e ok good below are followed mended inside clear fit is at wide follows short =
+    any_more (HoldsNext source path more next) (tree j slots range table) after.needs (λ need h. (mended.needs need).1 (inr h))
+    (needs_hold_next j slots more wider range table path source s next key ok good below.keys are.places (output_slots_part j key slots more (output_of_join j ok) are e fit) is at wide follows short inside (fits_more j.output key more wider wide fit))
+mended_followed j range table slots before after false key path more wider source s next e ok good below are followed mended inside clear fit is at wide follows short =
     any_more (HoldsNext source path more next) before.needs after.needs (λ need h. (mended.needs need).1 (inl h))
     (followed key path more wider source s next inside (clear_before j range table slots before after key mended e clear) fit is at wide follows short)
 
@@ -133,19 +133,19 @@ mended_came : (j : Join) (range : Range) (table : Table) (slots : Slots) (before
 mended_came j range table slots before after need ok below are came mended h = ⊎_elim
     (λ (old : Contains before.needs need). came_more j table before.needs after.needs need (λ n c. (mended.needs n).1 (inl c))
     (has_of_all (CameBy j table before.needs) before.needs need came (has_from_contains before.needs need old)))
-    (λ new. came_more j table (tree j slots table) after.needs need (λ n c. (mended.needs n).1 (inr c))
-    (tree_came j slots table need ok below are.places are.texts (has_from_contains (tree j slots table) need new)))
+    (λ new. came_more j table (tree j slots range table) after.needs need (λ n c. (mended.needs n).1 (inr c))
+    (tree_came j slots range table need ok below are.places are.texts (has_from_contains (tree j slots range table) need new)))
     ((mended.needs need).0 h)
 
 -- what is right stays right once slots that were pending are mended
 pub mended_is_right : MendedIsRight
-mended_is_right j range table slots before after copies below pending right mended =
+mended_is_right j range table slots before after copies good below pending right mended =
     let ok = copies.is_join in
     let are = has_of_all (AreOutputSlots j) before.pending slots right.pending (has_from_contains before.pending slots pending) in
     record {
       rows = mended_rows j range table slots before after ok right.rows mended;
       followed = λ key path more wider source s next inside clear fit is at wide follows short.
-          mended_followed j range table slots before after (is_some (bind j.output key slots)) key path more wider source s next refl ok below are right.followed mended inside clear fit is at wide follows short;
+          mended_followed j range table slots before after (is_some (bind j.output key slots)) key path more wider source s next refl ok good below are right.followed mended inside clear fit is at wide follows short;
       came = all_from_has (CameBy j table after.needs) after.needs (λ need h. mended_came j range table slots before after need ok below are right.came mended (contains_from_has after.needs need h));
       pending = all_from_has (AreOutputSlots j) after.pending (λ other h. has_of_all (AreOutputSlots j) before.pending other right.pending
           (has_from_contains before.pending other ((mended.pending other).1 (inr (contains_from_has after.pending other h)))));

@@ -241,7 +241,7 @@ mended_is_sound s kept mended added h q can copies sound there mends makes =
     record {
       place = can.place;
       stands = can.stands;
-      right = mended_is_right s.join s.range (below (take q h) s.rank) mended s.kept kept join (source_at h q s.rank can.entered) there sound.right mends;
+      right = mended_is_right s.join s.range (below (take q h) s.rank) mended s.kept kept join can.is_range (source_at h q s.rank can.entered) there sound.right mends;
       listed = λ a. absurd (false≢true (ap is_aggregate (sym copies) ∙ a));
       in_order = (noted_in_order q q s.notes added (omega arith) sound.in_order makes.made).1;
       noted = λ u x k starts order last inside uncovered quiet.

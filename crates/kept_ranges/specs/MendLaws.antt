@@ -1,6 +1,6 @@
 -- Laws on mending.
-use Rattle.std.specs.Prelude.{◌≡◌, Contains}
-use Rattle.semantics.specs.Texts.{Range, Table}
+use Rattle.std.specs.Prelude.{◌≡◌, Contains, true}
+use Rattle.semantics.specs.Texts.{is_range, Range, Table}
 use Rattle.semantics.specs.Patterns.{Slots}
 use Rattle.semantics.specs.Joins.{Join}
 use Rattle.semantics.specs.OutputLaws.{IsCopyJoin}
@@ -10,5 +10,5 @@ use Rattle.kept_ranges.specs.FillLaws.{IsSource}
 
 -- what is right stays right once slots that were pending are mended
 abbrev pub MendedIsRight : Type 0
-MendedIsRight = (j : Join) (range : Range) (table : Table) (slots : Slots) (before after : Kept) → IsCopyJoin j → IsSource table → Contains before.pending slots →
+MendedIsRight = (j : Join) (range : Range) (table : Table) (slots : Slots) (before after : Kept) → IsCopyJoin j → is_range range.low range.high ≡ true → IsSource table → Contains before.pending slots →
     IsRight j range table before → IsMended j range table slots before after → IsRight j range table after

@@ -16,7 +16,7 @@ use Rattle.kept_ranges.specs.Kept.{Kept, is_covered}
 -- what is kept once the range is filled: the join's output in the range, the needs under the slots that the range shares, and nothing pending
 pub record IsFilled (j : Join) (range : Range) (table : Table) (kept : Kept) : Type 0 where
   pub rows : kept.rows ≡ pairs_within range (out j table)
-  pub needs : MatchOption (bind_range j.output range) (kept.needs ≡ []) (λ slots. kept.needs ≡ tree j slots table)
+  pub needs : MatchOption (bind_range j.output range) (kept.needs ≡ []) (λ slots. kept.needs ≡ tree j slots range table)
   pub pending : kept.pending ≡ []
 
 -- ---- changed keys of check sources
@@ -105,5 +105,5 @@ pub record IsAdvanced (j : Join) (range : Range) (reported : List Text) (table :
 -- what is kept once slots that were pending are mended: the rows under them are those of the join's output, the needs under them are added, and they are pending no more
 pub record IsMended (j : Join) (range : Range) (table : Table) (slots : Slots) (before after : Kept) : Type 0 where
   pub rows : after.rows ≡ merged (pairs_where (λ key. not (is_some (bind j.output key slots))) before.rows) (pairs_where (is_asked j.output slots range) (out j table))
-  pub needs : (need : Need) → Contains after.needs need ↔ (Contains before.needs need ⊎ Contains (tree j slots table) need)
+  pub needs : (need : Need) → Contains after.needs need ↔ (Contains before.needs need ⊎ Contains (tree j slots range table) need)
   pub pending : (other : Slots) → Contains before.pending other ↔ ((other ≡ slots) ⊎ Contains after.pending other)

@@ -8,9 +8,9 @@ use Rattle.std.proofs.lemmas.Result.{IfOk-weaker}
 use Rattle.semantics.specs.Texts.{Text, bar, Range}
 use Rattle.semantics.specs.Patterns.{Segment, literal, slot, Pattern, Slots, is_pattern, short}
 use Rattle.key_ranges.specs.Ranges.{just, prefix_range}
-use Rattle.key_ranges.specs.Containing.{fixed_texts, containing}
+use Rattle.key_ranges.specs.Containing.{fixed_texts, pattern_range, containing}
 use Rattle.key_ranges.specs.ContainingLaws.{HoldsFitting}
-use Rattle.key_ranges.proofs.ContainingLemmas.{containing_holds}
+use Rattle.key_ranges.proofs.ContainingLemmas.{pattern_range_holds}
 use Rattle.key_pattern.specs.Fixed.{fixed_text, AddsFixed}
 use Rattle.key_pattern.proofs.JoinedTexts.{joined_after, joined_nothing}
 use Rattle.key_pattern.proofs.WalkLemmas.{left_at}
@@ -77,21 +77,28 @@ joined_all p given i out separator at h =
       sym (eq-eqb (length (fixed_texts p given)) (length p) (omega (arith, at, h.counted, ap length end))),
     )
 
--- ---- the containing range
+-- ---- the prefix range
 
 -- it is the range of one key where all segments have a text
-pub containing_whole : (p : Pattern) (given : Slots) (text : Text) → text ≡ join_with_byte bar (fixed_texts p given) → (length (fixed_texts p given) == length p) ≡ true → containing p given ≡ option_map just (short text)
-unfolding containing
-containing_whole p given text e whole = rw (whole, e) refl
+pub pattern_range_whole : (p : Pattern) (given : Slots) (text : Text) → text ≡ join_with_byte bar (fixed_texts p given) → (length (fixed_texts p given) == length p) ≡ true → pattern_range p given ≡ option_map just (short text)
+unfolding pattern_range
+pattern_range_whole p given text e whole = rw (whole, e) refl
 
 -- and that of a beginning where not
-pub containing_beginning : (p : Pattern) (given : Slots) (text : Text) → text ≡ join_with_byte bar (fixed_texts p given) → (length (fixed_texts p given) == length p) ≡ false → containing p given ≡ option_map prefix_range (short (text ++ bar ∷ []))
-unfolding containing
-containing_beginning p given text e whole = rw (whole, e) refl
+pub pattern_range_beginning : (p : Pattern) (given : Slots) (text : Text) → text ≡ join_with_byte bar (fixed_texts p given) → (length (fixed_texts p given) == length p) ≡ false → pattern_range p given ≡ option_map prefix_range (short (text ++ bar ∷ []))
+unfolding pattern_range
+pattern_range_beginning p given text e whole = rw (whole, e) refl
 
--- where an answer is the containing range, each key that fits under more slots lies in it
-pub holds_from_exact : {E : Type 0} (p : Pattern) (given : Slots) (r : Result (Option Range) E) → is_pattern p ≡ true → IfOk r (λ found. found ≡ containing p given)
+-- where an answer is the prefix range, each key that fits under more slots lies in it
+pub holds_from_exact : {E : Type 0} (p : Pattern) (given : Slots) (r : Result (Option Range) E) → is_pattern p ≡ true → IfOk r (λ found. found ≡ pattern_range p given)
     → IfOk r (λ found. (more : Slots) (key : Text) → HoldsFitting p given found more key)
 holds_from_exact p given r ok h =
-    IfOk-weaker r (λ found. found ≡ containing p given) (λ found. (more : Slots) (key : Text) → HoldsFitting p given found more key)
-    (λ found e more key. subst (λ x. HoldsFitting p given x more key) (sym e) (containing_holds p given more key ok)) h
+    IfOk-weaker r (λ found. found ≡ pattern_range p given) (λ found. (more : Slots) (key : Text) → HoldsFitting p given found more key)
+    (λ found e more key. subst (λ x. HoldsFitting p given x more key) (sym e) (pattern_range_holds p given more key ok)) h
+
+-- ---- the containing range
+
+-- an answer that is the prefix range is the containing range
+pub containing_from_exact : {E : Type 0} (p : Pattern) (given : Slots) (output : Pattern) (range : Range) (r : Result (Option Range) E) → IfOk r (λ found. found ≡ pattern_range p given) → IfOk r (λ found. found ≡ containing p given output range)
+unfolding containing
+containing_from_exact p given output range r h = h

@@ -6,8 +6,8 @@ ghost use Rattle.semantics.specs.Texts.{Text, bar, names_table, text_cmp};
 ghost use Rattle.semantics.specs.Patterns as plain;
 ghost use Rattle.semantics.specs.Patterns.{is_pattern, short};
 ghost use Rattle.key_ranges.specs.Ranges.{just, prefix_range};
-ghost use Rattle.key_ranges.specs.Containing.{bind_range, containing};
-ghost use Rattle.key_ranges.specs.ContainingLaws.{HoldsFitting};
+ghost use Rattle.key_ranges.specs.Containing.{bind_range, pattern_range, containing};
+ghost use Rattle.key_ranges.specs.ContainingLaws.{HoldsFitting, HoldsTogether};
 ghost use Rattle.key_pattern.specs.Plain.{plain_segment, plain_segments};
 ghost use Rattle.key_pattern.specs.Shared.{Shares};
 ghost use Rattle.key_pattern.specs.Fixed.{fixed_text, AddsFixed, JoinsFixed};
@@ -161,16 +161,12 @@ impl Pattern {
     /// The range that holds every key which fits the pattern under the slots, or under more: that of the one key where
     /// each segment is a literal or a set slot, and otherwise that of all keys that begin with the texts of the longest
     /// beginning of such segments. None only where each such key has more than 512 bytes. Linear in the texts.
-    ///
-    /// Today the answer does not depend on the pattern of the output and the range of it that is asked for.
-    pub fn containing(
+    pub fn prefix_range(
         &self,
         alloc: Global,
         slots: &Slots<'_>,
-        _out: &Pattern,
-        _range: &Range,
     ) -> Result<Option<Range>, OutOfMemory>
-        ensures exact { IfOk result (λ found. found ≡ containing self.now slots.now) }
+        ensures exact { IfOk result (λ found. found ≡ pattern_range self.now slots.now) }
         ensures holds { IfOk result (λ found. (more : plain.Slots) (key : Text) → HoldsFitting self.now slots.now found more key) }
     {
         let fixed = join_fixed(alloc, self.segments(), slots)?;
@@ -179,5 +175,22 @@ impl Pattern {
         } else {
             beginning_range(alloc, fixed.text)
         }
+    }
+
+    /// The range that holds every key which fits the pattern together with an output key of the range, under the slots or
+    /// under more. None only where there is no such key of at most 512 bytes. Linear in the texts.
+    ///
+    /// It is the pattern's prefix range: the range of the output does not narrow it yet.
+    pub fn containing(
+        &self,
+        alloc: Global,
+        slots: &Slots<'_>,
+        out: &Pattern,
+        range: &Range,
+    ) -> Result<Option<Range>, OutOfMemory>
+        ensures exact { IfOk result (λ found. found ≡ containing self.now slots.now out.now range.now) }
+        ensures holds { IfOk result (λ found. (more : plain.Slots) (key output : Text) → HoldsTogether self.now slots.now out.now range.now found more key output) }
+    {
+        self.prefix_range(alloc, slots)
     }
 }

@@ -1,5 +1,5 @@
--- The containing range of a source.
-use Rattle.std.proofs.Common.{◌≡◌, ◌⊎◌, ℕ, suc, ◌<◌, ◌≤◌, ◌==◌, Bool, true, false, cond, nat_eq, nat_le, List, [], ◌∷◌, ◌++◌, length, Option, Some, None, option_map, refl, sym, ap, ◌∙◌, subst, inl, inr, arith, append_assoc, append-nil, length-append, eqb-true, eq-eqb, leb-true, le-leb}
+-- The prefix range of a pattern, and the containing range of a source.
+use Rattle.std.proofs.Common.{◌≡◌, ◌⊎◌, ℕ, suc, ◌<◌, ◌≤◌, ◌==◌, Bool, true, false, cond, nat_eq, nat_le, List, [], ◌∷◌, ◌++◌, length, Option, Some, None, option_map, MatchOption, refl, sym, ap, ◌∙◌, subst, inl, inr, arith, append_assoc, append-nil, length-append, eqb-true, eq-eqb, leb-true, le-leb}
 use Rattle.std.specs.List.{list_all, join_with_byte, starts_with}
 use Rattle.std.specs.Option.{IsSomeAnd, IfSome}
 use Rattle.std.proofs.lemmas.Bool.{and_parts, and_from, ne_eqb, false≢true}
@@ -10,8 +10,8 @@ use Rattle.semantics.proofs.PieceLemmas.{Lacks, same_itself, join-pieces}
 use Rattle.semantics.proofs.BindLemmas.{texts-no_slots}
 use Rattle.semantics.proofs.PatternLemmas.{text_lacks, segments_of_pattern, two_of_pattern}
 use Rattle.key_ranges.specs.Ranges.{prefix_range, just}
-use Rattle.key_ranges.specs.Containing.{fixed_texts, fixed_range, containing}
-use Rattle.key_ranges.specs.ContainingLaws.{ContainingHolds, ContainingIsRange, ContainingBeginsWithKey}
+use Rattle.key_ranges.specs.Containing.{fixed_texts, fixed_range, pattern_range, containing}
+use Rattle.key_ranges.specs.ContainingLaws.{PatternRangeHolds, PatternRangeIsRange, PatternRangeBeginsWithKey, ContainingHolds, ContainingIsRange, LiesIn, ContainingLiesInPrefix}
 use Rattle.key_ranges.proofs.PrefixLemmas.{begins_with, within-prefix_range, within-just, table_of-append, has_bar-append}
 use Rattle.key_ranges.proofs.RangeLemmas.{prefix_range_is_range, just_is_range}
 
@@ -107,19 +107,19 @@ pub pattern_begins : (p : Pattern) → is_pattern p ≡ true → (l : Text) × (
 pattern_begins p h = begins_by p (and_parts _ (begins_with_table p) (and_parts _ (list_all is_segment p) h).0).1
 
 -- the same of a source by its parts
-holds_literal : (l : Text) (ss : Pattern) (given more : Slots) (key : Text) → length key ≤ 512 → Fits (literal l ∷ ss) key more → IsPartOf given more → IsSomeAnd (containing (literal l ∷ ss) given) (λ r. within r key ≡ true)
-unfolding containing
+holds_literal : (l : Text) (ss : Pattern) (given more : Slots) (key : Text) → length key ≤ 512 → Fits (literal l ∷ ss) key more → IsPartOf given more → IsSomeAnd (pattern_range (literal l ∷ ss) given) (λ r. within r key ≡ true)
+unfolding pattern_range
 holds_literal l ss given more key small h part =
     holds_by l (fixed_texts ss given) (literal l ∷ ss) key small (fixed_are_first (literal l ∷ ss) (segments key) given more h part)
 
--- every key that fits a source under slots of which the given ones are a part lies in the containing range, whatever texts these give
-pub containing_holds : ContainingHolds
-containing_holds source given more key ok small h part =
+-- every key that fits a pattern under slots of which the given ones are a part lies in its prefix range, whatever texts these give
+pub pattern_range_holds : PatternRangeHolds
+pattern_range_holds source given more key ok small h part =
     let w = pattern_begins source ok in
-    subst (λ p. IsSomeAnd (containing p given) (λ r. within r key ≡ true)) (sym w.2)
+    subst (λ p. IsSomeAnd (pattern_range p given) (λ r. within r key ≡ true)) (sym w.2)
     (holds_literal w.0 w.1 given more key small (subst (λ p. Fits p key more) w.2 h) part)
 
--- ---- a containing range is a range
+-- ---- the prefix range is a range
 
 -- the bounds are a range, which holds the first of them, a key
 abbrev IsRange : Range → Type 0
@@ -181,8 +181,8 @@ range_by l fixed n true name two e = all_by l fixed n name two (eqb-true _ n e)
 range_by l fixed n false name two e = some_by l fixed name
 
 -- the same of a source by its parts
-range_literal : (l : Text) (ss : Pattern) (given : Slots) → IsName l → 2 ≤ length (literal l ∷ ss) → IfSome (containing (literal l ∷ ss) given) IsRange
-unfolding containing
+range_literal : (l : Text) (ss : Pattern) (given : Slots) → IsName l → 2 ≤ length (literal l ∷ ss) → IfSome (pattern_range (literal l ∷ ss) given) IsRange
+unfolding pattern_range
 range_literal l ss given name two = range_by l (fixed_texts ss given) (length (literal l ∷ ss)) (length (l ∷ fixed_texts ss given) == length (literal l ∷ ss)) name two refl
 
 -- the first segment of a pattern is a table's name
@@ -212,23 +212,45 @@ fixed_name p given ok =
     let w = pattern_named p ok in
     subst (λ ts. names_table (join_with_byte bar ts ++ bar ∷ []) ≡ true) (sym (ap (λ q. fixed_texts q given) w.2)) (some_name w.0 (fixed_texts w.1 given) w.3)
 
--- a containing range is a range, which holds its first bound, a key
-range_of_source : (source : Pattern) (given : Slots) → is_pattern source ≡ true → IfSome (containing source given) IsRange
-range_of_source source given ok =
+-- the prefix range of a pattern is a range, which holds its first bound, a key
+range_of_pattern : (pattern : Pattern) (given : Slots) → is_pattern pattern ≡ true → IfSome (pattern_range pattern given) IsRange
+range_of_pattern source given ok =
     let w = pattern_named source ok in
     let two = subst (λ p. nat_le 2 (length p) ≡ true) w.2 (two_of_pattern source ok) in
-    subst (λ p. IfSome (containing p given) IsRange) (sym w.2) (range_literal w.0 w.1 given w.3 (leb-true 2 (length (literal w.0 ∷ w.1)) two))
+    subst (λ p. IfSome (pattern_range p given) IsRange) (sym w.2) (range_literal w.0 w.1 given w.3 (leb-true 2 (length (literal w.0 ∷ w.1)) two))
 
 -- what is said of some range, less said
 less_said : (P Q : Range → Type 0) (o : Option Range) → ((r : Range) → P r → Q r) → IfSome o P → IfSome o Q
 less_said P Q None less h = tt
 less_said P Q (Some r) less h = less r h
 
+-- the prefix range of a pattern is a range
+pub pattern_range_is_range : PatternRangeIsRange
+pattern_range_is_range pattern given ok = less_said IsRange (λ r. is_range r.low r.high ≡ true) (pattern_range pattern given) (λ r h. h.0) (range_of_pattern pattern given ok)
+
+-- the first bound of a pattern's prefix range is a key, which it holds
+pub pattern_range_begins_with_key : PatternRangeBeginsWithKey
+pattern_range_begins_with_key pattern given ok =
+    less_said IsRange (λ r. (is_key r.low ≡ true) × (within r r.low ≡ true)) (pattern_range pattern given) (λ r h. (h.1, h.2)) (range_of_pattern pattern given ok)
+
+-- ---- the containing range
+
+-- every key that fits a source together with an output key of the range lies in the containing range
+pub containing_holds : ContainingHolds
+unfolding containing
+containing_holds source given more output range key out ok output_ok range_ok small fit part inside together = pattern_range_holds source given more key ok small fit part
+
 -- a containing range is a range
 pub containing_is_range : ContainingIsRange
-containing_is_range source given ok = less_said IsRange (λ r. is_range r.low r.high ≡ true) (containing source given) (λ r h. h.0) (range_of_source source given ok)
+unfolding containing
+containing_is_range source given output range ok output_ok range_ok = pattern_range_is_range source given ok
 
--- the first bound of a containing range is a key, which it holds
-pub containing_begins_with_key : ContainingBeginsWithKey
-containing_begins_with_key source given ok =
-    less_said IsRange (λ r. (is_key r.low ≡ true) × (within r r.low ≡ true)) (containing source given) (λ r h. (h.1, h.2)) (range_of_source source given ok)
+-- a range lies in itself
+lies_in_itself : (o : Option Range) → MatchOption o (o ≡ None) (λ r. LiesIn r o)
+lies_in_itself None = refl
+lies_in_itself (Some r) = λ key h. h
+
+-- a containing range lies in the prefix range of the source
+pub containing_lies_in_prefix : ContainingLiesInPrefix
+unfolding containing
+containing_lies_in_prefix source given output range ok output_ok range_ok = lies_in_itself (pattern_range source given)

@@ -1,4 +1,4 @@
--- A containing range holds exactly the keys that begin with the fixed texts.
+-- The prefix range of a pattern holds exactly the keys that begin with the fixed texts.
 use Rattle.std.proofs.Common.{◌≡◌, ℕ, ◌<◌, ◌≤◌, ◌↔◌, ◌==◌, Bool, true, false, cond, nat_eq, nat_le, List, [], ◌∷◌, ◌++◌, length, get_or, drop, Option, Some, None, option_map, MatchOption, refl, sym, ap, ◌∙◌, subst, inl, inr, arith, append_assoc, length-append, eqb-true, eq-eqb, le-leb}
 use Rattle.std.specs.List.{list_all, join_with_byte, starts_with, AllByRecursion}
 use Rattle.std.proofs.lemmas.Bool.{and_parts, false≢true}
@@ -10,8 +10,8 @@ use Rattle.semantics.proofs.PieceLemmas.{Lacks, equal_by_same, same_by_equal, jo
 use Rattle.semantics.proofs.BindLemmas.{texts-no_slots}
 use Rattle.semantics.proofs.PatternLemmas.{text_lacks, segments_of_pattern}
 use Rattle.key_ranges.specs.Ranges.{prefix_range, just}
-use Rattle.key_ranges.specs.Containing.{fixed_texts, fixed_range, containing}
-use Rattle.key_ranges.specs.ContainingLaws.{TakesFixed, ContainingIsExact}
+use Rattle.key_ranges.specs.Containing.{fixed_texts, fixed_range, pattern_range}
+use Rattle.key_ranges.specs.ContainingLaws.{TakesFixed, PatternRangeIsExact}
 use Rattle.key_ranges.proofs.PrefixLemmas.{begins_with, rest_of, within-prefix_range, within-just}
 use Rattle.key_ranges.proofs.BindRangeLemmas.{pieces_cut}
 use Rattle.key_ranges.proofs.ContainingLemmas.{AreFirst, first_by, fixed_slot, fixed_end, join-append, pattern_begins}
@@ -170,8 +170,8 @@ exact_by t fixed p false e lacks few =
 -- ---- the law
 
 -- the same of a source by its parts
-exact_literal : (l : Text) (ss : Pattern) (given : Slots) → list_all is_segment (literal l ∷ ss) ≡ true → AreSegmentTexts given → HoldsFirst (literal l ∷ ss) (fixed_texts (literal l ∷ ss) given) (containing (literal l ∷ ss) given)
-unfolding containing
+exact_literal : (l : Text) (ss : Pattern) (given : Slots) → list_all is_segment (literal l ∷ ss) ≡ true → AreSegmentTexts given → HoldsFirst (literal l ∷ ss) (fixed_texts (literal l ∷ ss) given) (pattern_range (literal l ∷ ss) given)
+unfolding pattern_range
 exact_literal l ss given ok are =
     exact_by l (fixed_texts ss given) (literal l ∷ ss) (length (l ∷ fixed_texts ss given) == length (literal l ∷ ss)) refl (fixed_lack (literal l ∷ ss) given ok are) (fixed_few (literal l ∷ ss) given)
 
@@ -181,10 +181,10 @@ exact_from_first : (p : Pattern) (given : Slots) (found : Option Range) → Hold
 exact_from_first p given None h = λ key small takes. h key small (takes_first p given (segments key) takes)
 exact_from_first p given (Some r) h = λ key. (λ inside. first_takes p given (segments key) ((h key).0 inside), λ takes. (h key).1 (takes_first p given (segments key) takes))
 
--- a containing range holds those keys alone whose segments begin with the fixed texts, and all of them
-pub containing_is_exact : ContainingIsExact
-containing_is_exact source given ok are =
-    let w = pattern_begins source ok in
-    let segments_ok = subst (λ p. list_all is_segment p ≡ true) w.2 (segments_of_pattern source ok) in
-    exact_from_first source given (containing source given)
-    (subst (λ p. HoldsFirst p (fixed_texts p given) (containing p given)) (sym w.2) (exact_literal w.0 w.1 given segments_ok are))
+-- the prefix range of a pattern holds those keys alone whose segments begin with the fixed texts, and all of them
+pub pattern_range_is_exact : PatternRangeIsExact
+pattern_range_is_exact pattern given ok are =
+    let w = pattern_begins pattern ok in
+    let segments_ok = subst (λ p. list_all is_segment p ≡ true) w.2 (segments_of_pattern pattern ok) in
+    exact_from_first pattern given (pattern_range pattern given)
+    (subst (λ p. HoldsFirst p (fixed_texts p given) (pattern_range p given)) (sym w.2) (exact_literal w.0 w.1 given segments_ok are))

@@ -1,5 +1,5 @@
-// Laws on containing ranges.
-ghost use Rattle.key_ranges.specs.ContainingLaws.{SharedIsLongest, BindRangeIsLeast, BindRangeIsShared, BindRangeGivesSlots, ContainingHolds, ContainingIsRange, ContainingIsExact, ContainingBeginsWithKey, OnlyHasPlaces, OnlyIsGiven};
+// Laws on the slots that ranges share, on the prefix ranges of patterns, and on containing ranges.
+ghost use Rattle.key_ranges.specs.ContainingLaws.{SharedIsLongest, BindRangeIsLeast, BindRangeIsShared, BindRangeGivesSlots, PatternRangeHolds, PatternRangeIsRange, PatternRangeIsExact, PatternRangeBeginsWithKey, ContainingHolds, ContainingIsRange, ContainingLiesInPrefix, OnlyHasPlaces, OnlyIsGiven};
 
 /// The shared beginning of a range is the longest beginning of its first bound that ends with `|` and whose range holds
 /// both bounds.
@@ -23,7 +23,30 @@ pub fn bind_range_gives_slots()
     ensures { BindRangeGivesSlots }
 {}
 
-/// Every key that fits a source under slots of which the given ones are a part lies in the containing range.
+/// Every key that fits a pattern under slots of which the given ones are a part lies in its prefix range.
+pub fn pattern_range_holds()
+    ensures { PatternRangeHolds }
+{}
+
+/// The prefix range of a pattern is a range.
+pub fn pattern_range_is_range()
+    ensures { PatternRangeIsRange }
+{}
+
+/// The prefix range of a pattern holds those keys alone whose segments begin with the pattern's fixed texts, and all of
+/// them; there is none only where no such key has at most 512 bytes.
+pub fn pattern_range_is_exact()
+    ensures { PatternRangeIsExact }
+{}
+
+/// The first bound of a pattern's prefix range is a key, which it holds; so there is a range exactly where the segments of
+/// some key of at most 512 bytes begin with the fixed texts.
+pub fn pattern_range_begins_with_key()
+    ensures { PatternRangeBeginsWithKey }
+{}
+
+/// Every key that fits a source together with an output key of the range, under slots of which the given ones are a part,
+/// lies in the containing range.
 pub fn containing_holds()
     ensures { ContainingHolds }
 {}
@@ -33,16 +56,9 @@ pub fn containing_is_range()
     ensures { ContainingIsRange }
 {}
 
-/// A containing range holds those keys alone whose segments begin with the fixed texts of the source, and all of them;
-/// there is none only where no such key has at most 512 bytes.
-pub fn containing_is_exact()
-    ensures { ContainingIsExact }
-{}
-
-/// The first bound of a containing range is a key, which it holds; so there is a range exactly where the segments of some
-/// key of at most 512 bytes begin with the fixed texts.
-pub fn containing_begins_with_key()
-    ensures { ContainingBeginsWithKey }
+/// A containing range lies in the prefix range of the source; there is none only where the source has no prefix range.
+pub fn containing_lies_in_prefix()
+    ensures { ContainingLiesInPrefix }
 {}
 
 /// The slots of one pattern alone have 16 places.

@@ -1,13 +1,13 @@
 -- Noted slots, with the ranges that hold the keys under them.
-use Rattle.std.proofs.Common.{◌≡◌, ◌≤◌, Bool, true, false, cond, not, ◌||◌, List, [], ◌∷◌, ◌++◌, length, map, filter, Option, Some, None, is_some, refl, sym, ap, ◌∙◌, subst}
-use Rattle.std.specs.List.{AllByRecursion, list_any}
+use Rattle.std.proofs.Common.{◌≡◌, Bool, true, false, cond, not, ◌||◌, List, [], ◌∷◌, ◌++◌, filter, Option, Some, None, is_some, refl, sym, ap, ◌∙◌, subst}
+use Rattle.std.specs.List.{list_any}
 use Rattle.std.specs.Option.{IsSomeAnd}
 use Rattle.std.proofs.lemmas.Bool.{false≢true}
 use Rattle.semantics.specs.Texts.{Text, Range, within}
 use Rattle.semantics.specs.Patterns.{Pattern, Slots, bind}
 use Rattle.semantics.proofs.PatternLemmas.{bind_some, segments_of_pattern}
-use Rattle.key_ranges.specs.Containing.{containing}
-use Rattle.key_ranges.proofs.ContainingLemmas.{containing_holds}
+use Rattle.key_ranges.specs.Containing.{pattern_range}
+use Rattle.key_ranges.proofs.ContainingLemmas.{pattern_range_holds}
 use Rattle.key_ranges.proofs.RangeLemmas.{holders_meet}
 use Rattle.lazy_log.specs.Pending.{meets_held, meets_output}
 use Rattle.lazy_log.specs.Held.{slots_of, AreHeld}
@@ -31,7 +31,7 @@ pub covered_is_met : CoveredIsMet
 covered_is_met output slots range key ok long small inside fits =
     let found = some_of (bind output key slots) fits in
     let least = bind_some output key slots found.0 (segments_of_pattern output ok) long found.1 in
-    met_by (containing output slots) range key inside (containing_holds output slots found.0 key ok small least.takes least.keeps)
+    met_by (pattern_range output slots) range key inside (pattern_range_holds output slots found.0 key ok small least.takes least.keeps)
 
 -- ---- tests of what was noted
 
@@ -40,7 +40,7 @@ pub any_noted : (test : Slots → Bool) (ns : List Noted) → list_any (λ n. te
 any_noted test [] = refl
 any_noted test (n ∷ ns) = ap (λ b. test n.slots || b) (any_noted test ns)
 
--- the ranges beside the slots meet what the containing ranges meet
+-- the ranges beside the slots meet what the prefix ranges meet
 pub any_held : (output : Pattern) (range : Range) (ns : List Noted) → AreHeld output ns → list_any (λ n. meets_held n.held range) ns ≡ list_any (meets_output output range) (slots_of ns)
 any_held output range [] h = refl
 any_held output range (n ∷ ns) h =
@@ -51,18 +51,18 @@ slots_by : (b : Bool) (n : Noted) (ns : List Noted) → slots_of (cond b (n ∷ 
 slots_by true n ns = refl
 slots_by false n ns = refl
 
--- the slots beside the ranges that pass are those whose containing ranges pass
-pub slots_where : (output : Pattern) (test : Option Range → Bool) (ns : List Noted) → AreHeld output ns → slots_of (filter (λ n. test n.held) ns) ≡ filter (λ slots. test (containing output slots)) (slots_of ns)
+-- the slots beside the ranges that pass are those whose prefix ranges pass
+pub slots_where : (output : Pattern) (test : Option Range → Bool) (ns : List Noted) → AreHeld output ns → slots_of (filter (λ n. test n.held) ns) ≡ filter (λ slots. test (pattern_range output slots)) (slots_of ns)
 slots_where output test [] h = refl
 slots_where output test (n ∷ ns) h =
     slots_by (test n.held) n (filter (λ n. test n.held) ns)
     ∙ ap (λ ss. cond (test n.held) (n.slots ∷ ss) ss) (slots_where output test ns h.1)
-    ∙ ap (λ held. cond (test held) (n.slots ∷ filter (λ slots. test (containing output slots)) (slots_of ns)) (filter (λ slots. test (containing output slots)) (slots_of ns))) h.0
+    ∙ ap (λ held. cond (test held) (n.slots ∷ filter (λ slots. test (pattern_range output slots)) (slots_of ns)) (filter (λ slots. test (pattern_range output slots)) (slots_of ns))) h.0
 
 -- ---- what was noted, more and less
 
--- one more, with its containing range
-pub held_push : (output : Pattern) (ns : List Noted) (n : Noted) → AreHeld output ns → n.held ≡ containing output n.slots → AreHeld output (ns ++ n ∷ [])
+-- one more, with its prefix range
+pub held_push : (output : Pattern) (ns : List Noted) (n : Noted) → AreHeld output ns → n.held ≡ pattern_range output n.slots → AreHeld output (ns ++ n ∷ [])
 held_push output [] n h is = (is, tt)
 held_push output (m ∷ ms) n h is = (h.0, held_push output ms n h.1 is)
 
@@ -71,7 +71,7 @@ pub slots_push : (ns : List Noted) (n : Noted) → slots_of (ns ++ n ∷ []) ≡
 slots_push [] n = refl
 slots_push (m ∷ ms) n = ap (λ ss. m.slots ∷ ss) (slots_push ms n)
 
-held_by : (output : Pattern) (b : Bool) (n : Noted) (ns : List Noted) → n.held ≡ containing output n.slots → AreHeld output ns → AreHeld output (cond b (n ∷ ns) ns)
+held_by : (output : Pattern) (b : Bool) (n : Noted) (ns : List Noted) → n.held ≡ pattern_range output n.slots → AreHeld output ns → AreHeld output (cond b (n ∷ ns) ns)
 held_by output true n ns here h = (here, h)
 held_by output false n ns here h = h
 
@@ -82,7 +82,7 @@ held_where output test (n ∷ ns) h = held_by output (test n) n (filter test ns)
 
 -- ---- what was noted, in two parts
 
--- those that are left, after none, keep their containing ranges
+-- those that are left, after none, keep their prefix ranges
 pub left_held : (output : Pattern) (range : Range) (ns before after : List Noted) → AreHeld output ns → before ≡ [] → after ≡ before ++ filter (λ n. not (meets_held n.held range)) ns → AreHeld output after
 left_held output range ns before after h none is =
     subst (AreHeld output) (sym (is ∙ ap (λ ms. ms ++ filter (λ n. not (meets_held n.held range)) ns) none)) (held_where output (λ n. not (meets_held n.held range)) ns h)

@@ -3,7 +3,6 @@ ghost use Rattle.std.specs.Prelude.{◌≡◌, [], ◌∷◌, ◌++◌, ◌+◌,
 ghost use Rattle.std.specs.Vec.{vec_len, vec_capacity};
 ghost use Rattle.std.specs.List.{list_any};
 ghost use Rattle.semantics.specs.Patterns.{bind};
-ghost use Rattle.key_ranges.specs.Containing.{containing};
 ghost use Rattle.lazy_log.specs.Pending.{meets_held, meets_output};
 ghost use Rattle.lazy_log.specs.Held.{slots_of};
 
@@ -38,20 +37,6 @@ impl Model for LazyLog {
     ghost view = { λ l. record { output = l.output; noted = slots_of l.noted.items } };
 
     ghost invariant = { λ l. AreHeld l.output l.noted.items };
-}
-
-/// The range that holds every key which fits the output under the slots; none where each such key is too long. Linear in
-/// the texts.
-fn held_range(
-    alloc: Global,
-    output: &Pattern,
-    slots: &SlotTexts,
-) -> Result<Option<Range>, OutOfMemory>
-    ensures { IfOk result (λ held. held ≡ containing output.now slots.now) }
-{
-    // The answer depends on no range that is asked for.
-    let any = Range::prefix_range(alloc, "t|")?;
-    output.containing(alloc, &slots.lend(), output, &any)
 }
 
 /// Whether the key fits the output under the slots.
@@ -111,7 +96,7 @@ impl LazyLog {
         ensures ok { OnOk result (self.new ≡ record self.old { noted = self.old.noted ++ slots ∷ [] }) }
         ensures err { OnErr result (self.new ≡ self.old) }
     {
-        let held = held_range(self.alloc, &self.output, &slots)?;
+        let held = self.output.prefix_range(self.alloc, &slots.lend())?;
         self.noted.push(Noted { slots, held })?;
         Ok(())
     }
@@ -126,7 +111,7 @@ impl LazyLog {
             .any(|noted| fits_under(&self.output, &noted.slots, key))
     }
 
-    /// Whether the containing range of the output under some of the noted slots meets the range. Linear in the noted
+    /// Whether the prefix range of the output under some of the noted slots meets the range. Linear in the noted
     /// slots and the bounds, and no memory is taken.
     pub fn meets(&self, range: &Range) -> bool
         ensures { result ≡ list_any (meets_output self.now.output range.now) self.now.noted }
@@ -134,7 +119,7 @@ impl LazyLog {
         self.noted.iter().any(|noted| noted.meets(range))
     }
 
-    /// Takes out the slots under which the containing range of the output meets the range, in the order of noting. The
+    /// Takes out the slots under which the prefix range of the output meets the range, in the order of noting. The
     /// others are left, in their order. Linear in the noted slots and the bounds, and no text is copied.
     ///
     /// On `OutOfMemory` all is as it was.

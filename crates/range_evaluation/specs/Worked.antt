@@ -67,21 +67,29 @@ OtherWidth = bind_range wide_output (between (codes "o|1|") (codes "o|1}")) ≡ 
 abbrev source : Pattern
 source = literal (codes "s") ∷ slot 0 0 ∷ slot 1 0 ∷ []
 
+-- the output keys that begin with `o|ann|`
+abbrev of_ann : Range
+of_ann = between (codes "o|ann|") (codes "o|ann}")
+
+-- all output keys
+abbrev all_outputs : Range
+all_outputs = between (codes "o|") (codes "o}")
+
 -- under no texts it is the whole table's
 abbrev pub ContainingTable : Type 0
-ContainingTable = containing source no_slots ≡ Some (between (codes "s|") (codes "s}"))
+ContainingTable = containing source no_slots output all_outputs ≡ Some (between (codes "s|") (codes "s}"))
 
 -- a text narrows it to the keys that begin with it
 abbrev pub ContainingBeginning : Type 0
-ContainingBeginning = containing source (first_is (codes "ann")) ≡ Some (between (codes "s|ann|") (codes "s|ann}"))
+ContainingBeginning = containing source (first_is (codes "ann")) output of_ann ≡ Some (between (codes "s|ann|") (codes "s|ann}"))
 
 -- a text behind a slot without one does not
 abbrev pub ContainingGap : Type 0
-ContainingGap = containing source (slice_set no_slots 1 (Some (codes "bob"))) ≡ Some (between (codes "s|") (codes "s}"))
+ContainingGap = containing source (slice_set no_slots 1 (Some (codes "bob"))) output all_outputs ≡ Some (between (codes "s|") (codes "s}"))
 
 -- under texts for all slots it is that of one key, which ends with the key and byte 0
 abbrev pub ContainingKey : Type 0
-ContainingKey = containing source (both_are (codes "ann") (codes "bob")) ≡ Some (between (codes "s|ann|bob") (codes "s|ann|bob" ++ 0 ∷ []))
+ContainingKey = containing source (both_are (codes "ann") (codes "bob")) output of_ann ≡ Some (between (codes "s|ann|bob") (codes "s|ann|bob" ++ 0 ∷ []))
 
 -- ---- the needs of a join
 
@@ -104,7 +112,7 @@ ann_and t = slice_set (first_is (codes "ann")) 2 (Some t)
 
 -- to find `t|ann|` the check's keys of ann are read, and for each of them those of the one whom it names
 abbrev pub TreeOfTimeline : Type 0
-TreeOfTimeline = tree timeline (first_is (codes "ann")) stored
+TreeOfTimeline = tree timeline (first_is (codes "ann")) (between (codes "t|ann|") (codes "t|ann}")) stored
     ≡ record { source = 1; slots = first_is (codes "ann"); by = []; range = between (codes "s|ann|") (codes "s|ann}") }
     ∷ record { source = 0; slots = ann_and (codes "bob"); by = codes "s|ann|bob" ∷ []; range = between (codes "p|bob|") (codes "p|bob}") }
     ∷ record { source = 0; slots = ann_and (codes "cat"); by = codes "s|ann|cat" ∷ []; range = between (codes "p|cat|") (codes "p|cat}") }

@@ -116,6 +116,27 @@ fn what_is_contained(rt: HostRuntime) -> Result<(), Fail> {
 }
 
 #[test]
+fn what_a_pattern_holds_under_slots(rt: HostRuntime) -> Result<(), Fail> {
+    let alloc = rt.alloc();
+    let key = read_key(&rt, alloc, "s|ann|bob");
+    let slots = read_pattern(&rt, alloc, "s|<0|<2")?
+        .matches(&key, &Slots::none())
+        .expect(&rt, "slots");
+    let rows = [
+        ("t|<0|<1|<2", "t|ann|", "t|ann}"),
+        ("t|<1|<0", "t|", "t}"),
+        ("t|<2|<0", "t|bob|ann", "t|bob|ann\0"),
+    ];
+    for (pattern, low, high) in rows {
+        let found = read_pattern(&rt, alloc, pattern)?
+            .prefix_range(alloc, &slots)?
+            .expect(&rt, "a range");
+        assert!(rt; found.lo() == low && found.hi() == high, "{pattern}");
+    }
+    Ok(())
+}
+
+#[test]
 fn what_varies_does_not_narrow(rt: HostRuntime) -> Result<(), Fail> {
     let alloc = rt.alloc();
     let output = read_pattern(&rt, alloc, "o|<0|<1")?;

@@ -1,0 +1,3 @@
+mod WrittenLemmas
+mod ComparedLemmas
+mod RangeSlotLemmas

@@ -19,7 +19,7 @@ abbrev of_change : Change → ℕ
 of_change c = c.position
 
 -- the changes that entries which begin at a position make in a table
-abbrev changes_from : ℕ → Text → History → List Change
+abbrev pub changes_from : ℕ → Text → History → List Change
 changes_from position table h = made_from (λ n. change_by n table) position h
 
 -- ---- the positions ascend, and one entry more
@@ -75,7 +75,7 @@ keys_under r true cs ks e = e
 keys_under r false cs ks e = refl
 
 -- of one write: the keys of the range that it puts or removes, where it lies between
-keys_of_change : (r : Range) (q p position : ℕ) (write : Write) → is_range r.low r.high ≡ true →
+pub keys_of_change : (r : Range) (q p position : ℕ) (write : Write) → is_range r.low r.high ≡ true →
     keys_within r (filter (is_between q p) (change_by position (table_of r.low) write)) ≡ cond (lies_between q p position) (filter (within r) (written write)) []
 keys_of_change r q p position (put k v) h =
     ap (keys_within r) (between_one q p (same (table_of k) (table_of r.low)) (record { position = position; key = k }))

@@ -5,3 +5,4 @@ pub mod OrderLemmas
 pub mod MapLemmas
 pub mod StandsLemmas
 pub mod EnterLemmas
+pub mod ChangedLemmas

@@ -17,7 +17,7 @@ use Rattle.semantics.proofs.TableLemmas.{IsAscending, text_total, tie_itself, eq
 use Rattle.semantics.proofs.BaseLemmas.{ascending-base_of}
 use Rattle.key_ranges.proofs.RangeLemmas.{within_table}
 use Rattle.base_versions.specs.declared.versions.Version.{Version}
-use Rattle.base_versions.specs.Versions.{AscendFrom, AllAscend, Tracks, SayFrom, versions_at, versions_of, value_in, pairs_in}
+use Rattle.base_versions.specs.Versions.{AscendFrom, AllAscend, Tracks, SayFrom, versions_at, versions_of, value_in, pairs_by, pairs_in}
 use Rattle.base_versions.specs.Kept.{TableKept, Kept, table_in, has_table, StandsFor}
 use Rattle.base_versions.proofs.VersionLemmas.{ascend-say_from, value_in-say_from}
 
@@ -53,29 +53,29 @@ below_onto : (value : Option Text) (x k : Text) (rest : Table) → text_cmp x k 
 below_onto None x k rest l h = h
 below_onto (Some v) x k rest l h = and_from _ _ (ap is_lt l) h
 
-below_pairs : (p : ℕ) (x : Text) (ts : Tracks) → AllByRecursion (λ t. text_cmp x t.0 ≡ Less) ts → below_all text_cmp x (pairs_in p ts) ≡ true
-below_pairs p x [] a = refl
-below_pairs p x (t ∷ ts) a = below_onto (value_in p t.1) x t.0 (pairs_in p ts) a.0 (below_pairs p x ts a.1)
+below_pairs : (f : List Version → Option Text) (x : Text) (ts : Tracks) → AllByRecursion (λ t. text_cmp x t.0 ≡ Less) ts → below_all text_cmp x (pairs_by f ts) ≡ true
+below_pairs f x [] a = refl
+below_pairs f x (t ∷ ts) a = below_onto (f t.1) x t.0 (pairs_by f ts) a.0 (below_pairs f x ts a.1)
 
 ascending_onto : (value : Option Text) (k : Text) (rest : Table) → below_all text_cmp k rest ≡ true → IsAscending rest → IsAscending (onto value k rest)
 ascending_onto None k rest b h = h
 ascending_onto (Some v) k rest b h = and_from _ _ b h
 
 -- the pairs of a map ascend
-ascending-pairs_in : (p : ℕ) (ts : Tracks) → IsStrictlySortedBy text_cmp (keys_of ts) → IsAscending (pairs_in p ts)
-ascending-pairs_in p [] s = refl
-ascending-pairs_in p (t ∷ ts) s =
-    ascending_onto (value_in p t.1) t.0 (pairs_in p ts) (below_pairs p t.0 ts (less_first t.0 ts (sorted_head text_cmp t.0 (keys_of ts) s)))
-    (ascending-pairs_in p ts (sorted_tail text_cmp t.0 (keys_of ts) s))
+pub ascending-pairs_by : (f : List Version → Option Text) (ts : Tracks) → IsStrictlySortedBy text_cmp (keys_of ts) → IsAscending (pairs_by f ts)
+ascending-pairs_by f [] s = refl
+ascending-pairs_by f (t ∷ ts) s =
+    ascending_onto (f t.1) t.0 (pairs_by f ts) (below_pairs f t.0 ts (less_first t.0 ts (sorted_head text_cmp t.0 (keys_of ts) s)))
+    (ascending-pairs_by f ts (sorted_tail text_cmp t.0 (keys_of ts) s))
 
 value_onto : (value : Option Text) (q k : Text) (rest : Table) (b : Bool) → eq_by_cmp text_cmp q k ≡ b → (b ≡ true → value_at q rest ≡ None) → value_at q (onto value k rest) ≡ cond b value (value_at q rest)
 value_onto None q k rest true e none = none refl
 value_onto None q k rest false e none = refl
 value_onto (Some v) q k rest b e none = ap (λ x. cond x (Some v) (value_at q rest)) e
 
-chosen : (p : ℕ) (b : Bool) (t : Text × List Version) (o : Option (List Version)) → cond b (value_in p t.1) (option_and_then (value_in p) o) ≡ option_and_then (value_in p) (cond b (Some t.1) o)
-chosen p true t o = refl
-chosen p false t o = refl
+chosen : (f : List Version → Option Text) (b : Bool) (t : Text × List Version) (o : Option (List Version)) → cond b (f t.1) (option_and_then f o) ≡ option_and_then f (cond b (Some t.1) o)
+chosen f true t o = refl
+chosen f false t o = refl
 
 less_apart : (o : Ordering) → is_lt o ≡ true → is_eq o ≡ false
 less_apart Less h = refl
@@ -95,15 +95,15 @@ equal_from Equal h = refl
 equal_from Greater h = absurd (false≢true h)
 
 -- the pair at a key is made of the key's versions
-value_at-pairs_in : (p : ℕ) (q : Text) (ts : Tracks) → IsStrictlySortedBy text_cmp (keys_of ts) → value_at q (pairs_in p ts) ≡ option_and_then (value_in p) (lookup (is_at (text_cmp q)) ts)
-value_at-pairs_in p q [] s = refl
-value_at-pairs_in p q (t ∷ ts) s =
-    let rest = pairs_in p ts in
-    let below = below_pairs p t.0 ts (less_first t.0 ts (sorted_head text_cmp t.0 (keys_of ts) s)) in
-    value_onto (value_in p t.1) q t.0 rest (eq_by_cmp text_cmp q t.0) refl (λ e.
+pub value_at-pairs_by : (f : List Version → Option Text) (q : Text) (ts : Tracks) → IsStrictlySortedBy text_cmp (keys_of ts) → value_at q (pairs_by f ts) ≡ option_and_then f (lookup (is_at (text_cmp q)) ts)
+value_at-pairs_by f q [] s = refl
+value_at-pairs_by f q (t ∷ ts) s =
+    let rest = pairs_by f ts in
+    let below = below_pairs f t.0 ts (less_first t.0 ts (sorted_head text_cmp t.0 (keys_of ts) s)) in
+    value_onto (f t.1) q t.0 rest (eq_by_cmp text_cmp q t.0) refl (λ e.
     none_below q rest (ap (λ k. below_all text_cmp k rest) (equal_by_tie q t.0 (equal_from (text_cmp q t.0) e)) ∙ below))
-    ∙ ap (cond (eq_by_cmp text_cmp q t.0) (value_in p t.1)) (value_at-pairs_in p q ts (sorted_tail text_cmp t.0 (keys_of ts) s))
-    ∙ chosen p (eq_by_cmp text_cmp q t.0) t (lookup (is_at (text_cmp q)) ts)
+    ∙ ap (cond (eq_by_cmp text_cmp q t.0) (f t.1)) (value_at-pairs_by f q ts (sorted_tail text_cmp t.0 (keys_of ts) s))
+    ∙ chosen f (eq_by_cmp text_cmp q t.0) t (lookup (is_at (text_cmp q)) ts)
 
 -- ---- what is kept of a table, and the base pairs
 
@@ -115,7 +115,7 @@ found_versions : (o : Option (List Version)) (vs : List Version) → o ≡ Some 
 found_versions o vs e = sym (ap (λ x. unwrap_or x []) e)
 
 -- the versions of the keys of a range say from the start on what those say that the history gave them
-said_versions : (start : ℕ) (kept : Kept) (h : History) (r : Range) (table : TableKept) → StandsFor start kept h → has_table kept (table_of r.low) ≡ true → is_range r.low r.high ≡ true →
+pub said_versions : (start : ℕ) (kept : Kept) (h : History) (r : Range) (table : TableKept) → StandsFor start kept h → has_table kept (table_of r.low) ≡ true → is_range r.low r.high ≡ true →
     table_in (table_of r.low) kept ≡ table → (q : Text) → within r q ≡ true → SayFrom start (versions_at q table.tracks) (versions_of q h)
 said_versions start kept h r table s own ok is q inside =
     let of_table = within_table r q ok inside in
@@ -153,18 +153,26 @@ sorted_by true t ts l s = (l, s)
 sorted_by false t ts l s = s
 
 -- the keys of a range ascend
-sorted_part : (r : Range) (ts : Tracks) → IsStrictlySortedBy text_cmp (keys_of ts) → IsStrictlySortedBy text_cmp (keys_of (part r ts))
+pub sorted_part : (r : Range) (ts : Tracks) → IsStrictlySortedBy text_cmp (keys_of ts) → IsStrictlySortedBy text_cmp (keys_of (part r ts))
 sorted_part r [] s = s
 sorted_part r (t ∷ ts) s =
     sorted_by (within r t.0) t (part r ts) (less_part r t.0 ts (sorted_head text_cmp t.0 (keys_of ts) s)) (sorted_part r ts (sorted_tail text_cmp t.0 (keys_of ts) s))
 
-of_versions : (p : ℕ) (o : Option (List Version)) → option_and_then (value_in p) o ≡ value_in p (unwrap_or o [])
-of_versions p None = refl
-of_versions p (Some vs) = refl
+of_versions : (f : List Version → Option Text) (o : Option (List Version)) → f [] ≡ None → option_and_then f o ≡ f (unwrap_or o [])
+of_versions f None none = sym none
+of_versions f (Some vs) none = refl
 
-in_part : (p : ℕ) (q : Text) (b : Bool) (o : Option (List Version)) (value : Option Text) → (b ≡ true → value_in p (unwrap_or o []) ≡ value) → option_and_then (value_in p) (cond b o None) ≡ cond b value None
-in_part p q true o value h = of_versions p o ∙ h refl
-in_part p q false o value h = refl
+in_part : (f : List Version → Option Text) (b : Bool) (o : Option (List Version)) (value : Option Text) → f [] ≡ None → (b ≡ true → f (unwrap_or o []) ≡ value) → option_and_then f (cond b o None) ≡ cond b value None
+in_part f true o value none h = of_versions f o none ∙ h refl
+in_part f false o value none h = refl
+
+-- what is made of the versions of a range's keys, at a key
+pub value_at-part : (f : List Version → Option Text) (r : Range) (ts : Tracks) (q : Text) (value : Option Text) → IsStrictlySortedBy text_cmp (keys_of ts) → f [] ≡ None → (within r q ≡ true → f (versions_at q ts) ≡ value) →
+    value_at q (pairs_by f (part r ts)) ≡ cond (within r q) value None
+value_at-part f r ts q value sorted none h =
+    value_at-pairs_by f q (part r ts) (sorted_part r ts sorted)
+    ∙ ap (option_and_then f) (lookup-filter-keys (is_at (text_cmp q)) (within r) (within r q) (λ k e. ap (within r) (sym (equal_by_tie q k (equal_from (text_cmp q k) e)))) ts)
+    ∙ in_part f (within r q) (lookup (is_at (text_cmp q)) ts) value none h
 
 -- the pairs of a range are the base pairs
 pub pairs-kept : (start : ℕ) (kept : Kept) (h : History) (r : Range) (p : ℕ) (table : TableKept) → StandsFor start kept h → start ≤ p → has_table kept (table_of r.low) ≡ true → is_range r.low r.high ≡ true →
@@ -172,10 +180,8 @@ pub pairs-kept : (start : ℕ) (kept : Kept) (h : History) (r : Range) (p : ℕ)
 pairs-kept start kept h r p table s g own ok is sorted =
     let base = base_of (take p h) in
     same_tables (pairs_in p (part r table.tracks)) (pairs_within r base)
-    (ascending-pairs_in p (part r table.tracks) (sorted_part r table.tracks sorted))
+    (ascending-pairs_by (value_in p) (part r table.tracks) (sorted_part r table.tracks sorted))
     (ascending-pairs_where (within r) base (ascending-base_of (take p h)))
     (λ q.
-    value_at-pairs_in p q (part r table.tracks) (sorted_part r table.tracks sorted)
-    ∙ ap (option_and_then (value_in p)) (lookup-filter-keys (is_at (text_cmp q)) (within r) (within r q) (λ k e. ap (within r) (sym (equal_by_tie q k (equal_from (text_cmp q k) e)))) table.tracks)
-    ∙ in_part p q (within r q) (lookup (is_at (text_cmp q)) table.tracks) (value_at q base) (λ inside. value_in-say_from start (versions_at q table.tracks) q h p (said_versions start kept h r table s own ok is q inside) g)
+    value_at-part (value_in p) r table.tracks q (value_at q base) sorted refl (λ inside. value_in-say_from start (versions_at q table.tracks) q h p (said_versions start kept h r table s own ok is q inside) g)
     ∙ sym (value_at-pairs_where (within r) q base))

@@ -1,6 +1,7 @@
 -- The versions of a key, and the base pair at it.
-use Rattle.std.proofs.Common.{◌≡◌, ℕ, zero, suc, ◌+◌, ◌-◌, ◌<◌, ◌≤◌, List, [], ◌∷◌, ◌++◌, length, take, fold, nat_le, Bool, true, false, cond, not, slice_get, option_and_then, Option, Some, None, refl, sym, ap, ◌∙◌, ⊎_elim, arith, subst, append_assoc}
+use Rattle.std.proofs.Common.{◌≡◌, ℕ, zero, suc, ◌+◌, ◌-◌, ◌<◌, ◌≤◌, List, [], ◌∷◌, ◌++◌, length, take, fold, drop, nat_le, Bool, true, false, ◌||◌, cond, not, slice_get, option_and_then, Option, Some, None, refl, sym, ap, ◌∙◌, ⊎_elim, arith, subst, append_assoc}
 use Rattle.std.proofs.Math.Seq.{take-nil}
+use Rattle.std.proofs.lemmas.Bool.Decides.{nat_tests}
 use Rattle.std.proofs.lemmas.Bool.{cases_lt, false_from_ne_true, le-leb, leb-true}
 use Rattle.std.proofs.lemmas.List.{append-nil}
 use Rattle.std.proofs.lemmas.List.Sums.{fold-append}
@@ -8,9 +9,9 @@ use Rattle.semantics.specs.Texts.{Text, same, Table, value_at}
 use Rattle.semantics.specs.Histories.{Write, put, remove, declare, Entry, History, base_after, base_of}
 use Rattle.semantics.proofs.TableLemmas.{value_at-with_pair, value_at-pairs_where}
 use Rattle.base_versions.specs.declared.versions.Version.{Version}
-use Rattle.base_versions.specs.Positions.{made_from}
+use Rattle.base_versions.specs.Positions.{lies_between, made_from}
 use Rattle.base_versions.proofs.PositionLemmas.{ascend_from_less, IsCut, cut_none, cut_some, MakesInOrder, ascend_onto, ascend-made_from, made_from-push, kept_since_all, kept_since-append, ascend-kept_since}
-use Rattle.base_versions.specs.Versions.{version_by, versions_of, value_in, AscendFrom, SayFrom}
+use Rattle.base_versions.specs.Versions.{version_by, versions_of, value_in, has_between, AscendFrom, SayFrom}
 
 -- the versions that a key has from entries that begin at a position
 abbrev pub versions_from : ℕ → Text → History → List Version
@@ -165,3 +166,45 @@ last_by_place (v ∷ w ∷ vs) =
 -- what stands at a key after p entries is the last value before the cut
 pub value_in-cut : (p : ℕ) (vs : List Version) (n : ℕ) → IsCut (λ v. nat_le v.position p) vs n → value_in p vs ≡ option_and_then (λ v. v.value) (slice_get (take n vs) (length (take n vs) - 1))
 value_in-cut p vs n c = taken_last p None vs n c ∙ last_by_place (take n vs)
+
+-- ---- the first version after a cut
+
+-- whether there is a version and its position is at most p
+abbrev pub is_up_to : ℕ → Option Version → Bool
+is_up_to p None = false
+is_up_to p (Some v) = nat_le v.position p
+
+-- of versions after p none is between
+none_between : (q p low : ℕ) (vs : List Version) → p < low → AscendFrom low vs → has_between q p vs ≡ false
+none_between q p low [] h a = refl
+none_between q p low (v ∷ vs) h a =
+    let later : low ≤ v.position = a.0 in
+    let test : lies_between q p v.position ≡ false = grind (arith, nat_tests) in
+    ap (λ b. b || has_between q p vs) test ∙ none_between q p (v.position + 1) vs (omega arith) a.1
+
+either_between : (q p : ℕ) (v : Version) (vs : List Version) → q < v.position → AscendFrom (v.position + 1) vs → nat_le v.position p ≡ (lies_between q p v.position || has_between q p vs)
+either_between q p v vs h a =
+    ⊎_elim
+    (λ (late : p < v.position).
+    let test : lies_between q p v.position ≡ false = grind (arith, nat_tests) in
+    let not_yet : nat_le v.position p ≡ false = grind (arith, nat_tests) in
+    not_yet ∙ sym (ap (λ b. b || has_between q p vs) test ∙ none_between q p (v.position + 1) vs (omega arith) a))
+    (λ (early : v.position ≤ p).
+    let test : lies_between q p v.position ≡ true = grind (arith, nat_tests) in
+    let now : nat_le v.position p ≡ true = grind (arith, nat_tests) in
+    now ∙ sym (ap (λ b. b || has_between q p vs) test))
+    (cases_lt p v.position)
+
+-- a version is between exactly where the first one after the cut is at most p
+pub has_between-cut : (q p low : ℕ) (vs : List Version) (n : ℕ) → AscendFrom low vs → IsCut (λ v. nat_le v.position q) vs n → is_up_to p (slice_get (drop n vs) 0) ≡ has_between q p vs
+has_between-cut q p low [] zero a c = refl
+has_between-cut q p low [] (suc n) a c = refl
+has_between-cut q p low (v ∷ vs) zero a c =
+    let w = cut_none (λ v. nat_le v.position q) v vs c in
+    let after : nat_le v.position q ≡ false = w.0 in
+    either_between q p v vs (grind (arith, nat_tests)) a.1
+has_between-cut q p low (v ∷ vs) (suc n) a c =
+    let w = cut_some (λ v. nat_le v.position q) v vs n c in
+    let before : nat_le v.position q ≡ true = w.0 in
+    let test : lies_between q p v.position ≡ false = grind (arith, nat_tests) in
+    has_between-cut q p (v.position + 1) vs n a.1 w.1 ∙ sym (ap (λ b. b || has_between q p vs) test)

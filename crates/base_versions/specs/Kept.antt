@@ -1,21 +1,26 @@
 -- What is kept of a history, and which histories it stands for.
-use Rattle.std.specs.Prelude.{◌≡◌, ℕ, ◌+◌, ◌<◌, ◌%◌, ◌==◌, List, [], ◌∷◌, ◌++◌, length, map, sum, take, string_bytes, Bool, true, false, Option}
+use Rattle.std.specs.Prelude.{◌≡◌, ◌⊎◌, filter, ℕ, ◌+◌, ◌<◌, ◌%◌, ◌==◌, List, [], ◌∷◌, ◌++◌, length, map, sum, take, string_bytes, Bool, true, false, Option}
 use Rattle.std.specs.declared.string.String.{String}
 use Rattle.std.specs.Bool.{MatchBool}
 use Rattle.std.specs.BTreeMap.{is_at}
 use Rattle.std.specs.Map.{lookup}
 use Rattle.std.specs.Option.{unwrap_or}
-use Rattle.semantics.specs.Texts.{Text, same, table_of, text_cmp}
+use Rattle.semantics.specs.Texts.{Text, same, table_of, text_cmp, Range, within}
 use Rattle.semantics.specs.Histories.{History}
 use Rattle.base_versions.specs.declared.changes.Change.{Change}
-use Rattle.base_versions.specs.Versions.{Tracks, SayFrom, versions_at, versions_of, AddsVersion, KeepsVersions}
-use Rattle.base_versions.specs.Changes.{changes_of}
+use Rattle.base_versions.specs.Versions.{Tracks, SayFrom, keys_changed, versions_at, versions_of, AddsVersion, KeepsVersions}
+use Rattle.base_versions.specs.Changes.{changes_of, changed_in}
 use Rattle.base_versions.specs.Positions.{IsKeptSince}
 
 -- of one table: the versions of its keys, and its changes in order
 pub record TableKept : Type 0 where
   pub tracks : Tracks
   pub changes : List Change
+
+-- the keys of a range that are changed after the first q entries, up to the p-th: by the table's changes, or by the versions of the range's keys
+abbrev pub FindsChanged : ℕ → ℕ → Range → TableKept → List Text → Type 0
+FindsChanged q p range table keys =
+    (keys ≡ changed_in q p range table.changes) ⊎ (keys ≡ keys_changed q p (filter (λ track. within range track.0) table.tracks))
 
 -- of several tables, in the order of their names
 abbrev pub Tables : Type 0

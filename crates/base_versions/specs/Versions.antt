@@ -1,12 +1,12 @@
 -- The versions of a key: what it was given, and at which positions.
-use Rattle.std.specs.Prelude.{◌≡◌, ℕ, ◌≤◌, List, [], ◌∷◌, ◌++◌, filter_map, fold, nat_le, if◌then◌else◌, Option, Some, None, option_map}
-use Rattle.std.specs.List.{AllByRecursion}
+use Rattle.std.specs.Prelude.{◌≡◌, ℕ, ◌≤◌, List, [], ◌∷◌, ◌++◌, Bool, map, filter, filter_map, fold, nat_le, if◌then◌else◌, Option, Some, None, option_map}
+use Rattle.std.specs.List.{AllByRecursion, list_any}
 use Rattle.std.specs.BTreeMap.{is_at}
 use Rattle.std.specs.Map.{lookup}
 use Rattle.std.specs.Option.{unwrap_or}
 use Rattle.semantics.specs.Texts.{Text, same, text_cmp, Table}
 use Rattle.semantics.specs.Histories.{Write, put, remove, declare, History}
-use Rattle.base_versions.specs.Positions.{AscendBy, IsKeptSince, made_from}
+use Rattle.base_versions.specs.Positions.{AscendBy, IsKeptSince, lies_between, made_from}
 use Rattle.base_versions.specs.declared.versions.Version.{Version}
 
 -- the version that a key has from a write at a position, where the write changes the key
@@ -44,13 +44,25 @@ versions_at key tracks = unwrap_or (lookup (is_at (text_cmp key)) tracks) []
 abbrev pub AllAscend : Tracks → Type 0
 AllAscend = AllByRecursion (λ track. AscendFrom 0 track.1)
 
--- the key and its value after p entries, where it has one
-abbrev pub pair_in : ℕ → Text × List Version → Option (Text × Text)
-pair_in p track = option_map (λ value. (track.0, value)) (value_in p track.1)
+-- the key and what is made of its versions, where something is
+abbrev pub pair_by : (List Version → Option Text) → Text × List Version → Option (Text × Text)
+pair_by made track = option_map (λ value. (track.0, value)) (made track.1)
+
+-- the pairs that are made of the versions of several keys
+abbrev pub pairs_by : (List Version → Option Text) → Tracks → Table
+pairs_by made tracks = filter_map (pair_by made) tracks
 
 -- the pairs after p entries
 abbrev pub pairs_in : ℕ → Tracks → Table
-pairs_in p tracks = filter_map (pair_in p) tracks
+pairs_in p tracks = pairs_by (value_in p) tracks
+
+-- whether a key has a version after the first q entries, up to the p-th
+abbrev pub has_between : ℕ → ℕ → List Version → Bool
+has_between q p versions = list_any (λ v. lies_between q p v.position) versions
+
+-- those of several keys that have such a version
+abbrev pub keys_changed : ℕ → ℕ → Tracks → List Text
+keys_changed q p tracks = map (λ track. track.0) (filter (λ track. has_between q p track.1) tracks)
 
 -- the new versions are the old ones with one more at the key
 abbrev pub AddsVersion : Text → Version → Tracks → Tracks → Type 0

@@ -115,7 +115,8 @@ impl BaseVersions {
     }
 
     /// The keys of the range that are put or removed after the first q entries, up to the p-th: in order, each once. It
-    /// costs the search for these changes of the range's table, and to sort the keys of those that lie in the range.
+    /// costs the searches for the range and for these changes of its table, and then a look at each key of the range that
+    /// was ever put or removed, or at each of these changes, whichever are fewer; the keys of the changes are sorted.
     ///
     /// The steps are as many as the keys, and one. On `OutOfMemory` they are not counted.
     pub fn changed<L: Ledger>(

@@ -1,12 +1,12 @@
 // The versions and the changes of one table.
-ghost use Rattle.std.specs.Prelude.{◌≡◌, [], ◌∷◌, ◌++◌, IfOk, OnOk, OnErr, filter, option_copied, true};
+ghost use Rattle.std.specs.Prelude.{◌≡◌, [], ◌∷◌, ◌++◌, IfOk, OnOk, OnErr, filter, length, nat_lt, option_copied, true};
 ghost use Rattle.std.specs.List.{AllByRecursion};
 ghost use Rattle.std.specs.List.Sorted.{IsStrictlySortedBy};
 ghost use Rattle.std.specs.Map.{keys_of};
 ghost use Rattle.semantics.specs.Texts.{is_key, text_cmp, within};
-ghost use Rattle.base_versions.specs.Versions.{AddsVersion, AllAscend, AscendFrom, KeepsVersions, pairs_in, value_in, versions_at};
-ghost use Rattle.base_versions.specs.Changes.{Ascend, changed_in};
-ghost use Rattle.base_versions.specs.Kept.{empty_table};
+ghost use Rattle.base_versions.specs.Versions.{AddsVersion, AllAscend, AscendFrom, KeepsVersions, keys_changed, pairs_in, value_in, versions_at};
+ghost use Rattle.base_versions.specs.Changes.{Ascend};
+ghost use Rattle.base_versions.specs.Kept.{FindsChanged, empty_table};
 
 use crate::changes::{Change, between, keys_in_order};
 use crate::versions::{Version, Versions};
@@ -85,21 +85,32 @@ impl TableVersions {
         }
     }
 
+    /// The keys of the range that ever had a version, with their versions, in order. It takes the search for the range.
+    fn within(&self, range: &Range) -> Result<btree_map::Range<'_, KeyBound, Versions>, OutOfMemory>
+        ensures tracks { IfOk result (λ tracks. tracks ≡ filter (λ track. within range.now track.0) self.now.tracks) }
+        ensures keys { IfOk result (λ tracks. AllByRecursion (λ track. is_key track.0 ≡ true) tracks) }
+        ensures ordered { OnOk result (IsStrictlySortedBy text_cmp (keys_of self.now.tracks)) }
+    {
+        let bounds = (
+            Bound::Included(range.first_place()?),
+            Bound::Excluded(range.last_place()?),
+        );
+        Ok(self.tracks.range(bounds))
+    }
+
     /// The pairs of the range after p entries, in order. It takes as long as to find the range and to look at each of
     /// its keys that ever had a version.
     pub fn pairs_at(&self, alloc: Global, p: u64, range: &Range) -> Result<Vec<Pair>, OutOfMemory>
         ensures ordered { OnOk result (IsStrictlySortedBy text_cmp (keys_of self.now.tracks)) }
         ensures pairs { AllAscend (filter (λ track. within range.now track.0) self.now.tracks) → IfOk result (λ pairs. pairs.items ≡ pairs_in p (filter (λ track. within range.now track.0) self.now.tracks)) }
     {
-        let bounds = (
-            Bound::Included(range.first_place()?),
-            Bound::Excluded(range.last_place()?),
-        );
-        listed(alloc, p, self.tracks.range(bounds))
+        let tracks = self.within(range)?;
+        listed(alloc, p, tracks)
     }
 
-    /// The keys of the range that changes after the first q entries, up to the p-th, speak of: in order, each once. It
-    /// takes as long as to find these changes and to sort their keys.
+    /// The keys of the range that are put or removed after the first q entries, up to the p-th: in order, each once. It
+    /// takes the searches for the range and for these changes of the table, and then as long as to look at the keys of
+    /// the range or at these changes, whichever are fewer.
     pub fn changed(
         &self,
         alloc: Global,
@@ -107,10 +118,50 @@ impl TableVersions {
         p: u64,
         range: &Range,
     ) -> Result<Vec<Key>, OutOfMemory>
-        ensures { Ascend 0 self.now.changes → IfOk result (λ keys. keys.items ≡ changed_in q p range.now self.now.changes) }
+        ensures ordered { OnOk result (IsStrictlySortedBy text_cmp (keys_of self.now.tracks)) }
+        ensures keys { Ascend 0 self.now.changes → AllAscend (filter (λ track. within range.now track.0) self.now.tracks) → IfOk result (λ keys. FindsChanged q p range.now self.now keys.items) }
     {
-        keys_in_order(alloc, between(self.changes.as_slice(), q, p), range)
+        let changes = between(self.changes.as_slice(), q, p);
+        let tracks = self.within(range)?;
+        if has_more(self.within(range)?, changes.len()) {
+            keys_in_order(alloc, changes, range)
+        } else {
+            changed_keys(alloc, q, p, tracks)
+        }
     }
+}
+
+/// Whether more than so many keys are walked. It looks at no more than so many of them and one.
+fn has_more(tracks: btree_map::Range<'_, KeyBound, Versions>, count: usize) -> bool
+    ensures { result ≡ nat_lt count (length tracks.entry) }
+{
+    let mut left = count;
+    for _track in tracks {
+        if left == 0 {
+            return true;
+        }
+        left -= 1;
+    }
+    false
+}
+
+/// Those of the keys that are walked which have a version after the first q entries, up to the p-th, in order.
+fn changed_keys(
+    alloc: Global,
+    q: u64,
+    p: u64,
+    tracks: btree_map::Range<'_, KeyBound, Versions>,
+) -> Result<Vec<Key>, OutOfMemory>
+    requires { AllByRecursion (λ track. is_key track.0 ≡ true) tracks }
+    ensures { AllAscend tracks.entry → IfOk result (λ keys. keys.items ≡ keys_changed q p tracks.entry) }
+{
+    let mut keys = Vec::new(alloc);
+    for (place, versions) in tracks {
+        if versions.has_between(q, p) {
+            keys.push(Key::at(place)?)?;
+        }
+    }
+    Ok(keys)
 }
 
 /// The pairs after p entries of the keys that are walked, in order.

@@ -1,6 +1,6 @@
 // The versions of one key.
 ghost use Rattle.std.specs.Prelude.{◌≡◌, [], ◌∷◌, ◌++◌, OnOk, OnErr, option_copied};
-ghost use Rattle.base_versions.specs.Versions.{AscendFrom, value_in};
+ghost use Rattle.base_versions.specs.Versions.{AscendFrom, has_between, value_in};
 
 use key_space::Value;
 use out_of_memory::OutOfMemory;
@@ -56,6 +56,16 @@ impl Versions {
         match self.list[..count].last() {
             None => None,
             Some(version) => version.value.as_ref(),
+        }
+    }
+    /// Whether there is a version after the first q entries, up to the p-th. The versions are searched by halves.
+    pub fn has_between(&self, q: u64, p: u64) -> bool
+        ensures { AscendFrom 0 self.now → result ≡ has_between q p self.now }
+    {
+        let count = self.list.partition_point(|version| version.position <= q);
+        match self.list[count..].first() {
+            None => false,
+            Some(version) => version.position <= p,
         }
     }
 }

@@ -6,28 +6,26 @@ use Rattle.std.proofs.lemmas.Bool.{and_parts, and_from, not-true, not_from_false
 use Rattle.std.proofs.lemmas.Option.{cond_some, slice_get-map}
 use Rattle.std.proofs.lemmas.List.Elements.{recursion_from_All}
 use Rattle.semantics.specs.Texts.{Text, bar, has_bar, Table, is_range, Range, value_at, within, pairs_within}
-use Rattle.semantics.specs.Patterns.{literal, slot, Pattern, Slots, text_at, segments, takes_width, TakeAll, Fits, IsPartOf}
+use Rattle.semantics.specs.Patterns.{literal, slot, Pattern, Slots, text_at, segments, TakeAll, Fits, IsPartOf}
 use Rattle.semantics.specs.PatternLaws.{AreSegmentTexts}
 use Rattle.semantics.specs.Joins.{Source, Join, is_join}
 use Rattle.semantics.specs.Outputs.{out}
 use Rattle.semantics.proofs.PieceLemmas.{Lacks, pieces_lack}
 use Rattle.semantics.proofs.PatternLemmas.{fits_more, segments_of_pattern}
-use Rattle.semantics.proofs.MemberLemmas.{Has, has_from_contains, contains_from_has, has_filter}
+use Rattle.semantics.proofs.MemberLemmas.{Has, has_filter}
 use Rattle.semantics.proofs.TableLemmas.{IsAscending, value_from_has}
 use Rattle.semantics.proofs.MergedLemmas.{ascending-pairs_within, value_at-pairs_within}
 use Rattle.semantics.proofs.GatherLemmas.{ascending-out}
 use Rattle.semantics.proofs.OutputLemmas.{output_of_join, out_keys_fit_short}
 use Rattle.key_ranges.specs.Containing.{bind_range, containing}
 use Rattle.key_ranges.proofs.BindRangeLemmas.{bind_range_is_shared}
-use Rattle.growing_history.specs.Entered.{HasKeys}
 use Rattle.growing_history.proofs.ElementLemmas.{all_from_has, has_of_all}
 use Rattle.range_evaluation.specs.Trees.{Need, placed_sources, tree}
 use Rattle.range_evaluation.specs.TreeLaws.{AreOutputSlots}
 use Rattle.range_evaluation.specs.PathLaws.{IsPath, HoldsNext, CameByPath, HasHeldPath}
 use Rattle.range_evaluation.proofs.PathLemmas.{needs_hold_next, needs_came_by_paths, needs_hold_their_paths}
 use Rattle.range_evaluation.proofs.AskedLemmas.{shared_are_output_slots}
-use Rattle.kept_ranges.specs.Kept.{Kept, IsRowKey, AreRows, AreFollowed, CameBy, IsRight}
-use Rattle.kept_ranges.specs.Rules.{IsFilled}
+use Rattle.kept_ranges.specs.Kept.{Kept, IsRowKey, AreRows, CameBy}
 use Rattle.kept_ranges.specs.FillLaws.{IsSource, FilledIsRight}
 
 -- ---- slots without the texts that no segment may be
@@ -157,7 +155,7 @@ came_by j range table needs (Some shared) ok below filled are =
 
 -- what is filled is right
 pub filled_is_right : FilledIsRight
-filled_is_right j range table kept ok rules is below filled =
+filled_is_right j range table kept ok is below filled =
     let are = shared_are_output_slots j range ok in
     let segments = segments_of_pattern j.output (output_of_join j ok) in
     record {

@@ -155,7 +155,7 @@ pairs_after j range reported table other before m key =
 
 -- what is listed for a table is, after an advance, what is listed for the other one
 pub relisted_are_listed : RelistedAreListed
-relisted_are_listed j range reported table other before after listing relisted aggregate is below above right nothing listed reports made key =
+relisted_are_listed j range reported table other before after listing relisted aggregate below above right nothing listed reports made key =
     let one = one_source j aggregate.rules aggregate.aggregates in
     let m : Moves j range reported table other before = record { aggregate = aggregate; one = one; below = below; above = above; right = right; nothing = nothing; reports = reports } in
     made.listed key
@@ -204,7 +204,7 @@ unapplied_out j range reported table other before m key inside none =
 
 -- at a key of the range that is not applied the output of an aggregate is the same over both tables
 pub unlisted_is_same : UnlistedIsSame
-unlisted_is_same j range reported table other before key aggregate is below above right nothing reports inside none =
+unlisted_is_same j range reported table other before key aggregate below above right nothing reports inside none =
     unapplied_out j range reported table other before
     (record { aggregate = aggregate; one = one_source j aggregate.rules aggregate.aggregates; below = below; above = above; right = right; nothing = nothing; reports = reports }) key inside none
 
@@ -279,12 +279,12 @@ needs_over j one table other needs came = all_from_has (CameBy j other needs) ne
 
 -- what is kept for an aggregate is right for the other table after an advance
 pub relisted_is_right : RelistedIsRight
-relisted_is_right j range reported table other before after listing relisted aggregate is below above right nothing listed reports made =
+relisted_is_right j range reported table other before after listing relisted aggregate below above right nothing listed reports made =
     let one = one_source j aggregate.rules aggregate.aggregates in
     let are : AreRelisted j range reported table other before after listing relisted = record {
       moves = record { aggregate = aggregate; one = one; below = below; above = above; right = right; nothing = nothing; reports = reports };
       made = made;
-      listed = relisted_are_listed j range reported table other before after listing relisted aggregate is below above right nothing listed reports made;
+      listed = relisted_are_listed j range reported table other before after listing relisted aggregate below above right nothing listed reports made;
     } in
     record {
       rows = relisted_rows j range reported table other before after listing relisted are;

@@ -2,12 +2,11 @@
 use Rattle.std.proofs.Common.{◌≡◌, ◌⊎◌, ℕ, ◌≤◌, ◌&&◌, Bool, true, false, cond, not, List, length, slice_get, Any, Contains, Option, Some, None, is_some, refl, sym, ap, ◌∙◌, subst, inl, inr, ⊎_elim}
 use Rattle.std.specs.Option.{option_or}
 use Rattle.std.specs.List.{AllByRecursion}
-use Rattle.std.proofs.lemmas.Bool.{false≢true, false_from_ne_true, and_parts}
+use Rattle.std.proofs.lemmas.Bool.{false≢true, false_from_ne_true}
 use Rattle.semantics.specs.Texts.{is_range, Text, Table, Range, value_at, within, pairs_where}
 use Rattle.semantics.specs.Patterns.{Slots, is_pattern, segments, Fits, IsPartOf, bind}
 use Rattle.semantics.specs.Joins.{Source, Join, is_join}
 use Rattle.semantics.specs.Outputs.{out}
-use Rattle.semantics.specs.States.{merged}
 use Rattle.semantics.proofs.PatternLemmas.{fits_more, segments_of_pattern, bind_some}
 use Rattle.semantics.proofs.CopyLemmas.{take_agree}
 use Rattle.semantics.proofs.MemberLemmas.{Has, has_from_contains, contains_from_has, has_from_any, any_from_has}
@@ -20,7 +19,7 @@ use Rattle.range_evaluation.specs.Trees.{Need, placed_sources, tree, is_asked}
 use Rattle.range_evaluation.specs.TreeLaws.{AreOutputSlots}
 use Rattle.range_evaluation.specs.PathLaws.{IsPath, HoldsNext}
 use Rattle.range_evaluation.proofs.PathLemmas.{needs_hold_next}
-use Rattle.kept_ranges.specs.Kept.{Kept, is_covered, IsRowKey, AreRows, AreFollowed, CameBy, IsRight}
+use Rattle.kept_ranges.specs.Kept.{Kept, is_covered, IsRowKey, AreRows, AreFollowed, CameBy}
 use Rattle.kept_ranges.specs.Rules.{IsMended}
 use Rattle.kept_ranges.specs.FillLaws.{IsSource}
 use Rattle.kept_ranges.specs.MendLaws.{MendedIsRight}
@@ -81,10 +80,8 @@ clear_before : (j : Join) (range : Range) (table : Table) (slots : Slots) (befor
     → is_covered j.output before.pending key ≡ false
 clear_before j range table slots before after key mended unfit clear = false_from_ne_true (is_covered j.output before.pending key) (λ h.
     let w = has_from_any (λ s. is_some (bind j.output key s)) before.pending h in
-    ⊎_elim
-    (λ (own : w.0 ≡ slots). false≢true (sym unfit ∙ ap (λ s. is_some (bind j.output key s)) (sym own) ∙ w.2))
-    (λ stays. false≢true (sym clear ∙ any_from_has (λ s. is_some (bind j.output key s)) after.pending w.0 (has_from_contains after.pending w.0 stays) w.2))
-    ((mended.pending w.0).0 (contains_from_has before.pending w.0 w.1)))
+    let stays = (mended.pending w.0).1 (contains_from_has before.pending w.0 w.1, λ own. false≢true (sym unfit ∙ ap (λ s. is_some (bind j.output key s)) (sym own) ∙ w.2)) in
+    false≢true (sym clear ∙ any_from_has (λ s. is_some (bind j.output key s)) after.pending w.0 (has_from_contains after.pending w.0 stays) w.2))
 
 or_none : (o : Option Text) → option_or o None ≡ o
 or_none None = refl
@@ -139,8 +136,7 @@ mended_came j range table slots before after need ok below are came mended h = �
 
 -- what is right stays right once slots that were pending are mended
 pub mended_is_right : MendedIsRight
-mended_is_right j range table slots before after copies good below pending right mended =
-    let ok = copies.is_join in
+mended_is_right j range table slots before after ok good below pending right mended =
     let are = has_of_all (AreOutputSlots j) before.pending slots right.pending (has_from_contains before.pending slots pending) in
     record {
       rows = mended_rows j range table slots before after ok right.rows mended;
@@ -148,5 +144,5 @@ mended_is_right j range table slots before after copies good below pending right
           mended_followed j range table slots before after (is_some (bind j.output key slots)) key path more wider source s next refl ok good below are right.followed mended inside clear fit is at wide follows short;
       came = all_from_has (CameBy j table after.needs) after.needs (λ need h. mended_came j range table slots before after need ok below are right.came mended (contains_from_has after.needs need h));
       pending = all_from_has (AreOutputSlots j) after.pending (λ other h. has_of_all (AreOutputSlots j) before.pending other right.pending
-          (has_from_contains before.pending other ((mended.pending other).1 (inr (contains_from_has after.pending other h)))));
+          (has_from_contains before.pending other ((mended.pending other).0 (contains_from_has after.pending other h)).0));
     }

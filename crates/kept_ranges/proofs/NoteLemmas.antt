@@ -1,10 +1,10 @@
 -- Notes in the order in which they were made, and what is kept of them.
-use Rattle.std.proofs.Common.{◌≡◌, ℕ, zero, suc, ◌-◌, ◌≤◌, ◌&&◌, ◌||◌, List, [], ◌∷◌, ◌++◌, length, drop, Bool, true, false, nat_lt, refl, sym, ap, ◌∙◌, subst, arith}
-use Rattle.std.specs.List.{list_any, AllByRecursion}
+use Rattle.std.proofs.Common.{◌≡◌, ℕ, zero, suc, ◌-◌, ◌≤◌, ◌&&◌, ◌||◌, List, [], ◌∷◌, ◌++◌, length, drop, false, nat_lt, refl, sym, ap, ◌∙◌, arith}
+use Rattle.std.specs.List.{AllByRecursion}
 use Rattle.std.proofs.lemmas.Bool.{le-ltb}
 use Rattle.semantics.specs.Texts.{Text}
 use Rattle.semantics.specs.Patterns.{Pattern}
-use Rattle.kept_ranges.specs.Notes.{Mark, Note, Notes, marks, is_noted, note_limit, AreInOrder, last_dropped, noted}
+use Rattle.kept_ranges.specs.Notes.{Note, marks, is_noted, note_limit, AreInOrder, last_dropped}
 use Rattle.kept_ranges.specs.SoundLaws.{NotedInOrder, NotedKeepsLater}
 
 -- ---- the order

@@ -1,9 +1,9 @@
 -- Kept ranges over histories: what is right stays right over longer ones, once filled, advanced and mended.
-use Rattle.std.proofs.Common.{◌≡◌, ◌⊎◌, ◌↔◌, ℕ, ◌<◌, ◌≤◌, ◌||◌, ◌&&◌, List, [], ◌∷◌, ◌++◌, length, take, map, Contains, Bool, true, false, nat_lt, is_some, Option, Some, None, IfSome, refl, sym, ap, ◌∙◌, subst, inl, inr, ⊎_elim, arith, le_antisymm, length-append}
-use Rattle.std.specs.List.{list_any, AllByRecursion}
-use Rattle.std.proofs.lemmas.Bool.{cases_lt, lt-ltb, false≢true, and_from, or_left, or_right, or_cases}
+use Rattle.std.proofs.Common.{◌≡◌, ◌↔◌, ℕ, ◌<◌, ◌≤◌, ◌||◌, ◌&&◌, List, [], ◌∷◌, ◌++◌, length, take, map, Contains, Bool, true, false, nat_lt, is_some, Option, Some, None, IfSome, refl, sym, ap, ◌∙◌, subst, inl, inr, ⊎_elim, arith, le_antisymm, length-append}
+use Rattle.std.specs.List.{AllByRecursion}
+use Rattle.std.proofs.lemmas.Bool.{cases_lt, lt-ltb, false≢true, and_from, or_left, or_right}
 use Rattle.std.proofs.lemmas.List.Folds.{list_any-append}
-use Rattle.semantics.specs.Texts.{Text, same, Table, Range, value_at, within}
+use Rattle.semantics.specs.Texts.{Text, same, Table, value_at, within}
 use Rattle.semantics.specs.Patterns.{Pattern, Slots, bind}
 use Rattle.semantics.specs.Joins.{copy, is_aggregate, Join, is_join, value_operator}
 use Rattle.semantics.specs.Histories.{History, DeclaredJoin, IsPrefix, joins_of}
@@ -15,22 +15,18 @@ use Rattle.semantics.proofs.OfRankLemmas.{all_at}
 use Rattle.semantics.proofs.PieceLemmas.{same_by_equal}
 use Rattle.semantics.proofs.StateLemmas.{ascending-below}
 use Rattle.growing_history.specs.Entered.{HasEntered, HasRank}
-use Rattle.growing_history.specs.Changes.{Same}
-use Rattle.growing_history.proofs.ElementLemmas.{all_from_has, has_of_all}
 use Rattle.growing_history.proofs.EnteredLemmas.{has_entered_taken, declares_joins, keeps_rules}
 use Rattle.growing_history.proofs.KeyLemmas.{has_keys_below}
 use Rattle.growing_history.proofs.PrefixLemmas.{take_prefix}
 use Rattle.range_evaluation.specs.Trees.{Need}
-use Rattle.agg_rows.specs.Kept.{Groups, pairs_of}
-use Rattle.kept_ranges.specs.Kept.{Kept, is_covered, IsRight}
-use Rattle.kept_ranges.specs.Rules.{Touch, Application, touches, applications, IsFilled, IsCut, IsAdvanced, IsMended}
-use Rattle.kept_ranges.specs.Listing.{AreListed, IsApplied}
-use Rattle.kept_ranges.specs.Notes.{Mark, key, slots, Note, Notes, marks, is_noted, AreInOrder, noted, NotesHold}
-use Rattle.kept_ranges.specs.Sound.{KeptRange, IsListed, IsSoundAt, IsSound}
+use Rattle.agg_rows.specs.Kept.{pairs_of}
+use Rattle.kept_ranges.specs.Kept.{is_covered, IsRight}
+use Rattle.kept_ranges.specs.Notes.{Mark, key, slots, Note, marks, is_noted, AreInOrder, noted, NotesHold}
+use Rattle.kept_ranges.specs.Sound.{KeptRange, IsListed, IsSoundAt}
 use Rattle.kept_ranges.specs.FillLaws.{IsSource}
 use Rattle.kept_ranges.specs.AdvanceLaws.{AreReported}
-use Rattle.kept_ranges.specs.ListingLaws.{IsAggregateJoin, IsRelisted}
-use Rattle.kept_ranges.specs.SoundLaws.{SoundOverLonger, MakesNotes, IsAdvanceMark, IsMendMark, AreReportedBetween, CanStand, FilledIsSound, AdvancedIsSound, RelistedIsSound, MendedIsSound}
+use Rattle.kept_ranges.specs.ListingLaws.{IsAggregateJoin}
+use Rattle.kept_ranges.specs.SoundLaws.{SoundOverLonger, MakesNotes, AreReportedBetween, CanStand, FilledIsSound, AdvancedIsSound, RelistedIsSound, MendedIsSound}
 use Rattle.kept_ranges.proofs.NoteLemmas.{noted_in_order, noted_keeps_later}
 use Rattle.kept_ranges.proofs.FillLemmas.{filled_is_right}
 use Rattle.kept_ranges.proofs.AdvanceLemmas.{unapplied_is_same, advanced_is_right}
@@ -92,7 +88,7 @@ pub filled_is_sound : FilledIsSound
 filled_is_sound s kept groups h p can filled listed = record {
   place = can.place;
   stands = can.stands;
-  right = filled_is_right s.join s.range (below (take p h) s.rank) kept (join_at s h p can) (rules_at s h p can) can.is_range (source_at h p s.rank can.entered) filled;
+  right = filled_is_right s.join s.range (below (take p h) s.rank) kept (join_at s h p can) can.is_range (source_at h p s.rank can.entered) filled;
   listed = λ a. record { pending = filled.pending; listed = listed a };
   in_order = omega arith;
   noted = λ u x k starts order last inside uncovered quiet. ap (λ y. value_at k (out s.join (below (take y h) s.rank))) (le_antisymm (omega arith) order);
@@ -205,21 +201,21 @@ relisted_is_sound s kept groups reported added h q p can le aggregates sound bet
     record {
       place = can.place;
       stands = can.stands;
-      right = relisted_is_right s.join s.range reported (below (take q h) s.rank) (below (take p h) s.rank) s.kept kept listing after join can.is_range (at q) (at p) sound.right was.pending was.listed told relisted;
+      right = relisted_is_right s.join s.range reported (below (take q h) s.rank) (below (take p h) s.rank) s.kept kept listing after join (at q) (at p) sound.right was.pending was.listed told relisted;
       listed = λ a. record {
         pending = relisted.pending ∙ was.pending;
-        listed = relisted_are_listed s.join s.range reported (below (take q h) s.rank) (below (take p h) s.rank) s.kept kept listing after join can.is_range (at q) (at p) sound.right was.pending was.listed told relisted;
+        listed = relisted_are_listed s.join s.range reported (below (take q h) s.rank) (below (take p h) s.rank) s.kept kept listing after join (at q) (at p) sound.right was.pending was.listed told relisted;
       };
       in_order = (noted_in_order q p s.notes added le sound.in_order makes.made).1;
       noted = notes_go_on s h q p kept.pending added _ le sound makes (λ k uncovered. subst (λ ps. is_covered s.join.output ps k ≡ false) relisted.pending uncovered) (λ x k order last inside uncovered unmarked.
-          unlisted_is_same s.join s.range reported (below (take q h) s.rank) (below (take x h) s.rank) s.kept k join can.is_range (at q) (at x) sound.right was.pending (reported_at h q p s.rank s.kept.needs reported x between order last) inside
+          unlisted_is_same s.join s.range reported (below (take q h) s.rank) (below (take x h) s.rank) s.kept k join (at q) (at x) sound.right was.pending (reported_at h q p s.rank s.kept.needs reported x between order last) inside
           (λ applied. unmarked (key k) applied (same_by_equal k k refl)));
     }
 
 -- ---- mending
 
 -- a key that neither the mended slots nor those that stay cover was covered by none
-uncovered_before : (output : Pattern) (mended : Slots) (old new : List Slots) (k : Text) → ((other : Slots) → Contains old other ↔ ((other ≡ mended) ⊎ Contains new other)) → is_covered output new k ≡ false
+uncovered_before : (output : Pattern) (mended : Slots) (old new : List Slots) (k : Text) → ((other : Slots) → Contains new other ↔ (Contains old other × (other ≡ mended → ⊥))) → is_covered output new k ≡ false
     → (is_some (bind output k mended) ≡ true → ⊥) → is_covered output old k ≡ false
 uncovered_before output mended old new k parts uncovered apart = by_test (is_covered output old k) refl
   where
@@ -230,18 +226,15 @@ uncovered_before output mended old new k parts uncovered apart = by_test (is_cov
     by_test false e = refl
     by_test true e =
         let w = has_from_any covers old e in
-        ⊎_elim
-        (λ same. absurd (apart (ap covers (sym same) ∙ w.2)))
-        (λ there. absurd (false≢true (sym uncovered ∙ any_from_has covers new w.0 (has_from_contains new w.0 there) w.2)))
-        ((parts w.0).0 (contains_from_has old w.0 w.1))
+        let stays = (parts w.0).1 (contains_from_has old w.0 w.1, λ same. apart (ap covers (sym same) ∙ w.2)) in
+        absurd (false≢true (sym uncovered ∙ any_from_has covers new w.0 (has_from_contains new w.0 stays) w.2))
 
 pub mended_is_sound : MendedIsSound
 mended_is_sound s kept mended added h q can copies sound there mends makes =
-    let join = copies_at s h q can copies in
     record {
       place = can.place;
       stands = can.stands;
-      right = mended_is_right s.join s.range (below (take q h) s.rank) mended s.kept kept join can.is_range (source_at h q s.rank can.entered) there sound.right mends;
+      right = mended_is_right s.join s.range (below (take q h) s.rank) mended s.kept kept (join_at s h q can) can.is_range (source_at h q s.rank can.entered) there sound.right mends;
       listed = λ a. absurd (false≢true (ap is_aggregate (sym copies) ∙ a));
       in_order = (noted_in_order q q s.notes added (omega arith) sound.in_order makes.made).1;
       noted = λ u x k starts order last inside uncovered quiet.

@@ -1,7 +1,7 @@
 -- Laws on aggregates: what is listed once a range is filled, and after an advance.
-use Rattle.std.specs.Prelude.{◌≡◌, [], List, true, MatchOption, IsTrue}
+use Rattle.std.specs.Prelude.{◌≡◌, [], List, true, IsTrue}
 use Rattle.std.specs.FinMap.Entries.{is_sorted}
-use Rattle.semantics.specs.Texts.{Text, text_cmp, is_range, Range, Table, value_at, within}
+use Rattle.semantics.specs.Texts.{Text, text_cmp, Range, Table, value_at, within}
 use Rattle.semantics.specs.Joins.{is_aggregate, Join, is_join, value_operator}
 use Rattle.semantics.specs.Outputs.{out}
 use Rattle.semantics.specs.States.{KeepsRules}
@@ -33,18 +33,18 @@ pub record IsRelisted (j : Join) (range : Range) (reported : List Text) (table :
 
 -- what is listed for a table is, after an advance, what is listed for the other one
 abbrev pub RelistedAreListed : Type 0
-RelistedAreListed = (j : Join) (range : Range) (reported : List Text) (table other : Table) (before after : Kept) (listing relisted : Text → Table) → IsAggregateJoin j → is_range range.low range.high ≡ true → IsSource table → IsSource other →
+RelistedAreListed = (j : Join) (range : Range) (reported : List Text) (table other : Table) (before after : Kept) (listing relisted : Text → Table) → IsAggregateJoin j → IsSource table → IsSource other →
     IsRight j range table before → before.pending ≡ [] → AreListed j range table listing → AreReported before.needs reported table other → IsRelisted j range reported other before after listing relisted →
     AreListed j range other relisted
 
 -- and what is kept is right for the other one
 abbrev pub RelistedIsRight : Type 0
-RelistedIsRight = (j : Join) (range : Range) (reported : List Text) (table other : Table) (before after : Kept) (listing relisted : Text → Table) → IsAggregateJoin j → is_range range.low range.high ≡ true → IsSource table → IsSource other →
+RelistedIsRight = (j : Join) (range : Range) (reported : List Text) (table other : Table) (before after : Kept) (listing relisted : Text → Table) → IsAggregateJoin j → IsSource table → IsSource other →
     IsRight j range table before → before.pending ≡ [] → AreListed j range table listing → AreReported before.needs reported table other → IsRelisted j range reported other before after listing relisted →
     IsRight j range other after
 
 -- at a key of the range that is not applied the output of an aggregate is the same over each table that differs at reported keys alone
 abbrev pub UnlistedIsSame : Type 0
-UnlistedIsSame = (j : Join) (range : Range) (reported : List Text) (table other : Table) (before : Kept) (key : Text) → IsAggregateJoin j → is_range range.low range.high ≡ true → IsSource table → IsSource other →
+UnlistedIsSame = (j : Join) (range : Range) (reported : List Text) (table other : Table) (before : Kept) (key : Text) → IsAggregateJoin j → IsSource table → IsSource other →
     IsRight j range table before → before.pending ≡ [] → AreReported before.needs reported table other → within range key ≡ true →
     (IsApplied (applications j range before.pending reported before.needs) key → ⊥) → value_at key (out j other) ≡ value_at key (out j table)

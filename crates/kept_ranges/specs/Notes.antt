@@ -1,7 +1,7 @@
 -- Notes of which keys of an output may have changed.
 use Rattle.std.specs.Prelude.{◌≡◌, ℕ, zero, suc, ◌-◌, ◌≤◌, ◌&&◌, List, [], ◌∷◌, ◌++◌, length, take, drop, Bool, true, false, nat_lt, is_some}
 use Rattle.std.specs.List.{list_any}
-use Rattle.semantics.specs.Texts.{Text, same, Table, Range, value_at, within}
+use Rattle.semantics.specs.Texts.{Text, same, Range, value_at, within}
 use Rattle.semantics.specs.Patterns.{Pattern, Slots, bind}
 use Rattle.semantics.specs.Joins.{Join}
 use Rattle.semantics.specs.Histories.{History}

@@ -106,4 +106,4 @@ pub record IsAdvanced (j : Join) (range : Range) (reported : List Text) (table :
 pub record IsMended (j : Join) (range : Range) (table : Table) (slots : Slots) (before after : Kept) : Type 0 where
   pub rows : after.rows ≡ merged (pairs_where (λ key. not (is_some (bind j.output key slots))) before.rows) (pairs_where (is_asked j.output slots range) (out j table))
   pub needs : (need : Need) → Contains after.needs need ↔ (Contains before.needs need ⊎ Contains (tree j slots range table) need)
-  pub pending : (other : Slots) → Contains before.pending other ↔ ((other ≡ slots) ⊎ Contains after.pending other)
+  pub pending : (other : Slots) → Contains after.pending other ↔ (Contains before.pending other × (other ≡ slots → ⊥))

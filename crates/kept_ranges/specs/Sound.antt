@@ -1,6 +1,6 @@
 -- `Sound`: when a kept range is right for a history.
-use Rattle.std.specs.Prelude.{◌≡◌, ℕ, ◌≤◌, List, [], length, take, true, Option, IfSome}
-use Rattle.semantics.specs.Texts.{Text, Table, Range}
+use Rattle.std.specs.Prelude.{◌≡◌, ℕ, ◌≤◌, [], length, take, true, Option, IfSome}
+use Rattle.semantics.specs.Texts.{Table, Range}
 use Rattle.semantics.specs.Joins.{is_aggregate, Join, value_operator}
 use Rattle.semantics.specs.Histories.{History, joins_of}
 use Rattle.semantics.specs.States.{below}

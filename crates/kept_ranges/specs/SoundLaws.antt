@@ -1,9 +1,9 @@
 -- Laws on kept ranges over histories that grow, and on their notes.
-use Rattle.std.specs.Prelude.{◌≡◌, ◌⊎◌, ◌↔◌, ℕ, ◌≤◌, List, ◌++◌, [], ◌∷◌, map, length, take, true, Contains, Some}
+use Rattle.std.specs.Prelude.{◌≡◌, ◌↔◌, ℕ, ◌≤◌, List, ◌++◌, [], map, length, take, true, Contains, Some}
 use Rattle.std.specs.List.{AllByRecursion}
-use Rattle.semantics.specs.Texts.{Text, is_range, Range, value_at, within}
+use Rattle.semantics.specs.Texts.{Text, is_range, within}
 use Rattle.semantics.specs.Patterns.{Pattern, Slots}
-use Rattle.semantics.specs.Joins.{copy, is_aggregate, Join, value_operator}
+use Rattle.semantics.specs.Joins.{copy, is_aggregate, value_operator}
 use Rattle.semantics.specs.Histories.{History, IsPrefix, joins_of}
 use Rattle.semantics.specs.States.{below}
 use Rattle.growing_history.specs.Entered.{HasEntered, HasRank}

@@ -78,7 +78,7 @@ module _ (number : ℕ) (t t' : TableId) (same : t' ≡ t) (m : Sat) (e : Entry)
       let more : History = h ++ e ∷ [] in
       let now = entered h turn.log (taken_log m m1 turn rest.empty) in
       let is : m3 ≡ back turn.floor more =
-          freed ∙ ap (λ (x : Sat). (record x.0 { held = None }, [])) now.is ∙ ap (λ (x : Sat). (record x.0 { held = None; seen = more }, [])) turn.is in
+      freed ∙ ap (λ (x : Sat). (record x.0 { held = None }, [])) now.is ∙ ap (λ (x : Sat). (record x.0 { held = None; seen = more }, [])) turn.is in
       let recorded : IsRecorded m.0.writers more = IsRecorded-push m.0.writers h e turn.recorded now.takes.free now.takes.write (omega arith) in
       let begins : IsPrefix m.0.seen more = prefix_trans m.0.seen h more turn.begins (prefix_more h (e ∷ [])) in
       let mine : written_by number h ≡ written_by number m.0.seen = subst (HasOwn h m.0.seen) rest.numbered turn.own in
@@ -94,7 +94,7 @@ module _ (number : ℕ) (t t' : TableId) (same : t' ≡ t) (m : Sat) (e : Entry)
       let h = turn.history in
       let now = declined h turn.log (taken_log m m1 turn rest.empty) in
       let is : m3 ≡ back turn.floor h =
-          freed ∙ ap (λ (x : Sat). (record x.0 { held = None }, [])) now.2 ∙ ap (λ (x : Sat). (record x.0 { held = None; seen = h }, [])) turn.is in
+      freed ∙ ap (λ (x : Sat). (record x.0 { held = None }, [])) now.2 ∙ ap (λ (x : Sat). (record x.0 { held = None; seen = h }, [])) turn.is in
       let mine : written_by number h ≡ written_by number m.0.seen = subst (HasOwn h m.0.seen) rest.numbered turn.own in
       subst (λ (x : Sat). Ended number t t' m x e (Err (Refused position cause))) (sym is) (record {
         resting = rests turn.floor h turn.recorded;
@@ -107,7 +107,7 @@ module _ (number : ℕ) (t t' : TableId) (same : t' ≡ t) (m : Sat) (e : Entry)
   ends (Err OutOfMemory) m1 m2 m3 turn by below entered declined freed =
       let now = declined turn.history turn.log (taken_log m m1 turn rest.empty) in
       let is : m3 ≡ back turn.floor m.0.seen =
-          freed ∙ ap (λ (x : Sat). (record x.0 { held = None }, [])) now ∙ ap (λ (x : Sat). (record x.0 { held = None }, [])) turn.is in
+      freed ∙ ap (λ (x : Sat). (record x.0 { held = None }, [])) now ∙ ap (λ (x : Sat). (record x.0 { held = None }, [])) turn.is in
       subst (λ (x : Sat). Ended number t t' m x e (Err OutOfMemory)) (sym is) (record {
         resting = rests turn.floor m.0.seen rest.recorded;
         goes_on = goes turn.floor m.0.seen (prefix_refl m.0.seen) rest.recorded;

@@ -54,13 +54,13 @@ module _ {A : Type 0} (R : A → A → Type 0) where
   each_set vs id w old mine seat other v u apart at at' =
       ⊎_elim
       (λ (t : (seat ≡ id) × (w ≡ v)). ⊎_elim
-          (λ (t' : (other ≡ id) × (w ≡ u)). absurd (apart (t.0 ∙ sym t'.0)))
-          (λ (t' : (other ≢ id) × (get_elem? vs other ≡ some u)). subst (λ x. R x u) t.1 (mine other u t'.0 t'.1).1)
-          (at_set vs id other w u at'))
+      (λ (t' : (other ≡ id) × (w ≡ u)). absurd (apart (t.0 ∙ sym t'.0)))
+      (λ (t' : (other ≢ id) × (get_elem? vs other ≡ some u)). subst (λ x. R x u) t.1 (mine other u t'.0 t'.1).1)
+      (at_set vs id other w u at'))
       (λ (t : (seat ≢ id) × (get_elem? vs seat ≡ some v)). ⊎_elim
-          (λ (t' : (other ≡ id) × (w ≡ u)). subst (λ x. R v x) t'.1 (mine seat v t.0 t.1).0)
-          (λ (t' : (other ≢ id) × (get_elem? vs other ≡ some u)). old seat other v u apart t.1 t'.1)
-          (at_set vs id other w u at'))
+      (λ (t' : (other ≡ id) × (w ≡ u)). subst (λ x. R v x) t'.1 (mine seat v t.0 t.1).0)
+      (λ (t' : (other ≢ id) × (get_elem? vs other ≡ some u)). old seat other v u apart t.1 t'.1)
+      (at_set vs id other w u at'))
       (at_set vs id seat w v at)
 
   -- and where the one that comes is related to each old one, both ways
@@ -68,11 +68,11 @@ module _ {A : Type 0} (R : A → A → Type 0) where
   each_end vs w old mine seat other v u apart at at' =
       ⊎_elim
       (λ (t : get_elem? vs seat ≡ some v). ⊎_elim
-          (λ (t' : get_elem? vs other ≡ some u). old seat other v u apart t t')
-          (λ (t' : (other ≡ length vs) × (w ≡ u)). subst (λ x. R v x) t'.1 (mine seat v t).0)
-          (at_end vs w u other at'))
+      (λ (t' : get_elem? vs other ≡ some u). old seat other v u apart t t')
+      (λ (t' : (other ≡ length vs) × (w ≡ u)). subst (λ x. R v x) t'.1 (mine seat v t).0)
+      (at_end vs w u other at'))
       (λ (t : (seat ≡ length vs) × (w ≡ v)). ⊎_elim
-          (λ (t' : get_elem? vs other ≡ some u). subst (λ x. R x u) t.1 (mine other u t').1)
-          (λ (t' : (other ≡ length vs) × (w ≡ u)). absurd (apart (t.0 ∙ sym t'.0)))
-          (at_end vs w u other at'))
+      (λ (t' : get_elem? vs other ≡ some u). subst (λ x. R x u) t.1 (mine other u t').1)
+      (λ (t' : (other ≡ length vs) × (w ≡ u)). absurd (apart (t.0 ∙ sym t'.0)))
+      (at_end vs w u other at'))
       (at_end vs w v seat at)

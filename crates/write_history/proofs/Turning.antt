@@ -52,15 +52,15 @@ place_set h floor turn homes views id v w at none_v none_w place = ⊎_elim
       nobody = all_set (λ seat u. u.held ≡ None) views id w none_w (λ seat u other at'. free.nobody seat u at');
     }))
     (λ (taken : IsTaken h floor turn homes views).
-        let elsewhere : id ≢ taken.holder = λ same. holds_none v h none_v (taken.holds v (subst (λ seat. get_elem? views seat ≡ some v) same at)).0 in
-        inr (record {
-          taken = taken.taken;
-          away = taken.away;
-          holder = taken.holder;
-          seated = let less = taken.seated in omega (arith, length-set views id w);
-          holds = λ u at'. taken.holds u (sym (set_else views id taken.holder w (λ same. elsewhere (sym same))) ∙ at');
-          others = λ seat u other at'. all_set (λ seat u. seat ≢ taken.holder → u.held ≡ None) views id w (λ away. none_w) (λ seat u apart at'' away. taken.others seat u away at'') seat u at' other;
-        }))
+    let elsewhere : id ≢ taken.holder = λ same. holds_none v h none_v (taken.holds v (subst (λ seat. get_elem? views seat ≡ some v) same at)).0 in
+    inr (record {
+      taken = taken.taken;
+      away = taken.away;
+      holder = taken.holder;
+      seated = let less = taken.seated in omega (arith, length-set views id w);
+      holds = λ u at'. taken.holds u (sym (set_else views id taken.holder w (λ same. elsewhere (sym same))) ∙ at');
+      others = λ seat u other at'. all_set (λ seat u. seat ≢ taken.holder → u.held ≡ None) views id w (λ away. none_w) (λ seat u apart at'' away. taken.others seat u away at'') seat u at' other;
+    }))
     place
 
 -- a seat that comes without the turn leaves it where it is
@@ -255,12 +255,12 @@ module _ (kinds : Kinds) where
   mine s k id v h at held = ⊎_elim
       (λ (free : IsFree k.history k.floor k.turn s.homes s.views). absurd (holds_none v h (free.nobody id v at) held))
       (λ (taken : IsTaken k.history k.floor k.turn s.homes s.views). dite (ℕ_discrete taken.holder id)
-          (λ same.
-              let has = taken.holds v (subst (λ seat. get_elem? s.views seat ≡ some v) (sym same) at) in
-              let both : Some k.history ≡ Some h = sym has.0 ∙ held in
-              let is : k.history ≡ h = cc in
-              (taken, same, is, has.1))
-          (λ other. absurd (holds_none v h (taken.others id v (λ e. other (sym e)) at) held)))
+      (λ same.
+      let has = taken.holds v (subst (λ seat. get_elem? s.views seat ≡ some v) (sym same) at) in
+      let both : Some k.history ≡ Some h = sym has.0 ∙ held in
+      let is : k.history ≡ h = cc in
+      (taken, same, is, has.1))
+      (λ other. absurd (holds_none v h (taken.others id v (λ e. other (sym e)) at) held)))
       k.place
 
   pub takes_turn : (slots id : ℕ) (m : Sat) (number : ℕ) (f : ℕ → ℕ) → m.0.role ≡ Numbered number → m.0.held ≡ None → ((n : ℕ) → 0 < f n) → Allows Rule slots id m 0 f (took m)
@@ -271,44 +271,44 @@ module _ (kinds : Kinds) where
       let knows : m.0.writers ≡ kinds.writers = subst (KnowsWriters kinds.writers m.0.writers) numbered fit.knows in
       ⊎_elim
       (λ (free : IsFree k.history k.floor k.turn s.homes s.views).
-          let w : Known = record m.0 { floor = k.floor; held = Some k.history } in (
-            w,
-            takes 0 free.log,
-            ap (λ hs. get_elem? hs 0) free.home,
-            record {
-              history = k.history;
-              turn = turn;
-              floor = k.floor;
-              marks = k.marks;
-              words = ap (λ ws. set ws 0 turn) k.words;
-              whole = k.whole;
-              recorded = k.recorded;
-              fits = fits_set s k id w (record { knows = fit.knows; seen = fit.seen; told = fit.told; own = fit.own; reached = omega arith });
-              apart = apart_set s k id m.0 w at refl;
-              place = inr (record {
-                taken = positive (get_or s.words 0 0);
-                away = ap (λ hs. set hs 0 none) free.home;
-                holder = id;
-                seated = let less = at_below s.views id m.0 at in omega (arith, length-set s.views id w);
-                holds = λ u at'. all_set (λ seat u. seat ≡ id → (u.held ≡ Some k.history) × (u.floor ≡ k.floor)) s.views id w (λ same. (refl, refl)) (λ seat u apart at'' same. absurd (apart same)) id u at' refl;
-                others = λ seat u other at'. all_set (λ seat u. seat ≢ id → u.held ≡ None) s.views id w (λ away. absurd (away refl)) (λ seat u apart at'' away. free.nobody seat u at'') seat u at' other;
-              });
-            },
-            (
-              (λ is_zero. record {
-                history = k.history;
-                floor = k.floor;
-                log = free.log;
-                whole = k.whole;
-                is_log = free.is_log;
-                recorded = subst (λ n. IsRecorded n k.history) (sym knows) k.recorded;
-                begins = fit.seen;
-                own = fit.own;
-                is = refl;
-              }),
-              (λ isnt_zero. absurd (isnt_zero (first ∙ free.free))),
-            ),
-          ))
+      let w : Known = record m.0 { floor = k.floor; held = Some k.history } in (
+        w,
+        takes 0 free.log,
+        ap (λ hs. get_elem? hs 0) free.home,
+        record {
+          history = k.history;
+          turn = turn;
+          floor = k.floor;
+          marks = k.marks;
+          words = ap (λ ws. set ws 0 turn) k.words;
+          whole = k.whole;
+          recorded = k.recorded;
+          fits = fits_set s k id w (record { knows = fit.knows; seen = fit.seen; told = fit.told; own = fit.own; reached = omega arith });
+          apart = apart_set s k id m.0 w at refl;
+          place = inr (record {
+            taken = positive (get_or s.words 0 0);
+            away = ap (λ hs. set hs 0 none) free.home;
+            holder = id;
+            seated = let less = at_below s.views id m.0 at in omega (arith, length-set s.views id w);
+            holds = λ u at'. all_set (λ seat u. seat ≡ id → (u.held ≡ Some k.history) × (u.floor ≡ k.floor)) s.views id w (λ same. (refl, refl)) (λ seat u apart at'' same. absurd (apart same)) id u at' refl;
+            others = λ seat u other at'. all_set (λ seat u. seat ≢ id → u.held ≡ None) s.views id w (λ away. absurd (away refl)) (λ seat u apart at'' away. free.nobody seat u at'') seat u at' other;
+          });
+        },
+        (
+          (λ is_zero. record {
+            history = k.history;
+            floor = k.floor;
+            log = free.log;
+            whole = k.whole;
+            is_log = free.is_log;
+            recorded = subst (λ n. IsRecorded n k.history) (sym knows) k.recorded;
+            begins = fit.seen;
+            own = fit.own;
+            is = refl;
+          }),
+          (λ isnt_zero. absurd (isnt_zero (first ∙ free.free))),
+        ),
+      ))
       (λ (taken : IsTaken k.history k.floor k.turn s.homes s.views). (
         m.0,
         keeps,
@@ -471,27 +471,27 @@ module _ (kinds : Kinds) where
       let own : HasOwn k.history v.seen (Deals next) = subst (HasOwn k.history v.seen) deal fit.own in
       let knows : v.writers ≡ kinds.writers = subst (KnowsWriters kinds.writers v.writers) deal fit.knows in
       let away : (seat : ℕ) (u : Known) → seat ≢ id → get_elem? s.views seat ≡ some u → Apart u.role (Deals next) × Apart (Deals next) u.role =
-          λ seat u other at'. (subst (Apart u.role) deal (k.apart seat id u v other at' at), subst (λ r. Apart r u.role) deal (k.apart id seat v u (λ e. other (sym e)) at at')) in
+      λ seat u other at'. (subst (Apart u.role) deal (k.apart seat id u v other at' at), subst (λ r. Apart r u.role) deal (k.apart id seat v u (λ e. other (sym e)) at at')) in
       let left : Rule record { words = s.words; homes = s.homes; views = set s.views id (dealing v) } =
-          turns s k id v (dealing v) at nothing nothing
-          (λ seat u other at'. let a = away seat u other at' in (
-            subst (Apart u.role) (sym left_is) (apart_left u.role next a.0),
-            subst (λ r. Apart r u.role) (sym left_is) (apart_left_first u.role next a.1),
-          ))
-          (record {
-            knows = subst (KnowsWriters kinds.writers v.writers) (sym left_is) knows;
-            seen = fit.seen;
-            told = fit.told;
-            own = subst (HasOwn k.history v.seen) (sym left_is) (λ n past. own n (omega arith));
-            reached = fit.reached;
-          }) in
+      turns s k id v (dealing v) at nothing nothing
+      (λ seat u other at'. let a = away seat u other at' in (
+        subst (Apart u.role) (sym left_is) (apart_left u.role next a.0),
+        subst (λ r. Apart r u.role) (sym left_is) (apart_left_first u.role next a.1),
+      ))
+      (record {
+        knows = subst (KnowsWriters kinds.writers v.writers) (sym left_is) knows;
+        seen = fit.seen;
+        told = fit.told;
+        own = subst (HasOwn k.history v.seen) (sym left_is) (λ n past. own n (omega arith));
+        reached = fit.reached;
+      }) in
       comes record { words = s.words; homes = s.homes; views = set s.views id (dealing v) } left (dealt v) refl
       (all_set (λ seat u. Apart u.role (dealt v).role × Apart (dealt v).role u.role) s.views id (dealing v)
-        (subst (λ (x : Role × Role). Apart x.0 x.1 × Apart x.1 x.0) (λ i. (sym left_is i, sym dealt_is i)) (lt_next next, lt_next next))
-        (λ seat u other at'. let a = away seat u other at' in (
-          subst (Apart u.role) (sym dealt_is) (apart_dealt u.role next a.0),
-          subst (λ r. Apart r u.role) (sym dealt_is) (apart_dealt_first u.role next a.1),
-        )))
+      (subst (λ (x : Role × Role). Apart x.0 x.1 × Apart x.1 x.0) (λ i. (sym left_is i, sym dealt_is i)) (lt_next next, lt_next next))
+      (λ seat u other at'. let a = away seat u other at' in (
+        subst (Apart u.role) (sym dealt_is) (apart_dealt u.role next a.0),
+        subst (λ r. Apart r u.role) (sym dealt_is) (apart_dealt_first u.role next a.1),
+      )))
       (record {
         knows = subst (KnowsWriters kinds.writers v.writers) (sym dealt_is) knows;
         seen = prefix_nil left.history;
@@ -512,13 +512,13 @@ module _ (kinds : Kinds) where
       let fit = k.fits id v at in
       let told = k.fits other w (sym (set_else s.views id other (informed v w) apart) ∙ at') in
       let next : Rule record { words = s.words; homes = s.homes; views = set s.views id (informed v w) } =
-          quiet s k id v (informed v w) at nothing nothing refl (record {
-            knows = fit.knows;
-            seen = fit.seen;
-            told = told.seen;
-            own = fit.own;
-            reached = let a = fit.reached in let b = told.reached in omega arith;
-          }) in
+      quiet s k id v (informed v w) at nothing nothing refl (record {
+        knows = fit.knows;
+        seen = fit.seen;
+        told = told.seen;
+        own = fit.own;
+        reached = let a = fit.reached in let b = told.reached in omega arith;
+      }) in
       quiet record { words = s.words; homes = s.homes; views = set s.views id (informed v w) } next other w read_note at' none_w refl (sym note)
       (record { knows = tt; seen = prefix_nil next.history; told = prefix_nil next.history; own = tt; reached = omega arith })
 

@@ -22,6 +22,7 @@ use std::marker::Model;
 use std::sync::Wait;
 
 /// The history that all threads share: one list of entries. Contracts see which history it is.
+#[derive(Drop)]
 pub struct History {
     alloc: Global,
     board: Board,
@@ -112,12 +113,7 @@ impl History {
     /// memory is taken before the write enters, so on `OutOfMemory` nothing has entered and the pass is unchanged. While
     /// another thread has the turn, this one sleeps. It costs the verdict of the write, and for a declaration once more,
     /// besides two or three steps on shared words; no entry is copied.
-    pub fn append<R: Wait>(
-        &self,
-        rt: &R,
-        pass: &mut Pass,
-        write: Write,
-    ) -> Result<u64, AppendFault>
+    pub fn append<R: Wait>(&self, rt: &R, pass: &mut Pass, write: Write) -> Result<u64, AppendFault>
         requires same_history { pass.old.history ≡ self.now }
         requires writer { pass.old.number < pass.old.writers }
         ensures goes_on { GoesOn pass.old pass.new }

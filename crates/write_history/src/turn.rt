@@ -91,7 +91,11 @@ fn take_entry(board: &SharedBoard, place: &mut Place, entry: Entry) -> Result<u6
 }
 
 /// The entry enters, where nothing is against it. Otherwise all entries are seen, against which it was judged.
-pub(crate) fn enter(board: &SharedBoard, place: &mut Place, entry: Entry) -> Result<u64, AppendFault>
+pub(crate) fn enter(
+    board: &SharedBoard,
+    place: &mut Place,
+    entry: Entry,
+) -> Result<u64, AppendFault>
     requires sized { IsSized board.now.table_id }
     requires own { place.old.table_id ≡ board.now.table_id }
     requires number { place.old.me.0.role ≡ Numbered entry.client }

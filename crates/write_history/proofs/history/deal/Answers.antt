@@ -32,7 +32,7 @@ loop-number-preserved c =
     let is = c.split_seat-place.ensures.4 ∙ ap (λ (m : Sat). (dealt m.0, [])) now.next in
     let own = c.split_seat-place.ensures.3 ∙ now.own in
     let pass_is : pass ≡ new_pass board.table_id board.key.writers number =
-        λ i. record { history = own i; number = number; writers = (is i).0.writers; view = (is i).0.seen } in
+    λ i. record { history = own i; number = number; writers = (is i).0.writers; view = (is i).0.seen } in
     let items = c.in_ok-push.ensures.items in
     record {
       own = c.split_seat-place.ensures.0 ∙ now.own;

@@ -15,13 +15,12 @@ store-requires c =
     let board = c.args.board.now in
     let place = c.take_entry.new.place in
     let taken = c.in-Ok.ensures.taken h has.1 has.2 in
-    let size = c.requires.sized in
-    (
+    let size = c.requires.sized in (
       c.take_entry.ensures.own ∙ c.requires.own,
       omega arith,
       subst (λ (m : Sat). Allows (Keeps board.key) board.table_id.slots place.id m 1 (λ n. c.in-Ok.count) (λ n. entered m c.in-Ok.count)) (sym taken.is)
-      (enters board.key board.table_id.slots place.id (c.args.place.now.me.0, (0, taken.log) ∷ []) c.args.entry.client h taken.log c.args.entry c.in-Ok.count
-        c.requires.number has.2.held refl has.2.is_log.within taken.takes.is_log refl c.requires.writer taken.takes.free taken.takes.write taken.takes.counted),
+          (enters board.key board.table_id.slots place.id (c.args.place.now.me.0, (0, taken.log) ∷ []) c.args.entry.client h taken.log c.args.entry c.in-Ok.count
+          c.requires.number has.2.held refl has.2.is_log.within taken.takes.is_log refl c.requires.writer taken.takes.free taken.takes.write taken.takes.counted),
     )
 
 pub returns-in-Ok-clause-entered : goal.returns-in-Ok-clause-entered

@@ -15,8 +15,7 @@ join_seat-requires c =
     let size = c.requires.sized in
     let other = c.args.other.now in
     let note = c.split_seat-note.result in
-    let is = c.split_seat-note.ensures.4 in
-    (
+    let is = c.split_seat-note.ensures.4 in (
       c.requires.own.1,
       c.split_seat-note.ensures.3 ∙ c.requires.own.0,
       ap (λ (m : Sat). m.1) is,
@@ -29,8 +28,7 @@ load-requires c =
     let size = c.requires.sized in
     let board = c.args.board.now in
     let other = c.join_seat.new.seat in
-    let is = c.join_seat.ensures.2 in
-    (
+    let is = c.join_seat.ensures.2 in (
       c.join_seat.ensures.0 ∙ c.requires.own.1,
       omega arith,
       agrees board.key board.table_id.slots other.id other.me c.requires.resting.1.0 (ap (λ (m : Sat). m.0.role) is ∙ c.requires.resting.1.1.numbered) (ap (λ (m : Sat). m.0.held) is ∙ c.requires.resting.1.1.none_held),

@@ -14,7 +14,7 @@ free_turn-requires-clause-log g c =
     let turn = c.take_turn.ensures.taken in
     let e : Entry = record { client = c.pass.inside.number; write = plain_write c.args.write } in
     log_after c.enter-answer.result turn.history turn.log e c.take_turn.new.place.me c.enter-answer.new.place.me (taken_log m c.take_turn.new.place.me turn c.pass.invariant.empty)
-      c.enter-answer.ensures.entered c.enter-answer.ensures.declined
+    c.enter-answer.ensures.entered c.enter-answer.ensures.declined
 
 -- what has come of the write, where the turn is free again
 ended : (g : Over) (c : goal.After-free_turn g) →

@@ -19,6 +19,6 @@ returns-clause-entries g c =
     (λ copies. (h : History) (log : Stored) → HasLog h log now → copies.items ≡ take (to - from) (drop from log.entries))
     (λ copies. copies.items ≡ take (to - from) (drop from c.args.pass.now.view))
     (λ copies each. each turn.history turn.log (taken_log m now turn c.pass.invariant.empty)
-      ∙ range_of_log m now turn from to c.requires.order within
-      ∙ ap (λ (p : PassView). take (to - from) (drop from p.view)) c.pass.view_is)
+    ∙ range_of_log m now turn from to c.requires.order within
+    ∙ ap (λ (p : PassView). take (to - from) (drop from p.view)) c.pass.view_is)
     c.copy_entries-copies.ensures.copies

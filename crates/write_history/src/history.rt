@@ -22,6 +22,7 @@ use std::marker::Model;
 use std::sync::Wait;
 
 /// The history that all threads share: one list of entries. Contracts see which history it is.
+#[derive(Drop)]
 pub struct History {
     alloc: Global,
     board: Board,

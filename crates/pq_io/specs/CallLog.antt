@@ -20,3 +20,7 @@ NextIsListed log = Contains log.fails (log.made + 1)
 abbrev pub after_call : CallLog → Bool → CallLog
 after_call log failed =
     record { made = next_count log.made; fails = log.fails; faults = if failed then next_count log.faults else log.faults }
+
+-- the log after the object was opened, which is not one of the calls that are counted, by whether that failed
+abbrev pub after_opening : CallLog → Bool → CallLog
+after_opening log failed = record log { faults = if failed then next_count log.faults else log.faults }

@@ -1,4 +1,5 @@
 pub mod CallLog
+pub mod Doors
 pub mod Faults
 pub mod Memory
 pub mod Shelf

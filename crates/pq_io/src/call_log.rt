@@ -1,6 +1,6 @@
 // The calls that were made of an object in memory, and which of them fail.
 ghost use Rattle.std.specs.Prelude.{◌≡◌, ◌↔◌, ◌+◌, ◌≤◌, Contains, IsTrue, is_err};
-ghost use Rattle.pq_io.specs.CallLog.{NextIsListed, after_call, no_calls};
+ghost use Rattle.pq_io.specs.CallLog.{NextIsListed, after_call, after_opening, no_calls};
 ghost use Rattle.pq_io.specs.Faults.{HasCause, next_count};
 
 use crate::Failed;
@@ -61,6 +61,19 @@ impl Calls {
         let fails = lists_next(&self.fails, self.made);
         self.made = self.made.saturating_add(1);
         if fails {
+            return Err(self.faults.raise());
+        }
+        Ok(())
+    }
+
+    // Opens the object, which counts as no call. `Failed`, and its fault is counted, exactly where 0 is one of the numbers
+    // that fail.
+    pub fn open(&mut self) -> Result<(), Failed>
+        ensures listed { IsTrue (is_err result) ↔ Contains self.old.fails 0 }
+        ensures counted { self.new ≡ after_opening self.old (is_err result) }
+        ensures cause { HasCause self.old.faults self.new.faults result }
+    {
+        if self.fails.contains(&0) {
             return Err(self.faults.raise());
         }
         Ok(())

@@ -1,5 +1,7 @@
 // Sources and sinks over the readers and writers of std, such as standard input and output.
-ghost use Rattle.std.specs.Prelude.{◌≡◌, None};
+ghost use Rattle.std.specs.Prelude.{◌≡◌, ◌<◌, None, IfOk, length};
+ghost use Rattle.std.specs.Io.{WritesAtMost};
+ghost use Rattle.pq_io.specs.Faults.{HasCause};
 
 use crate::fault_count::FaultCount;
 use crate::{Failed, Sink, Source};
@@ -93,19 +95,32 @@ impl<W: Write> Sink for Writing<W> {
 
     ghost faults = { λ faults. faults };
 
-    /// Makes one write and one flush, so that a reader at the other end sees each piece at once. Each error
-    /// of either is a fault, and so is a write that takes nothing of a piece.
+    /// Makes one write, and sends it on at once. Each error is a fault, and so is a write that takes nothing of a piece.
     fn write(&mut self, bytes: &[u8]) -> Result<usize, Failed> {
-        let count = match self.inner.write(bytes) {
-            Ok(count) => count,
-            Err(_) => return Err(self.faults.raise()),
-        };
-        if count == 0 && !bytes.is_empty() {
-            return Err(self.faults.raise());
-        }
-        match self.inner.flush() {
-            Ok(()) => Ok(count),
-            Err(_) => Err(self.faults.raise()),
-        }
+        write_piece(&mut self.inner, &mut self.faults, bytes)
+    }
+}
+
+/// Makes one write and one flush, so that a reader at the other end sees each piece at once. Each error of either is a fault,
+/// and so is a write that takes nothing of a piece.
+pub fn write_piece<W: Write>(
+    inner: &mut W,
+    faults: &mut FaultCount,
+    bytes: &[u8],
+) -> Result<usize, Failed>
+    ensures bound { WritesAtMost result bytes.now }
+    ensures progress { 0 < length bytes.now → IfOk result (λ n. 0 < n) }
+    ensures cause { HasCause faults.old.0 faults.new.0 result }
+{
+    let count = match inner.write(bytes) {
+        Ok(count) => count,
+        Err(_) => return Err(faults.raise()),
+    };
+    if count == 0 && !bytes.is_empty() {
+        return Err(faults.raise());
+    }
+    match inner.flush() {
+        Ok(()) => Ok(count),
+        Err(_) => Err(faults.raise()),
     }
 }

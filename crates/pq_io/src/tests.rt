@@ -2,8 +2,9 @@
 ghost use Rattle.std.specs.Prelude.{Some};
 
 use crate::{
-    Both, Failed, FileShelf, Link, MAX_FILE_BYTES, MemLink, MemShelf, MemSink, MemSource, Reading,
-    Shelf, Sink, Source, TakeFault, Writing, write_link, write_whole,
+    Both, Doors, Failed, FileShelf, Gate, Link, MAX_FILE_BYTES, MemDoors, MemLink, MemShelf,
+    MemSink, MemSource, OpenGate, Reading, Shelf, Sink, Source, TakeFault, Writing, write_link,
+    write_whole,
 };
 use std::alloc::Global;
 use std::io::{Error, ErrorKind, Read, Write};
@@ -270,4 +271,45 @@ fn a_shelf_gives_files_of_the_system(rt: HostRuntime) -> Result<(), Fail> {
         fs::remove_file(&rt, name)?;
     }
     Ok(())
+}
+
+// What the next link of some doors gives into a buffer of eight bytes. None where the doors are closed.
+fn read_next<D: Doors>(doors: &mut D) -> Result<Option<[u8; 8]>, Failed> {
+    match doors.next()? {
+        None => Ok(None),
+        Some(mut link) => {
+            let mut into = [0; 8];
+            link.read(&mut into)?;
+            Ok(Some(into))
+        }
+    }
+}
+
+#[test]
+fn doors_give_their_links_and_close(rt: HostRuntime) -> Result<(), Fail> {
+    let alloc = rt.alloc();
+    let mut links = Vec::new(alloc);
+    for fails in [[].as_slice(), [1].as_slice()] {
+        let sink = MemSink::new(alloc, Vec::new(alloc));
+        links.push(MemLink::new(source_of(alloc, &[], fails)?, sink))?;
+    }
+    let mut doors = MemDoors::new(links, vec![in alloc; 2]?);
+    assert_eq!(rt; doors.open_at("anywhere"), Ok(()));
+    assert_eq!(rt; read_next(&mut doors), Ok(Some(*b"abcd\0\0\0\0")));
+    assert_eq!(rt; read_next(&mut doors), Err(Failed), "the doors");
+    assert_eq!(rt; read_next(&mut doors), Err(Failed), "the second link");
+    assert_eq!(rt; read_next(&mut doors), Ok(None));
+    let mut doors = MemDoors::<MemLink>::new(Vec::new(alloc), vec![in alloc; 0]?);
+    assert_eq!(rt; doors.open_at("anywhere"), Err(Failed));
+    Ok(())
+}
+
+// Passes a gate.
+fn pass<G: Gate>(gate: &G) {
+    gate.pass("t");
+}
+
+#[test]
+fn an_open_gate_is_passed() {
+    pass(&OpenGate);
 }

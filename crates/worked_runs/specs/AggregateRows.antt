@@ -81,3 +81,33 @@ Page = Replies
     ∷ codes "[\"ok\",5]"
     ∷ codes "[\"pairs\",5,[[\"page|bob|1|k\",\"2\"]]]"
     ∷ [])
+
+-- a least and a greatest value are of canonical decimals within 64 bits
+abbrev pub Bounds : Type 0
+Bounds = Replies
+    (codes "[\"join\",\"low|<a> = min n|<a>|<i>\"]"
+    ∷ codes "[\"join\",\"high|<a> = max n|<a>|<i>\"]"
+    ∷ codes "[\"put\",\"n|x|1\",\"5\"]"
+    ∷ codes "[\"put\",\"n|x|2\",\"-7\"]"
+    ∷ codes "[\"put\",\"n|x|3\",\"05\"]"
+    ∷ codes "[\"put\",\"n|x|4\",\"9223372036854775808\"]"
+    ∷ codes "[\"get\",\"low|x\"]"
+    ∷ codes "[\"get\",\"high|x\"]"
+    ∷ codes "[\"remove\",\"n|x|2\"]"
+    ∷ codes "[\"get\",\"low|x\"]"
+    ∷ codes "[\"put\",\"n|x|5\",\"10\"]"
+    ∷ codes "[\"get\",\"high|x\"]"
+    ∷ [])
+    (codes "[\"ok\",1]"
+    ∷ codes "[\"ok\",2]"
+    ∷ codes "[\"ok\",3]"
+    ∷ codes "[\"ok\",4]"
+    ∷ codes "[\"ok\",5]"
+    ∷ codes "[\"ok\",6]"
+    ∷ codes "[\"value\",6,\"-7\"]"
+    ∷ codes "[\"value\",6,\"5\"]"
+    ∷ codes "[\"ok\",7]"
+    ∷ codes "[\"value\",7,\"5\"]"
+    ∷ codes "[\"ok\",8]"
+    ∷ codes "[\"value\",8,\"10\"]"
+    ∷ [])

@@ -93,3 +93,37 @@ ByteOrder = Replies
     ∷ codes "[\"pairs\",3,[[\"o|1|a\",\"A\"]]]"
     ∷ codes "[\"pairs\",3,[[\"o|10|a\",\"B\"]]]"
     ∷ [])
+
+-- a join that is pulled shows the same
+abbrev pub Pulled : Type 0
+Pulled = Replies
+    (codes "[\"join\",\"b|<x> = pull copy a|<x>\"]"
+    ∷ codes "[\"put\",\"a|1\",\"Hi\"]"
+    ∷ codes "[\"scan\",\"b|\",\"b}\"]"
+    ∷ [])
+    (codes "[\"ok\",1]"
+    ∷ codes "[\"ok\",2]"
+    ∷ codes "[\"pairs\",2,[[\"b|1\",\"Hi\"]]]"
+    ∷ [])
+
+-- a slot with a width takes texts of that many bytes alone
+abbrev pub Widths : Type 0
+Widths = Replies
+    (codes "[\"join\",\"b|<x:2> = copy a|<x:2>\"]"
+    ∷ codes "[\"put\",\"a|1\",\"A\"]"
+    ∷ codes "[\"put\",\"a|12\",\"B\"]"
+    ∷ codes "[\"put\",\"a|123\",\"C\"]"
+    ∷ codes "[\"scan\",\"b|\",\"b}\"]"
+    ∷ codes "[\"put\",\"b|1\",\"D\"]"
+    ∷ codes "[\"put\",\"b|34\",\"E\"]"
+    ∷ codes "[\"scan\",\"b|\",\"b}\"]"
+    ∷ [])
+    (codes "[\"ok\",1]"
+    ∷ codes "[\"ok\",2]"
+    ∷ codes "[\"ok\",3]"
+    ∷ codes "[\"ok\",4]"
+    ∷ codes "[\"pairs\",4,[[\"b|12\",\"B\"]]]"
+    ∷ codes "[\"ok\",5]"
+    ∷ codes "[\"error\",\"computed\",5,1]"
+    ∷ codes "[\"pairs\",5,[[\"b|1\",\"D\"],[\"b|12\",\"B\"]]]"
+    ∷ [])

@@ -2,3 +2,4 @@ pub mod Runs
 pub mod CopyRows
 pub mod AggregateRows
 pub mod RefusalRows
+pub mod InputRows

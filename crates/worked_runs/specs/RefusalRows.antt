@@ -75,3 +75,37 @@ BadLines = Replies
     ∷ codes "[\"ok\",1]"
     ∷ (codes "[\"pairs\",1,[[\"k|" ++ (195 ∷ 169 ∷ []) ++ codes "\",\"\\\"\"]]]")
     ∷ [])
+
+-- a join is not declared after a put
+abbrev pub Late : Type 0
+Late = Replies
+    (codes "[\"put\",\"a|1\",\"Hi\"]"
+    ∷ codes "[\"join\",\"b|<x> = copy a|<x>\"]"
+    ∷ codes "[\"scan\",\"b|\",\"b}\"]"
+    ∷ [])
+    (codes "[\"ok\",1]"
+    ∷ codes "[\"error\",\"late\",1]"
+    ∷ codes "[\"pairs\",1,[]]"
+    ∷ [])
+
+-- two texts are a range where they bound keys of one table, in order
+abbrev pub Ranges : Type 0
+Ranges = Replies
+    (codes "[\"put\",\"k|a\",\"1\"]"
+    ∷ codes "[\"scan\",\"k|\",\"j}\"]"
+    ∷ codes "[\"scan\",\"k|\",\"l}\"]"
+    ∷ codes "[\"scan\",\"k|b\",\"k|a\"]"
+    ∷ codes "[\"scan\",\"k\",\"k}\"]"
+    ∷ codes "[\"scan\",\"k|\",\"k\"]"
+    ∷ codes "[\"scan\",\"k|a\",\"k|a\"]"
+    ∷ codes "[\"scan\",\"k|a\",\"k|b\"]"
+    ∷ [])
+    (codes "[\"ok\",1]"
+    ∷ codes "[\"error\",\"range\"]"
+    ∷ codes "[\"error\",\"range\"]"
+    ∷ codes "[\"error\",\"range\"]"
+    ∷ codes "[\"error\",\"range\"]"
+    ∷ codes "[\"error\",\"range\"]"
+    ∷ codes "[\"pairs\",1,[]]"
+    ∷ codes "[\"pairs\",1,[[\"k|a\",\"1\"]]]"
+    ∷ [])

@@ -1,5 +1,5 @@
 // Runs of aggregates and joins on joins.
-ghost use Rattle.worked_runs.specs.AggregateRows.{Votes, Totals, Page};
+ghost use Rattle.worked_runs.specs.AggregateRows.{Votes, Totals, Page, Bounds};
 
 /// A count counts keys, and a group without a pair has none.
 pub fn votes()
@@ -14,4 +14,9 @@ pub fn totals()
 /// A join reads what another makes.
 pub fn page()
     ensures { Page }
+{}
+
+/// A least and a greatest value are of canonical decimals within 64 bits.
+pub fn bounds()
+    ensures { Bounds }
 {}

@@ -1,5 +1,5 @@
 // Runs of copy joins.
-ghost use Rattle.worked_runs.specs.CopyRows.{First, Timeline, Leave, TwoSupports, ByteOrder};
+ghost use Rattle.worked_runs.specs.CopyRows.{First, Timeline, Leave, TwoSupports, ByteOrder, Pulled, Widths};
 
 /// A pair that is put shows in the output of a join.
 pub fn first()
@@ -24,4 +24,14 @@ pub fn two_supports()
 /// Keys are in byte order, which is not the order of slots.
 pub fn byte_order()
     ensures { ByteOrder }
+{}
+
+/// A join that is pulled shows the same.
+pub fn pulled()
+    ensures { Pulled }
+{}
+
+/// A slot with a width takes texts of that many bytes alone.
+pub fn widths()
+    ensures { Widths }
 {}

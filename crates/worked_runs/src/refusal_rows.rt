@@ -1,5 +1,5 @@
 // Runs of refused writes and lines.
-ghost use Rattle.worked_runs.specs.RefusalRows.{Cycles, Clashes, ComputedKeys, BadLines};
+ghost use Rattle.worked_runs.specs.RefusalRows.{Cycles, Clashes, ComputedKeys, BadLines, Late, Ranges};
 
 /// A join that closes a cycle is refused with the shortest one.
 pub fn cycles()
@@ -19,4 +19,14 @@ pub fn computed_keys()
 /// Each line that is no request is answered by the first rule that it breaks.
 pub fn bad_lines()
     ensures { BadLines }
+{}
+
+/// A join is not declared after a put.
+pub fn late()
+    ensures { Late }
+{}
+
+/// Two texts are a range where they bound keys of one table, in order.
+pub fn ranges()
+    ensures { Ranges }
 {}

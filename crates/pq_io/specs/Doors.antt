@@ -1,0 +1,23 @@
+-- Links that doors hold and give, where that is told.
+use Rattle.std.specs.Prelude.{◌≡◌, ℕ, List, [], ◌∷◌, Option, Some, None, IfSome, option_map, Result, Ok, Err}
+use Rattle.pq_io.specs.CallLog.{CallLog}
+
+-- where it is told, the links that were held are this one and then those that are held now; what is not told stays untold
+abbrev pub GaveLink : {K : Type 0} → Option (List K) → Option (List K) → K → Type 0
+GaveLink old new link = old ≡ option_map (λ links. link ∷ links) new
+
+-- `next()` gave the first link, or none where, as far as it is told, none is held; an error gave none
+abbrev pub GivesNextLink : {K E : Type 0} → Option (List K) → Option (List K) → Result (Option K) E → Type 0
+GivesNextLink old new (Ok (Some link)) = GaveLink old new link
+GivesNextLink old new (Ok None) = (new ≡ old) × IfSome new (λ links. links ≡ [])
+GivesNextLink old new (Err e) = new ≡ old
+
+-- what contracts see of doors in memory: the links that are held, and the calls of `next`
+pub record DoorsState (K : Type 0) : Type 0 where
+  pub links : List K
+  pub log : CallLog
+
+-- what contracts see of a link over a stream: how many reads and how many writes have failed
+pub record LinkFaults : Type 0 where
+  pub reads : ℕ
+  pub writes : ℕ

@@ -1,0 +1,147 @@
+// Doors and links over TCP.
+ghost use Rattle.std.specs.Prelude.{◌≡◌, None};
+
+use crate::fault_count::FaultCount;
+use crate::standard::write_piece;
+use crate::{Doors, Failed, Link};
+use std::io::{Read, Write};
+use std::marker::Model;
+use std::net::{Net, OpenListener, OpenStream, TcpListener};
+
+#[cfg(test)]
+mod tests;
+
+/// A link over a stream that reads and writes. What is left and what was taken are not told. Contracts see it as its two
+/// counts of faults.
+#[derive(Drop)]
+pub struct TcpLink<S> {
+    stream: S,
+    read_faults: FaultCount,
+    write_faults: FaultCount,
+}
+
+impl<S> Model for TcpLink<S> {
+    ghost use Rattle.pq_io.specs.Doors.{LinkFaults};
+
+    ghost Value = { LinkFaults };
+
+    ghost view = { λ l. record { reads = l.read_faults.0; writes = l.write_faults.0 } };
+}
+
+impl<S> TcpLink<S> {
+    /// The stream as a link that has no fault yet.
+    pub fn new(stream: S) -> TcpLink<S>
+        ensures { result ≡ record { reads = 0; writes = 0 } }
+    {
+        TcpLink {
+            stream,
+            read_faults: FaultCount::new(),
+            write_faults: FaultCount::new(),
+        }
+    }
+}
+
+impl<S: Read + Write> Link for TcpLink<S> {
+    ghost left = { λ _. None };
+
+    ghost taken = { λ _. None };
+
+    ghost read_faults = { λ l. l.reads };
+
+    ghost write_faults = { λ l. l.writes };
+
+    /// Makes one read, which waits for bytes or for the end. Each error is a fault, also that the peer has closed the link
+    /// with bytes on the way.
+    fn read(&mut self, into: &mut [u8]) -> Result<usize, Failed> {
+        match self.stream.read(into) {
+            Ok(count) => Ok(count),
+            Err(_) => Err(self.read_faults.raise()),
+        }
+    }
+
+    /// Makes one write, which waits for room. Each error is a fault, also that the peer has closed the link.
+    fn write(&mut self, bytes: &[u8]) -> Result<usize, Failed> {
+        write_piece(&mut self.stream, &mut self.write_faults, bytes)
+    }
+}
+
+/// Doors over a listener. What they hold is not told. Contracts see them as their count of faults.
+#[derive(Drop)]
+pub struct TcpDoors<'a, R: Net> {
+    net: &'a R,
+    listener: Option<R::Listener>,
+    links_left: Option<u64>,
+    faults: FaultCount,
+}
+
+impl<'a, R: Net> Model for TcpDoors<'a, R> {
+    ghost use Rattle.std.specs.Prelude.{ℕ};
+
+    ghost Value = { ℕ };
+
+    ghost view = { λ d. d.faults.0 };
+}
+
+impl<'a, R: Net> TcpDoors<'a, R> {
+    /// Doors that are not open yet, and close after so many links. 0 stands for no end.
+    pub fn new(net: &'a R, links: u64) -> TcpDoors<'a, R>
+        ensures { result ≡ 0 }
+    {
+        TcpDoors {
+            net,
+            listener: None,
+            links_left: if links == 0 { None } else { Some(links) },
+            faults: FaultCount::new(),
+        }
+    }
+
+    /// How many calls have failed, up to the last value of the type.
+    pub fn faults(&self) -> u64
+        ensures { result ≡ self.now }
+    {
+        self.faults.count()
+    }
+}
+
+impl<'a, R: Net> Doors for TcpDoors<'a, R>
+where
+    R::Stream: Send,
+{
+    type Wire = TcpLink<R::Stream>;
+
+    ghost held = { λ _. None };
+
+    ghost faults = { λ faults. faults };
+
+    /// Listens at an address such as `127.0.0.1:7000`, in the place of where it listened before. Each error is a fault, and
+    /// then it listens where it did.
+    fn open_at(&mut self, address: &str) -> Result<(), Failed> {
+        match TcpListener::bind(self.net, address) {
+            Ok(listener) => {
+                self.listener = Some(listener);
+                Ok(())
+            }
+            Err(_) => Err(self.faults.raise()),
+        }
+    }
+
+    /// Accepts a link, and waits for it. Its writes are sent at once, however small they are. It is a fault where none can be
+    /// accepted, and where the doors are not open.
+    fn next(&mut self) -> Result<Option<TcpLink<R::Stream>>, Failed> {
+        if self.links_left == Some(0) {
+            return Ok(None);
+        }
+        let Some(listener) = &self.listener else {
+            return Err(self.faults.raise());
+        };
+        match listener.accept() {
+            Ok((stream, _)) => {
+                self.links_left = self.links_left.map(|left| left.saturating_sub(1));
+                // Where the peer has closed the stream already this may be refused, and then a read or a write fails.
+                let _ = stream.set_nodelay(true);
+                Ok(Some(TcpLink::new(stream)))
+            }
+            Err(_) => Err(self.faults.raise()),
+        }
+    }
+}

@@ -1,5 +1,5 @@
 -- One note more in a ring that has room for it, or as much as there may be.
-use Rattle.std.proofs.Common.{◌≡◌, ◌⊎◌, ℕ, zero, suc, ◌+◌, ◌-◌, ◌<◌, ◌≤◌, List, [], ◌∷◌, ◌++◌, length, drop, slice_get, Bool, true, false, cond, nat_lt, Option, None, option_map, unwrap_or, refl, sym, ap, ◌∙◌, subst, ⊎_elim, arith, length-append, ltb-true, ltb-false}
+use Rattle.std.proofs.Common.{◌≡◌, ◌⊎◌, ℕ, ◌+◌, ◌-◌, ◌<◌, ◌≤◌, List, [], ◌∷◌, ◌++◌, length, drop, slice_get, Bool, true, false, cond, nat_lt, None, option_map, unwrap_or, refl, sym, ap, ◌∙◌, ⊎_elim, arith, length-append, ltb-true, ltb-false}
 use Rattle.circular_buffer.specs.Buffer.{keep_last}
 use Rattle.kept_ranges.specs.Notes.{Note, Notes, note_limit, last_dropped, noted}
 

@@ -1,11 +1,6 @@
 // One note.
-ghost use Rattle.std.specs.Prelude.{◌≡◌, [], ◌∷◌};
-ghost use Rattle.lazy_log.specs.Pending.{meets_output};
-ghost use Rattle.range_notes.specs.Plain.{plain_mark};
-ghost use Rattle.range_notes.specs.Answers.{is_wide};
-
-use key_pattern::{Pattern, SlotTexts};
-use key_space::{Key, Range};
+use key_pattern::SlotTexts;
+use key_space::Key;
 use std::marker::Model;
 
 /// What is noted.

@@ -1,0 +1,9 @@
+mod SharedLemmas
+mod SpanLemmas
+mod HolderLemmas
+mod ForkLemmas
+mod FindLemmas
+mod SideLemmas
+mod WindowLemmas
+mod IndexLemmas
+mod MarkLemmas

@@ -1,6 +1,6 @@
 -- What comes of a call under the turn, from what comes of its steps.
-use Rattle.std.proofs.Common.{◌≡◌, ℕ, ◌+◌, ◌-◌, ◌<◌, ◌≤◌, [], ◌∷◌, ◌++◌, length, drop, take, IfOk, IfErr, OnOk, Option, Some, None, Result, Ok, Err, refl, sym, ap, ◌∙◌, subst, arith}
-use Rattle.std.proofs.lemmas.List.{append-nil, length-append}
+use Rattle.std.proofs.Common.{◌≡◌, ℕ, ◌-◌, ◌<◌, ◌≤◌, [], ◌∷◌, ◌++◌, length, drop, take, IfOk, IfErr, OnOk, None, Result, Ok, Err, refl, sym, ap, ◌∙◌, subst, arith}
+use Rattle.std.proofs.lemmas.List.{length-append}
 use Rattle.atomic_table.specs.Seated.{TableId}
 use Rattle.semantics.specs.Histories.{Entry, History, IsPrefix}
 use Rattle.write_history.specs.Entries.{IsRecorded, EndsWith, written_by}
@@ -9,10 +9,9 @@ use Rattle.write_history.specs.Stored.{Stored, IsLog}
 use Rattle.write_history.specs.Seats.{HasOwn}
 use Rattle.write_history.specs.Passes.{PassView, GoesOn, own}
 use Rattle.write_history.specs.Steps.{Sat, HasLog, IsResting, TakesTurn, Agrees, Learns, longer, informed, note_of}
-use Rattle.write_history.specs.Takes.{Takes, Enters, Declines}
+use Rattle.write_history.specs.Takes.{Enters, Declines}
 use Rattle.write_history.specs.Faults.{SaysWhy}
 use Rattle.write_history.specs.declared.known.Known.{Known}
-use Rattle.write_history.specs.declared.known.Role.TheVariants.{Numbered}
 use Rattle.write_history.specs.declared.fault.AppendFault.{AppendFault}
 use Rattle.write_history.specs.declared.fault.AppendFault.TheVariants.{Refused, OutOfMemory}
 use Rattle.write_history.proofs.Entering.{prefix_more, written_by-append, written_by-own, IsRecorded-push}

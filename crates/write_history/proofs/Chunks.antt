@@ -1,7 +1,7 @@
 -- Entries in chunks of one size, one after another.
-use Rattle.std.proofs.Common.{◌≡◌, ℕ, zero, suc, ◌+◌, ◌-◌, ◌*◌, ◌/◌, ◌%◌, ◌<◌, ◌≤◌, List, [], ◌∷◌, ◌++◌, length, get_or, take, drop, refl, sym, ap, ◌∙◌, arith}
+use Rattle.std.proofs.Common.{◌≡◌, ℕ, zero, suc, ◌+◌, ◌-◌, ◌*◌, ◌/◌, ◌%◌, ◌<◌, ◌≤◌, List, [], ◌∷◌, ◌++◌, length, get_or, ap, ◌∙◌, arith}
 use Rattle.std.specs.List.{AllByRecursion, flat_map}
-use Rattle.std.proofs.lemmas.List.{length-append, get_or-append-add, get_or_append_left, take_more}
+use Rattle.std.proofs.lemmas.List.{length-append, get_or-append-add, get_or_append_left}
 use Rattle.std.proofs.Math.Seq.{get_or-append_right}
 
 module _ {X A : Type 0} (f : X → List A) (size : ℕ) where

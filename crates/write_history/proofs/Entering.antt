@@ -1,13 +1,13 @@
 -- Lists of entries: beginnings of one list, entries by number, and one entry more.
-use Rattle.std.proofs.Common.{◌≡◌, ◌≢◌, ◌⊎◌, ℕ, zero, suc, ◌+◌, ◌-◌, ◌<◌, ◌≤◌, ◌==◌, List, [], ◌∷◌, ◌++◌, length, filter, take, drop, nat_le, Bool, true, false, if◌then◌else◌, Option, Some, None, eqb, ne_eqb, eq-eqb, refl, sym, ap, ◌∙◌, subst, ⊎_elim, inl, inr, arith, append_assoc}
+use Rattle.std.proofs.Common.{◌≡◌, ◌≢◌, ◌⊎◌, ℕ, ◌<◌, ◌≤◌, ◌==◌, [], ◌∷◌, ◌++◌, length, nat_le, true, false, if◌then◌else◌, None, ne_eqb, eq-eqb, refl, sym, ap, ◌∙◌, subst, ⊎_elim, inl, inr, arith, append_assoc}
 use Rattle.std.specs.List.{AllByRecursion}
-use Rattle.std.proofs.lemmas.List.{append-nil, length-append, take-append-drop, take-append-le, drop-append-le, take_all, drop_all}
+use Rattle.std.proofs.lemmas.List.{append-nil, length-append}
 use Rattle.std.proofs.lemmas.List.{nil_from_length}
 use Rattle.std.proofs.lemmas.List.Elements.{filter-append}
 use Rattle.std.proofs.lemmas.Bool.{le-leb, lt-leb}
 use Rattle.std.proofs.lemmas.Bool.Decides.{leb_tells}
-use Rattle.semantics.specs.Histories.{Write, Entry, History, IsPrefix}
-use Rattle.semantics.specs.Verdicts.{verdict, AllEntered}
+use Rattle.semantics.specs.Histories.{Entry, History, IsPrefix}
+use Rattle.semantics.specs.Verdicts.{verdict}
 use Rattle.semantics.proofs.Members.{AllByRecursion-append}
 use Rattle.growing_history.specs.Entered.{IsWrite}
 use Rattle.growing_history.proofs.ElementLemmas.{all_left}

@@ -2,5 +2,6 @@ pub mod Chunks
 pub mod Lists
 pub mod Seating
 pub mod Entering
+pub mod Fitting
 pub mod Turning
 pub mod Appending

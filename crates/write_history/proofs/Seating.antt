@@ -1,12 +1,8 @@
 -- Views of seats, after one of them has changed or one more has come.
-use Rattle.std.proofs.Common.{◌≡◌, ◌≢◌, ◌⊎◌, ℕ, zero, suc, ◌+◌, ◌<◌, ◌≤◌, List, [], ◌∷◌, ◌++◌, length, set, Option, Some, None, refl, sym, ap, ◌∙◌, subst, ⊎_elim, inl, inr, arith}
+use Rattle.std.proofs.Common.{◌≡◌, ◌≢◌, ◌⊎◌, ℕ, zero, suc, ◌<◌, List, [], ◌∷◌, ◌++◌, length, set, refl, sym, ap, ◌∙◌, subst, ⊎_elim, inl, inr, arith}
 use mathlib.Core.Option.{some, some-injective, some-ne-none}
-use mathlib.Core.Logic.{dite}
-use native.Mathlib.Decide.{ℕ_discrete}
 use lib.ListN.{get_elem?}
 use Rattle.atomic_table.proofs.Lists.{at_set}
-use Rattle.write_history.specs.declared.known.Known.{Known}
-use Rattle.write_history.specs.declared.known.Role.{Role}
 
 -- what the seat that changed is afterwards, and what each other is
 pub all_set : {A : Type 0} (P : ℕ → A → Type 0) (vs : List A) (id : ℕ) (w : A) → P id w → ((seat : ℕ) (v : A) → seat ≢ id → get_elem? vs seat ≡ some v → P seat v) →

@@ -1,165 +1,30 @@
 -- Each step on the table keeps the rule, and tells what it says.
-use Rattle.std.proofs.Common.{length-set, ◌≡◌, ◌≢◌, ◌⊎◌, ℕ, zero, suc, ◌+◌, ◌-◌, ◌<◌, ◌≤◌, ◌==◌, List, [], ◌∷◌, ◌++◌, length, set, get_or, take, drop, max, Option, Some, None, refl, sym, ap, ◌∙◌, subst, ⊎_elim, inl, inr, arith}
+use Rattle.std.proofs.Common.{length-set, ◌≡◌, ◌≢◌, ℕ, ◌+◌, ◌<◌, ◌≤◌, ◌==◌, List, [], ◌∷◌, ◌++◌, length, set, get_or, take, drop, Some, None, refl, sym, ap, ◌∙◌, subst, ⊎_elim, inl, inr, arith}
 use mathlib.Core.Option.{some, none}
-use mathlib.Core.Option as maybe
 use mathlib.Core.Logic.{dite}
 use native.Mathlib.Decide.{ℕ_discrete}
 use lib.ListN.{get_elem?}
 use lib.Seq.{set-get_or}
 use prog.Atomic.{either}
-use Rattle.std.proofs.lemmas.List.{append-nil, length-append, take-append-drop, take-append-le}
-use Rattle.atomic_table.specs.Table.{State, Me, Step, step, Act, keeps, takes, gives, stepped, homes_after, Allows, Splits, Joins, opening}
-use Rattle.atomic_table.proofs.Lists.{at_set, set_here, set_else, set_again, exchanged}
-use Rattle.semantics.specs.Histories.{Write, Entry, History, IsPrefix}
+use Rattle.std.proofs.lemmas.List.{length-append, take-append-drop, take-append-le}
+use Rattle.atomic_table.specs.Table.{State, keeps, takes, gives, homes_after, Allows, Splits, Joins, opening}
+use Rattle.atomic_table.proofs.Lists.{set_else, set_again, exchanged}
+use Rattle.semantics.specs.Histories.{Entry, History, IsPrefix}
 use Rattle.semantics.specs.Verdicts.{verdict}
-use Rattle.join_set.specs.Summaries.{StandsFor}
 use Rattle.growing_history.specs.Entered.{IsWrite}
 use Rattle.growing_history.proofs.PrefixLemmas.{prefix_refl, prefix_trans}
 use Rattle.write_history.specs.Entries.{IsRecorded, written_by}
 use Rattle.write_history.specs.Stored.{Stored, IsLog}
 use Rattle.write_history.specs.Seats.{HasOwn, KnowsWriters, Apart, role_left, role_dealt}
 use Rattle.write_history.specs.Rule.{Fits, IsFree, IsTaken, Keeps, dealer}
-use Rattle.write_history.specs.Steps.{Sat, TakesTurn, took, freed, held_or, held_by, looked, stored_in, whole_by, entered, dealing, dealt, note_of, read_note, longer, informed, Agrees, agreed}
+use Rattle.write_history.specs.Steps.{Sat, took, freed, held_or, held_by, looked, stored_in, whole_by, entered, dealing, dealt, note_of, read_note, longer, informed, agreed}
 use Rattle.write_history.specs.declared.known.Kinds.{Kinds}
 use Rattle.write_history.specs.declared.known.Known.{Known}
 use Rattle.write_history.specs.declared.known.Role.{Role}
 use Rattle.write_history.specs.declared.known.Role.TheVariants.{Deals, Numbered, Notes}
-use Rattle.write_history.proofs.Seating.{all_set, at_below, at_none, at_end, all_end, each_set, each_end}
-use Rattle.write_history.proofs.Entering.{prefix_nil, prefix_more, written_by-append, written_by-other, written_by-between, IsRecorded-nil, IsRecorded-push, IsRecorded-prefix, prefix_longer, prefix_longer_second, longer_either}
-
--- ---- what a seat knows
-
-abbrev Homes : Type 0
-Homes = List (maybe.Option Stored)
-
--- whether the turn is free or taken
-abbrev Place : History → ℕ → ℕ → Homes → List Known → Type 0
-Place h floor turn homes views = IsFree h floor turn homes views ⊎ IsTaken h floor turn homes views
-
--- a seat that knew nothing of the turn has the turn neither
-holds_none : (v : Known) (h : History) → v.held ≡ None → v.held ≡ Some h → ⊥
-holds_none v h nothing something = let both : None ≡ Some h = sym nothing ∙ something in cc
-
--- what the one that changes does not hold is held as before
-place_set : (h : History) (floor turn : ℕ) (homes : Homes) (views : List Known) (id : ℕ) (v w : Known) → get_elem? views id ≡ some v → v.held ≡ None → w.held ≡ None →
-    Place h floor turn homes views → Place h floor turn homes (set views id w)
-place_set h floor turn homes views id v w at none_v none_w place = ⊎_elim
-    (λ (free : IsFree h floor turn homes views). inl (record {
-      free = free.free;
-      log = free.log;
-      home = free.home;
-      is_log = free.is_log;
-      nobody = all_set (λ seat u. u.held ≡ None) views id w none_w (λ seat u other at'. free.nobody seat u at');
-    }))
-    (λ (taken : IsTaken h floor turn homes views).
-    let elsewhere : id ≢ taken.holder = λ same. holds_none v h none_v (taken.holds v (subst (λ seat. get_elem? views seat ≡ some v) same at)).0 in
-    inr (record {
-      taken = taken.taken;
-      away = taken.away;
-      holder = taken.holder;
-      seated = let less = taken.seated in omega (arith, length-set views id w);
-      holds = λ u at'. taken.holds u (sym (set_else views id taken.holder w (λ same. elsewhere (sym same))) ∙ at');
-      others = λ seat u other at'. all_set (λ seat u. seat ≢ taken.holder → u.held ≡ None) views id w (λ away. none_w) (λ seat u apart at'' away. taken.others seat u away at'') seat u at' other;
-    }))
-    place
-
--- a seat that comes without the turn leaves it where it is
-place_end : (h : History) (floor turn : ℕ) (homes : Homes) (views : List Known) (w : Known) → w.held ≡ None → Place h floor turn homes views → Place h floor turn homes (views ++ w ∷ [])
-place_end h floor turn homes views w nothing place = ⊎_elim
-    (λ (free : IsFree h floor turn homes views). inl (record {
-      free = free.free;
-      log = free.log;
-      home = free.home;
-      is_log = free.is_log;
-      nobody = all_end (λ seat u. u.held ≡ None) views w nothing free.nobody;
-    }))
-    (λ (taken : IsTaken h floor turn homes views). inr (record {
-      taken = taken.taken;
-      away = taken.away;
-      holder = taken.holder;
-      seated = let less = taken.seated in omega (arith, length-append views (w ∷ []));
-      holds = λ u at. all_end (λ seat u. seat ≡ taken.holder → (u.held ≡ Some h) × (u.floor ≡ floor)) views w
-          (λ same. let less = taken.seated in absurd (omega arith))
-          (λ seat u at' same. taken.holds u (subst (λ i. get_elem? views i ≡ some u) same at')) taken.holder u at refl;
-      others = λ seat u other at. all_end (λ seat u. seat ≢ taken.holder → u.held ≡ None) views w (λ away. nothing) (λ seat u at' away. taken.others seat u away at') seat u at other;
-    }))
-    place
-
--- ---- numbers that are dealt
-
-apart_left : (role : Role) (next : ℕ) → Apart role (Deals next) → Apart role (Deals (next + 1))
-apart_left (Deals other) next apart = absurd apart
-apart_left (Numbered number) next apart = omega arith
-apart_left Notes next apart = tt
-
-apart_left_first : (role : Role) (next : ℕ) → Apart (Deals next) role → Apart (Deals (next + 1)) role
-apart_left_first (Deals other) next apart = absurd apart
-apart_left_first (Numbered number) next apart = omega arith
-apart_left_first Notes next apart = tt
-
-apart_dealt : (role : Role) (next : ℕ) → Apart role (Deals next) → Apart role (Numbered next)
-apart_dealt (Deals other) next apart = absurd apart
-apart_dealt (Numbered number) next apart = λ same. absurd (omega arith)
-apart_dealt Notes next apart = tt
-
-apart_dealt_first : (role : Role) (next : ℕ) → Apart (Deals next) role → Apart (Numbered next) role
-apart_dealt_first (Deals other) next apart = absurd apart
-apart_dealt_first (Numbered number) next apart = λ same. absurd (omega arith)
-apart_dealt_first Notes next apart = tt
-
-lt_next : (n : ℕ) → n < n + 1
-lt_next n = omega arith
-
--- a note is apart from each seat
-apart_note : (role : Role) → Apart role Notes
-apart_note (Deals next) = tt
-apart_note (Numbered number) = tt
-apart_note Notes = tt
-
--- the holder of the turn stays so, and may know of another history
-taken_set : (h h' : History) (floor turn : ℕ) (homes : Homes) (views : List Known) (id : ℕ) (w : Known) (taken : IsTaken h floor turn homes views) → taken.holder ≡ id →
-    w.held ≡ Some h' → w.floor ≡ floor → IsTaken h' floor turn homes (set views id w)
-taken_set h h' floor turn homes views id w taken mine held low = record {
-  taken = taken.taken;
-  away = taken.away;
-  holder = id;
-  seated = let less = taken.seated in omega (arith, length-set views id w);
-  holds = λ u at. all_set (λ seat u. seat ≡ id → (u.held ≡ Some h') × (u.floor ≡ floor)) views id w (λ same. (held, low)) (λ seat u apart at' same. absurd (apart same)) id u at refl;
-  others = λ seat u other at. all_set (λ seat u. seat ≢ id → u.held ≡ None) views id w (λ away. absurd (away refl))
-      (λ seat u apart at' away. taken.others seat u (λ same. away (same ∙ mine)) at') seat u at other;
-}
-
--- a seat that has seen all entries has seen its own
-own_of_all : (h seen : History) (role : Role) → HasOwn h seen role → HasOwn h h role
-own_of_all h seen (Deals next) own = own
-own_of_all h seen (Numbered number) own = refl
-own_of_all h seen Notes own = tt
-
--- a seat that has seen a beginning with its own entries has them in what it sees besides
-own_of_more : (h seen more : History) (role : Role) → IsPrefix seen more → IsPrefix more h → HasOwn h seen role → HasOwn h more role
-own_of_more h seen more (Deals next) first next_one own = own
-own_of_more h seen more (Numbered number) first next_one own = written_by-between number seen more h first next_one own
-own_of_more h seen more Notes first next_one own = tt
-
--- an entry of another number is none of the seat's own
-own_after : (h seen : History) (role : Role) (number : ℕ) (e : Entry) → e.client ≡ number → Apart role (Numbered number) → HasOwn h seen role → HasOwn (h ++ e ∷ []) seen role
-own_after h seen (Deals next) number e by apart own = λ n past.
-    let other : e.client ≢ n = λ same. let m : number ≡ n = sym by ∙ same in absurd (omega arith) in
-    written_by-append n h (e ∷ []) ∙ ap (λ es. written_by n h ++ es) (written_by-other n e other) ∙ append-nil (written_by n h) ∙ own n past
-own_after h seen (Numbered n) number e by apart own =
-    let other : e.client ≢ n = λ same. apart (sym same ∙ by) in
-    written_by-append n h (e ∷ []) ∙ ap (λ es. written_by n h ++ es) (written_by-other n e other) ∙ append-nil (written_by n h) ∙ own
-own_after h seen Notes number e by apart own = tt
-
--- whatever is known of a history is known of one with an entry more
-fits_after : (kinds : Kinds) (h : History) (floor number : ℕ) (e : Entry) (u : Known) → e.client ≡ number → Apart u.role (Numbered number) → Fits kinds h floor u → Fits kinds (h ++ e ∷ []) floor u
-fits_after kinds h floor number e u by apart fit = record {
-  knows = fit.knows;
-  seen = prefix_trans u.seen h (h ++ e ∷ []) fit.seen (prefix_more h (e ∷ []));
-  told = prefix_trans u.told h (h ++ e ∷ []) fit.told (prefix_more h (e ∷ []));
-  own = own_after h u.seen u.role number e by apart fit.own;
-  reached = fit.reached;
-}
+use Rattle.write_history.proofs.Seating.{all_set, at_below, at_none, all_end, each_set, each_end}
+use Rattle.write_history.proofs.Entering.{prefix_nil, prefix_more, written_by-between, IsRecorded-nil, IsRecorded-push, IsRecorded-prefix, prefix_longer, prefix_longer_second, longer_either}
+use Rattle.write_history.proofs.Fitting.{Homes, holds_none, place_set, place_end, apart_left, apart_left_first, apart_dealt, apart_dealt_first, lt_next, apart_note, taken_set, own_of_all, own_of_more, fits_after}
 
 -- the log with an entry more, by its holder, is the whole history with it
 pub whole_is : (m : Sat) (h : History) (log : Stored) (e : Entry) → m.0.held ≡ Some h → m.1 ≡ (0, log) ∷ [] → m.0.floor ≤ length h → IsLog (h ++ e ∷ []) m.0.floor log → whole_by m ≡ h ++ e ∷ []

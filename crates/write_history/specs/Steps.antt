@@ -7,7 +7,6 @@ use Rattle.write_history.specs.Entries.{IsRecorded}
 use Rattle.write_history.specs.Stored.{Stored, IsLog}
 use Rattle.write_history.specs.Seats.{HasOwn, role_left, role_dealt}
 use Rattle.write_history.specs.declared.known.Known.{Known}
-use Rattle.write_history.specs.declared.known.Role.{Role}
 use Rattle.write_history.specs.declared.known.Role.TheVariants.{Numbered, Notes}
 
 -- a seat: what it knows, and the log while it has it

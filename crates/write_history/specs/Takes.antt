@@ -5,7 +5,7 @@ use Rattle.semantics.specs.Verdicts.{verdict}
 use Rattle.join_types.specs.Causes.{plain_cause}
 use Rattle.growing_history.specs.Entered.{IsWrite}
 use Rattle.write_history.specs.Stored.{Stored, IsLog}
-use Rattle.write_history.specs.Steps.{Sat, HasLog}
+use Rattle.write_history.specs.Steps.{Sat}
 use Rattle.write_history.specs.declared.fault.AppendFault.{AppendFault}
 use Rattle.write_history.specs.declared.fault.AppendFault.TheVariants.{Refused, OutOfMemory}
 

@@ -1,9 +1,7 @@
 use Rattle.std.proofs.Common.{◌≡◌, ◌+◌, [], ◌∷◌, length, slice_get, refl, sym, ap, ◌∙◌, subst, arith}
 use Rattle.std.proofs.lemmas.List.{length-append}
 use Rattle.write_history.specs.Passes.{PassView, new_pass}
-use Rattle.write_history.specs.Rule.{dealer}
 use Rattle.write_history.specs.Steps.{Sat, IsResting, dealing, dealt}
-use Rattle.write_history.specs.declared.known.Role.TheVariants.{Deals}
 use Rattle.write_history.proofs.Entering.{IsRecorded-nil}
 use Rattle.write_history.proofs.Lists.{each_push}
 use Rattle.write_history.proofs.Turning.{deals}

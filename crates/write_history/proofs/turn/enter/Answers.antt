@@ -1,10 +1,7 @@
-use Rattle.std.proofs.Common.{◌≡◌, ℕ, [], ◌∷◌, ◌++◌, Some, sym, ap, ◌∙◌, subst, refl, arith}
+use Rattle.std.proofs.Common.{◌≡◌, [], ◌∷◌, ◌++◌, Some, sym, ap, ◌∙◌, subst, refl, arith}
 use Rattle.atomic_table.specs.Table.{Allows}
-use Rattle.semantics.specs.Histories.{History}
 use Rattle.write_history.specs.Rule.{Keeps}
-use Rattle.write_history.specs.Stored.{Stored}
-use Rattle.write_history.specs.Steps.{Sat, HasLog, entered, whole_by}
-use Rattle.write_history.specs.Takes.{Enters}
+use Rattle.write_history.specs.Steps.{Sat, entered, whole_by}
 use Rattle.write_history.proofs.Turning.{enters, whole_is}
 use Rattle.write_history.proofs.turn.enter.Goals as goal
 

@@ -1,4 +1,4 @@
-use Rattle.std.proofs.Common.{arith, rules}
+use Rattle.std.proofs.Common.{arith}
 use Rattle.write_history.proofs.Turning.{frees_turn}
 use Rattle.write_history.proofs.turn.free_turn.Goals as goal
 

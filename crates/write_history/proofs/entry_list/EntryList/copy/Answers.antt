@@ -1,4 +1,4 @@
-use Rattle.std.proofs.Common.{◌<◌, ◌≤◌, length, arith, ap, sym, ◌∙◌, ◌++◌, ◌∷◌, [], take, drop, ◌-◌}
+use Rattle.std.proofs.Common.{◌<◌, length, arith, ap, sym, ◌∙◌, ◌++◌, ◌∷◌, [], take, drop, ◌-◌}
 use Rattle.write_history.proofs.Lists.{range_more}
 use Rattle.write_history.proofs.entry_list.EntryList.copy.Goals as goal
 

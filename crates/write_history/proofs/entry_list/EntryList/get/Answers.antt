@@ -1,6 +1,5 @@
 use Rattle.std.specs.List.{flat_map}
 use Rattle.std.proofs.Common.{◌++◌, ◌-◌, ◌*◌, ◌≡◌, ◌/◌, ◌<◌, ◌≤◌, length, arith, sym, ap, ◌∙◌, get_or, ◌%◌}
-use Rattle.join_types.specs.declared.write.Entry.{Entry}
 use Rattle.write_history.proofs.Chunks.{entry_in-chunk, entry_in-last, within_last}
 use Rattle.write_history.proofs.entry_list.EntryList.get.Goals as goal
 

@@ -35,7 +35,7 @@ use Rattle.kept_ranges.proofs.ListingStepLemmas.{relisted_are_listed, unlisted_i
 
 -- ---- longer histories
 
-sound_at_longer : (s : KeptRange) (h more : History) (q : ℕ) → IsPrefix h more → IsSoundAt s h q → IsSoundAt s more q
+pub sound_at_longer : (s : KeptRange) (h more : History) (q : ℕ) → IsPrefix h more → IsSoundAt s h q → IsSoundAt s more q
 sound_at_longer s h more q prefix sound =
     let e : take q more ≡ take q h = take_prefix q h more sound.place prefix in
     record {
@@ -62,24 +62,24 @@ sound_over_longer s h more prefix sound = by_position s.position (λ q. sound_at
 -- ---- tables below a join, and the join
 
 -- what stands below a rank after entries that entered is a table of pairs below a join
-source_at : (h : History) (p rank : ℕ) → HasEntered h → IsSource (below (take p h) rank)
+pub source_at : (h : History) (p rank : ℕ) → HasEntered h → IsSource (below (take p h) rank)
 source_at h p rank entered = record {
   ascending = ascending-below (take p h) rank;
   keys = has_keys_below (take p h) rank (has_entered_taken p h entered);
 }
 
-join_at : (s : KeptRange) (h : History) (p : ℕ) → CanStand s h p → is_join s.join ≡ true
+pub join_at : (s : KeptRange) (h : History) (p : ℕ) → CanStand s h p → is_join s.join ≡ true
 join_at s h p can =
     subst (λ (j : Join). is_join j ≡ true) can.stands.is
     (all_at (λ (d : DeclaredJoin). is_join d.join ≡ true) (joins_of (take p h)) can.stands.place can.stands.standing (declares_joins (take p h) (has_entered_taken p h can.entered)) can.stands.stands)
 
-rules_at : (s : KeptRange) (h : History) (p : ℕ) → CanStand s h p → KeepsRules s.join
+pub rules_at : (s : KeptRange) (h : History) (p : ℕ) → CanStand s h p → KeepsRules s.join
 rules_at s h p can = keeps_rules (take p h) s.join s.rank (has_entered_taken p h can.entered) can.stands
 
-copies_at : (s : KeptRange) (h : History) (p : ℕ) → CanStand s h p → value_operator s.join ≡ copy → IsCopyJoin s.join
+pub copies_at : (s : KeptRange) (h : History) (p : ℕ) → CanStand s h p → value_operator s.join ≡ copy → IsCopyJoin s.join
 copies_at s h p can copies = record { is_join = join_at s h p can; copies = copies; slots = (rules_at s h p can).slots; sources = (rules_at s h p can).sources }
 
-aggregates_at : (s : KeptRange) (h : History) (p : ℕ) → CanStand s h p → is_aggregate (value_operator s.join) ≡ true → IsAggregateJoin s.join
+pub aggregates_at : (s : KeptRange) (h : History) (p : ℕ) → CanStand s h p → is_aggregate (value_operator s.join) ≡ true → IsAggregateJoin s.join
 aggregates_at s h p can aggregates = record { is_join = join_at s h p can; rules = rules_at s h p can; aggregates = aggregates }
 
 -- ---- filling
@@ -96,11 +96,11 @@ filled_is_sound s kept groups h p can filled listed = record {
 
 -- ---- what is noted
 
-or_false_left : (a b : Bool) → (a || b) ≡ false → a ≡ false
+pub or_false_left : (a b : Bool) → (a || b) ≡ false → a ≡ false
 or_false_left true b e = e
 or_false_left false b e = refl
 
-or_false_right : (a b : Bool) → (a || b) ≡ false → b ≡ false
+pub or_false_right : (a b : Bool) → (a || b) ≡ false → b ≡ false
 or_false_right true b e = absurd (false≢true (sym e))
 or_false_right false b e = e
 
@@ -161,7 +161,7 @@ reported_at h q p rank [] reported x all order last = tt
 reported_at h q p rank (need ∷ needs) reported x all order last = (λ k inside absent. sym (all.0 k inside absent x order last), reported_at h q p rank needs reported x all.1 order last)
 
 -- a key that is covered by none of more slots is covered by none of them
-covered_by_more : (output : Pattern) (old new : List Slots) (k : Text) → ((other : Slots) → Contains old other → Contains new other) → is_covered output new k ≡ false → is_covered output old k ≡ false
+pub covered_by_more : (output : Pattern) (old new : List Slots) (k : Text) → ((other : Slots) → Contains old other → Contains new other) → is_covered output new k ≡ false → is_covered output old k ≡ false
 covered_by_more output old new k more uncovered = by_test (is_covered output old k) refl
   where
     covers : Slots → Bool

@@ -1,1 +1,1 @@
-mod PendingLemmas
+pub mod PendingLemmas

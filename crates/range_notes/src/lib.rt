@@ -7,6 +7,7 @@
 
 pub mod note;
 pub mod notes;
+mod since;
 
 pub use note::{Marked, Note};
 pub use notes::Notes;

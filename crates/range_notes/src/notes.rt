@@ -75,6 +75,13 @@ impl Notes {
         self.start
     }
 
+    /// The ring of the notes, in the order in which they were made.
+    pub(crate) fn ring(&self) -> &HeapCircularBuffer<Note>
+        ensures { result.now.items ≡ self.now.list }
+    {
+        &self.ring
+    }
+
     /// Adds a note at the end; where there are 256 already, the first is pushed out, and the notes start at its position.
     /// It takes constant time but where the room grows, which copies all notes.
     ///

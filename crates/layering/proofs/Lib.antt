@@ -1,0 +1,9 @@
+pub mod ListLemmas
+pub mod MergeLemmas
+pub mod StepLemmas
+pub mod ReachLemmas
+pub mod AloneLemmas
+pub mod LayerLemmas
+pub mod StandingLemmas
+pub mod SameLemmas
+pub mod PartLemmas

@@ -1,0 +1,10 @@
+pub mod Merging
+pub mod Reached
+pub mod Standing
+pub mod Parts
+pub mod MergeLaws
+pub mod ReachLaws
+pub mod LayerLaws
+pub mod StandingLaws
+pub mod SameLaws
+pub mod PartLaws

@@ -1,0 +1,87 @@
+// What changed in the output of a kept range.
+ghost use Rattle.std.specs.Prelude.{◌≡◌, ◌≤◌, length, take, IfOk, OnOk, None};
+ghost use Rattle.semantics.specs.Histories.{joins_of};
+ghost use Rattle.growing_history.specs.Entered.{HasEntered, HasRank};
+ghost use Rattle.join_eval.specs.Moves.{Moves};
+ghost use Rattle.kept_ranges.specs.Sound.{IsSound};
+ghost use Rattle.range_state.specs.Ready.{HasSameSubject};
+ghost use Rattle.range_state.specs.Since.{AnswersSince};
+ghost use Rattle.range_serving.specs.Serving.{StandsFrom};
+ghost use Rattle.range_serving.specs.Telling.{TellsOutput};
+
+use join_eval::{Changed, Reader};
+use key_space::Range;
+use out_of_memory::OutOfMemory;
+use range_state::RangeState;
+use std::sync::ledger::Ledger;
+use steps::Steps;
+
+/// Advances it to where p entries stand, where it stands below.
+fn catch_up<R: Reader, L: Ledger>(
+    state: &mut RangeState,
+    p: u64,
+    reader: &mut R,
+    steps: &mut Steps<L>,
+) -> Result<(), OutOfMemory>
+    requires within { p ≤ length (R.list reader.old) }
+    requires from { StandsFrom (R.floor reader.old) state.old }
+    requires entered { HasEntered (R.list reader.old) }
+    requires stands { HasRank (joins_of (take p (R.list reader.old))) state.old.join state.old.rank }
+    requires ranked { state.old.rank ≤ R.top }
+    requires sound { IsSound state.old (R.list reader.old) }
+    ensures same { HasSameSubject state.old state.new }
+    ensures reached { OnOk result (StandsFrom p state.new) }
+    ensures still { StandsFrom p state.old → state.new ≡ state.old }
+    ensures unused { StandsFrom p state.old → reader.new ≡ reader.old }
+    ensures sound { IsSound state.new (R.list reader.new) }
+    ensures moves { Moves R.list R.floor R.went reader.old reader.new }
+    ensures counted { steps.old ≤ steps.new }
+{
+    match state.position() {
+        None => Ok(()),
+        Some(at) => {
+            if at < p {
+                return state.advance(p, reader, steps);
+            }
+            Ok(())
+        }
+    }
+}
+
+/// What changed in a piece of a kept range's output between the first q and the first p entries: keys of the piece, among
+/// which is every key of both at which the output is not the same at all positions between. Where it stands below p it is
+/// advanced first; then it answers what changed since q.
+///
+/// `All` comes exactly where it then does not know: nothing is kept, its notes start after q, or slots meet the piece that
+/// are pending or were noted since.
+///
+/// On `OutOfMemory` it stands where it stood, or at p, or is forgotten, and is right for the reader's list. The reader may
+/// have gone on and steps may have been taken.
+pub fn tell<R: Reader, L: Ledger>(
+    state: &mut RangeState,
+    q: u64,
+    p: u64,
+    range: &Range,
+    reader: &mut R,
+    steps: &mut Steps<L>,
+) -> Result<Changed, OutOfMemory>
+    requires order { q ≤ p }
+    requires within { p ≤ length (R.list reader.old) }
+    requires from { StandsFrom (R.floor reader.old) state.old }
+    requires entered { HasEntered (R.list reader.old) }
+    requires stands { HasRank (joins_of (take p (R.list reader.old))) state.old.join state.old.rank }
+    requires ranked { state.old.rank ≤ R.top }
+    requires sound { IsSound state.old (R.list reader.old) }
+    ensures same { HasSameSubject state.old state.new }
+    ensures told { IfOk result (TellsOutput state.old (R.list reader.old) q p range.now) }
+    ensures since { IfOk result (AnswersSince q range.now state.new) }
+    ensures reached { OnOk result (StandsFrom p state.new) }
+    ensures still { StandsFrom p state.old → state.new ≡ state.old }
+    ensures unused { StandsFrom p state.old → reader.new ≡ reader.old }
+    ensures sound { IsSound state.new (R.list reader.new) }
+    ensures moves { Moves R.list R.floor R.went reader.old reader.new }
+    ensures counted { steps.old ≤ steps.new }
+{
+    catch_up(state, p, reader, steps)?;
+    state.changed_since(q, range)
+}

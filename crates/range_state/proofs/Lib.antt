@@ -1,0 +1,11 @@
+pub mod ReadLemmas
+pub mod FillLemmas
+pub mod NothingLemmas
+pub mod SoundLemmas
+pub mod ListingLemmas
+pub mod MendLemmas
+pub mod NotingLemmas
+pub mod AdvanceLemmas
+pub mod CostLemmas
+pub mod LittleLemmas
+pub mod GoneOnLemmas

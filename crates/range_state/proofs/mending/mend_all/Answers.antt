@@ -1,0 +1,74 @@
+use Rattle.std.proofs.Common.{◌≡◌, ℕ, ◌+◌, ◌≤◌, List, [], ◌∷◌, ◌++◌, length, sym, ap, ◌∙◌, subst, arith}
+use Rattle.std.specs.List.{AllByRecursion}
+use Rattle.std.proofs.lemmas.List.Sums.{sum_by-cons}
+use Rattle.semantics.specs.Patterns.{Slots}
+use Rattle.range_evaluation.specs.TreeLaws.{AreOutputSlots}
+use Rattle.join_eval.proofs.MovesLemmas.{moves_trans}
+use Rattle.kept_ranges.specs.Notes.{Note, Notes, note_limit, noted}
+use Rattle.kept_ranges.specs.Sound.{KeptRange, IsSoundAt}
+use Rattle.range_state.specs.Held.{HasPlaces, range_kept}
+use Rattle.range_state.specs.Mended.{AreAllBare, steps_for, steps_under, with_pending}
+use Rattle.range_state.proofs.MendLemmas.{pending_copies, mend_step, slots_note, noted_all, noted_room, bare_longer, steps_longer}
+use Rattle.range_state.proofs.NotingLemmas.{noted_few}
+use Rattle.range_state.proofs.mending.mend_all.Goals as goal
+
+pub mend_slots-requires-clause-copies : goal.mend_slots-requires-clause-copies
+mend_slots-requires-clause-copies g c =
+    let before = c.loop-slots.invariant in
+    let left = c.args.held.now.pending.noted in
+    let first : c.loop-slots.slots-iterator.rest.items ≡ c.in-Some.slots ∷ c.next.new.self.rest.items = c.in-Some.ensures.steps.0 in
+    pending_copies (with_pending (c.loop-slots.slots-iterator.rest.items ++ left) (range_kept c.args.subject.now c.loop-slots.held)) (g.R.Reader.list c.loop-slots.reader) c.args.held.now.position c.in-Some.slots (c.next.new.self.rest.items ++ left)
+    before.entered (ap (λ (ss : List Slots). ss ++ left) first) before.sound
+
+pub returns-in_err-mend_slots-clause-moves : goal.returns-in_err-mend_slots-clause-moves
+returns-in_err-mend_slots-clause-moves g c =
+    moves_trans g.R.Reader.list g.R.Reader.floor g.R.Reader.went c.args.reader.now c.loop-slots.reader c.mend_slots.new.reader (g.met.R.Reader.went_trans c.args.reader.now c.loop-slots.reader c.mend_slots.new.reader) c.loop-slots.invariant.moves c.in_err-mend_slots.ensures.moves
+
+pub returns-in_err-add-clause-moves : goal.returns-in_err-add-clause-moves
+returns-in_err-add-clause-moves g c =
+    moves_trans g.R.Reader.list g.R.Reader.floor g.R.Reader.went c.args.reader.now c.loop-slots.reader c.mend_slots.new.reader (g.met.R.Reader.went_trans c.args.reader.now c.loop-slots.reader c.mend_slots.new.reader) c.loop-slots.invariant.moves c.mend_slots.ensures.moves
+
+pub loop-slots-preserved : goal.loop-slots-preserved
+loop-slots-preserved g c =
+    let before = c.loop-slots.invariant in
+    let s = c.args.subject.now in
+    let h = g.R.Reader.list c.args.reader.now in
+    let here = g.R.Reader.list c.loop-slots.reader in
+    let more = g.R.Reader.list c.mend_slots.new.reader in
+    let q = c.args.held.now.position in
+    let given = c.in-Some.slots in
+    let rest = c.next.new.self.rest.items in
+    let left = c.args.held.now.pending.noted in
+    let held = c.loop-slots.held in
+    let all = c.loop-slots.slots-iterator.rest.items in
+    let first : all ≡ given ∷ rest = c.in-Some.ensures.steps.0 in
+    let kept : KeptRange = with_pending (all ++ left) (range_kept s held) in
+    let moved = c.in_ok-mend_slots.ensures.moves in
+    let note : Note = slots_note q given in
+    let added : c.add.new.self ≡ noted held.notes (note ∷ []) = c.in_ok-add.ensures.ok in
+    let own : AllByRecursion (AreOutputSlots s.join) (given ∷ (rest ++ left)) = subst (λ (ss : List Slots). AllByRecursion (AreOutputSlots s.join) (ss ++ left)) first before.sound.right.pending in
+    let step : IsSoundAt (record kept { kept = record { rows = c.mend_slots.new.rows.pairs; needs = c.mend_slots.new.rows.needs; pending = rest ++ left }; notes = noted held.notes (note ∷ []) }) more q =
+    mend_step kept here more q given (rest ++ left) c.mend_slots.new.rows before.entered c.requires.is_range moved.kept (ap (λ (ss : List Slots). ss ++ left) first) before.sound c.in_ok-mend_slots.ensures.rows c.in_ok-mend_slots.ensures.needs in
+    record {
+      next = tt;
+      finite = tt;
+      stays = record { position = before.stays.position; pending = before.stays.pending; groups = before.stays.groups };
+      places = subst (λ (n : Notes). AllByRecursion (λ note. HasPlaces note.mark) n.list) (sym added) (noted_all (λ n. HasPlaces n.mark) held.notes (note ∷ []) before.places (own.0.places, tt));
+      few = subst (λ (n : Notes). length n.list ≤ note_limit) (sym added) (noted_few held.notes (note ∷ []));
+      sound = subst (λ (n : Notes). IsSoundAt (record kept { kept = record { rows = c.mend_slots.new.rows.pairs; needs = c.mend_slots.new.rows.needs; pending = rest ++ left }; notes = n }) more q) (sym added) step;
+      entered = moved.entered before.entered;
+      moves = moves_trans g.R.Reader.list g.R.Reader.floor g.R.Reader.went c.args.reader.now c.loop-slots.reader c.mend_slots.new.reader (g.met.R.Reader.went_trans c.args.reader.now c.loop-slots.reader c.mend_slots.new.reader) before.moves moved;
+      counted = let one = c.in_ok-mend_slots.ensures.counted in let so_far = before.counted in omega arith;
+      start = λ room.
+          let b = before.start room in
+          let long : length all ≡ length rest + 1 = ap length first ∙ omega arith in
+          let fits = noted_room held.notes note (omega (arith, b.1, long)) in
+          (ap (λ (n : Notes). n.start) added ∙ fits.0 ∙ b.0, (let l : length c.add.new.self.list ≡ length held.notes.list + 1 = ap (λ (n : Notes). length n.list) added ∙ fits.1 in omega (arith, b.1, long)));
+      cost = λ bare.
+          let b = before.cost bare in
+          let bares : AreAllBare s h q (given ∷ rest) = subst (AreAllBare s h q) first b.0 in
+          let one = c.in_ok-mend_slots.ensures.cost (bare_longer s h here q given before.moves.kept c.requires.sound.place bares.0) in
+          let same : steps_for s here q given ≡ steps_for s h q given = steps_longer s h here q given before.moves.kept c.requires.sound.place in
+          let total : steps_under s h q all ≡ steps_for s h q given + steps_under s h q rest = ap (steps_under s h q) first ∙ sum_by-cons (steps_for s h q) given rest in
+          (bares.1, omega (arith, b.1, one, same, total));
+    }

@@ -1,0 +1,144 @@
+use Rattle.std.proofs.Common.{◌≡◌, ◌+◌, ◌≤◌, List, length, take, Option, Some, IfSome, Vec, Global, sym, ap, ◌∙◌, subst}
+use Rattle.std.specs.Option.{IsSomeAnd}
+use Rattle.std.proofs.lemmas.Option.{same_Some}
+use Rattle.semantics.specs.Texts.{Text}
+use Rattle.semantics.specs.Histories.{History, joins_of}
+use Rattle.growing_history.specs.Entered.{HasRank}
+use Rattle.growing_history.proofs.PrefixLemmas.{prefix_trans}
+use Rattle.key_space.specs.declared.key.Key.{Key}
+use Rattle.join_eval.specs.Moves.{Moves}
+use Rattle.join_eval.proofs.MovesLemmas.{moves_trans}
+use Rattle.kept_ranges.specs.Sound.{KeptRange, IsSoundAt, IsSound}
+use Rattle.kept_ranges.specs.SoundLaws.{AreReportedBetween}
+use Rattle.kept_ranges.proofs.SoundLemmas.{sound_over_longer}
+use Rattle.source_changes.specs.Asking.{AreListed}
+use Rattle.range_state.specs.Held.{view_of, range_kept, FitsJoin}
+use Rattle.range_state.specs.Work.{AreBareThroughout, advance_steps, TouchesLittle}
+use Rattle.range_state.specs.declared.holding.Holding.{Holding}
+use Rattle.range_state.proofs.CostLemmas.{bare_held, cost_held}
+use Rattle.range_state.proofs.LittleLemmas.{little_held, little_same}
+use Rattle.range_state.proofs.SoundLemmas.{subject_stands}
+use Rattle.range_state.proofs.GoneOnLemmas.{held_sound, reported_held, made_sound, reached_sound, refilled_sound, unchecked_pending}
+use Rattle.range_state.proofs.state.RangeState.advance.Goals as goal
+use Rattle.range_state.proofs.state.RangeState.advance.Goals.{in-None+in_ok-advanced-in-None, in-Some-asked+in_ok-advanced-in-Some-asked}
+
+pub returns-in_err-advanced-in-None-clause-moves : goal.returns-in_err-advanced-in-None-clause-moves
+returns-in_err-advanced-in-None-clause-moves g c =
+    moves_trans g.R.Reader.list g.R.Reader.floor g.R.Reader.went c.args.reader.now c.ask_needs.new.reader c.fill_at.new.reader (g.met.R.Reader.went_trans c.args.reader.now c.ask_needs.new.reader c.fill_at.new.reader) c.ask_needs.ensures.moves c.fill_at.ensures.moves
+
+pub advance_held-requires-clause-is_range : goal.advance_held-requires-clause-is_range
+advance_held-requires-clause-is_range g c = c.look.ensures
+
+pub advance_held-requires-clause-sound : goal.advance_held-requires-clause-sound
+advance_held-requires-clause-sound g c =
+    let s = c.self.inside.subject in
+    let view : range_kept s c.in-Some.held ≡ c.args.self.now = sym (ap (view_of s) c.in-Some.is) ∙ c.self.view_is in
+    let same : c.in-Some-replace.held ≡ c.in-Some.held = same_Some _ _ (sym c.in-Some-replace.is ∙ c.replace.ensures.value ∙ c.in-Some.is) in
+    held_sound s c.in-Some.held c.in-Some-replace.held c.args.self.now (g.R.Reader.list c.args.reader.now) (g.R.Reader.list c.ask_needs.new.reader) view same c.ask_needs.ensures.moves.kept c.requires.sound
+
+pub advance_held-requires-clause-reported : goal.advance_held-requires-clause-reported
+advance_held-requires-clause-reported g c =
+    let s = c.self.inside.subject in
+    let h = g.R.Reader.list c.args.reader.now in
+    let view : range_kept s c.in-Some.held ≡ c.args.self.now = sym (ap (view_of s) c.in-Some.is) ∙ c.self.view_is in
+    let same : c.in-Some-replace.held ≡ c.in-Some.held = same_Some _ _ (sym c.in-Some-replace.is ∙ c.replace.ensures.value ∙ c.in-Some.is) in
+    let told : AreReportedBetween h c.in-Some.held.position c.args.p s.rank c.needs-needs.result.now c.in-Some-asked.reported.items =
+    subst (λ (o : Option (Vec Key Global)). IfSome o (λ keys. AreReportedBetween h c.in-Some.held.position c.args.p s.rank c.needs-needs.result.now keys.items)) c.in-Some-asked.is c.in_ok-asked.ensures.complete in
+    reported_held s c.in-Some.held c.in-Some-replace.held c.args.self.now h (g.R.Reader.list c.ask_needs.new.reader) c.args.p (g.R.Reader.floor c.args.reader.now) c.needs-needs.result.now c.in-Some-asked.reported.items c.as_slice.result.now view same c.requires.order
+    c.needs-needs.ensures c.as_slice.ensures.value c.ask_needs.ensures.moves.kept c.requires.within told
+
+pub invariant_of-self-2 : goal.invariant_of-self-2
+invariant_of-self-2 g c =
+    let s = c.self.inside.subject in
+    elim c.match-asked.branch [
+      | in-None+in_ok-advanced-in-None w ↦ subst (λ (a : Holding). FitsJoin s.join a) (sym w.advanced-is) w.in_ok-advanced-in-None.ensures.filled.fits
+      | in-Some-asked+in_ok-advanced-in-Some-asked w ↦ subst (λ (a : Holding). FitsJoin s.join a) (sym w.advanced-is) w.in_ok-advanced-in-Some-asked.ensures.advanced.fits
+    ]
+
+pub returns-clause-sound : goal.returns-clause-sound
+returns-clause-sound g c =
+    let s = c.self.inside.subject in
+    let h = g.R.Reader.list c.args.reader.now in
+    let here = g.R.Reader.list c.ask_needs.new.reader in
+    let stands : HasRank (joins_of (take c.args.p h)) s.join s.rank = subject_stands _ s c.self.inside.held c.args.self.now c.self.view_is c.requires.stands in
+    let first = c.ask_needs.ensures.moves.kept in
+    elim c.match-asked.branch [
+      | in-None+in_ok-advanced-in-None w ↦ subst (λ (r : g.row.R.Denot). IsSoundAt (range_kept s c.match-asked.advanced) (g.R.Reader.list r) c.match-asked.advanced.position) (sym w.reader-is)
+          (made_sound s c.match-asked.advanced _ (g.R.Reader.list w.fill_at.new.reader) w.advanced-is
+          (refilled_sound s h here (g.R.Reader.list w.fill_at.new.reader) c.args.p _ first (prefix_trans h here (g.R.Reader.list w.fill_at.new.reader) first w.fill_at.ensures.moves.kept) c.look.ensures c.requires.entered c.requires.within stands w.in_ok-advanced-in-None.ensures.filled))
+      | in-Some-asked+in_ok-advanced-in-Some-asked w ↦ subst (λ (r : g.row.R.Denot). IsSoundAt (range_kept s c.match-asked.advanced) (g.R.Reader.list r) c.match-asked.advanced.position) (sym w.reader-is)
+          (reached_sound s c.match-asked.advanced _ (g.R.Reader.list w.advance_held.new.reader) c.args.p w.advanced-is w.in_ok-advanced-in-Some-asked.ensures.advanced.position w.in_ok-advanced-in-Some-asked.ensures.sound)
+    ]
+
+pub returns-in_err-asked-clause-sound : goal.returns-in_err-asked-clause-sound
+returns-in_err-asked-clause-sound g c =
+    let now = sound_over_longer c.args.self.now (g.R.Reader.list c.args.reader.now) (g.R.Reader.list c.ask_needs.new.reader) c.ask_needs.ensures.moves.kept c.requires.sound in
+    let viewed : IsSound (view_of c.self.inside.subject c.self.inside.held) (g.R.Reader.list c.ask_needs.new.reader) = subst (λ (v : KeptRange). IsSound v (g.R.Reader.list c.ask_needs.new.reader)) (sym c.self.view_is) now in
+    assumption (now, viewed)
+
+pub returns-clause-unchecked : goal.returns-clause-unchecked
+returns-clause-unchecked g c =
+    let s = c.self.inside.subject in
+    let view : range_kept s c.in-Some.held ≡ c.args.self.now = sym (ap (view_of s) c.in-Some.is) ∙ c.self.view_is in
+    let same : c.in-Some-replace.held ≡ c.in-Some.held = same_Some _ _ (sym c.in-Some-replace.is ∙ c.replace.ensures.value ∙ c.in-Some.is) in
+    elim c.match-asked.branch [
+      | in-None+in_ok-advanced-in-None w ↦ λ none clear. ap (λ (a : Holding). a.pending.noted) w.advanced-is ∙ w.in_ok-advanced-in-None.ensures.filled.pending
+      | in-Some-asked+in_ok-advanced-in-Some-asked w ↦ λ none clear. ap (λ (a : Holding). a.pending.noted) w.advanced-is
+          ∙ unchecked_pending s c.in-Some.held c.in-Some-replace.held _ c.args.self.now c.args.p _ view same w.in_ok-advanced-in-Some-asked.ensures.advanced none clear
+    ]
+
+pub returns-clause-moves : goal.returns-clause-moves
+returns-clause-moves g c =
+    let total = λ (r : g.row.R.Denot). λ (m : Moves g.R.Reader.list g.R.Reader.floor g.R.Reader.went c.ask_needs.new.reader r). moves_trans g.R.Reader.list g.R.Reader.floor g.R.Reader.went c.args.reader.now c.ask_needs.new.reader r (g.met.R.Reader.went_trans c.args.reader.now c.ask_needs.new.reader r) c.ask_needs.ensures.moves m in
+    elim c.match-asked.branch [
+      | in-None+in_ok-advanced-in-None w ↦ subst (λ (r : g.row.R.Denot). Moves g.R.Reader.list g.R.Reader.floor g.R.Reader.went c.args.reader.now r) (sym w.reader-is) (total w.fill_at.new.reader w.fill_at.ensures.moves)
+      | in-Some-asked+in_ok-advanced-in-Some-asked w ↦ subst (λ (r : g.row.R.Denot). Moves g.R.Reader.list g.R.Reader.floor g.R.Reader.went c.args.reader.now r) (sym w.reader-is) (total w.advance_held.new.reader w.advance_held.ensures.moves)
+    ]
+
+pub returns-clause-cost : goal.returns-clause-cost
+returns-clause-cost g c =
+    let s = c.self.inside.subject in
+    let h = g.R.Reader.list c.args.reader.now in
+    let here = g.R.Reader.list c.ask_needs.new.reader in
+    let needs = c.needs-needs.result.now in
+    let view : range_kept s c.in-Some.held ≡ c.args.self.now = sym (ap (view_of s) c.in-Some.is) ∙ c.self.view_is in
+    let same : c.in-Some-replace.held ≡ c.in-Some.held = same_Some _ _ (sym c.in-Some-replace.is ∙ c.replace.ensures.value ∙ c.in-Some.is) in
+    elim c.match-asked.branch [
+      | in-None+in_ok-advanced-in-None w ↦ λ q stands bare.
+          absurd (subst (λ (o : Option (Vec Key Global)). IsSomeAnd o (λ keys. AreListed c.in-Some.held.position c.args.p h needs keys.items)) w.in-None.is
+          (c.in_ok-asked.ensures.bare (bare_held s c.in-Some.held c.args.self.now h q c.args.p needs view stands c.needs-needs.ensures bare)))
+      | in-Some-asked+in_ok-advanced-in-Some-asked w ↦ λ q stands bare.
+          let throughout : AreBareThroughout h c.in-Some.held.position c.args.p needs = bare_held s c.in-Some.held c.args.self.now h q c.args.p needs view stands c.needs-needs.ensures bare in
+          let listed : AreListed c.in-Some.held.position c.args.p h needs w.in-Some-asked.reported.items =
+          subst (λ (o : Option (Vec Key Global)). IsSomeAnd o (λ keys. AreListed c.in-Some.held.position c.args.p h needs keys.items)) w.in-Some-asked.is (c.in_ok-asked.ensures.bare throughout) in
+          subst (λ n. n ≤ c.args.steps.now + advance_steps h q c.args.p c.args.self.now.kept.needs) (sym w.steps-is)
+          (cost_held c.advance_is_cheap.ensures c.applied_are_bare.ensures s c.in-Some.held c.in-Some-replace.held w.in_ok-advanced-in-Some-asked.advanced c.args.self.now h here q c.args.p (g.R.Reader.floor c.args.reader.now) needs w.in-Some-asked.reported.items w.as_slice.result.now
+          c.args.steps.now c.ask_needs.new.steps w.advance_held.new.steps view same stands c.requires.order c.needs-needs.ensures w.as_slice.ensures.value c.ask_needs.ensures.moves.kept c.requires.within c.in_ok-asked.ensures.ranges throughout (c.in_ok-asked.ensures.bare_cost throughout) listed
+          w.in_ok-advanced-in-Some-asked.ensures.advanced w.in_ok-advanced-in-Some-asked.ensures.cost)
+    ]
+
+pub returns-then-held-p-clause-little : goal.returns-then-held-p-clause-little
+returns-then-held-p-clause-little g c = λ q stands bare.
+    let h = g.R.Reader.list c.args.reader.now in
+    let here : TouchesLittle h q c.args.p c.args.self.now c.args.self.now = little_same h q c.args.p c.args.self.now in
+    let viewed : TouchesLittle h q c.args.p c.args.self.now (view_of c.self.inside.subject c.self.inside.held) = subst (λ (w : KeptRange). TouchesLittle h q c.args.p c.args.self.now w) (sym c.self.view_is) here in
+    assumption (here, viewed)
+
+pub returns-clause-little : goal.returns-clause-little
+returns-clause-little g c =
+    let s = c.self.inside.subject in
+    let h = g.R.Reader.list c.args.reader.now in
+    let needs = c.needs-needs.result.now in
+    let view : range_kept s c.in-Some.held ≡ c.args.self.now = sym (ap (view_of s) c.in-Some.is) ∙ c.self.view_is in
+    let same : c.in-Some-replace.held ≡ c.in-Some.held = same_Some _ _ (sym c.in-Some-replace.is ∙ c.replace.ensures.value ∙ c.in-Some.is) in
+    elim c.match-asked.branch [
+      | in-None+in_ok-advanced-in-None w ↦ λ q stands bare.
+          absurd (subst (λ (o : Option (Vec Key Global)). IsSomeAnd o (λ keys. AreListed c.in-Some.held.position c.args.p h needs keys.items)) w.in-None.is
+          (c.in_ok-asked.ensures.bare (bare_held s c.in-Some.held c.args.self.now h q c.args.p needs view stands c.needs-needs.ensures bare)))
+      | in-Some-asked+in_ok-advanced-in-Some-asked w ↦ λ q stands bare.
+          let listed : AreListed c.in-Some.held.position c.args.p h needs w.in-Some-asked.reported.items =
+          subst (λ (o : Option (Vec Key Global)). IsSomeAnd o (λ keys. AreListed c.in-Some.held.position c.args.p h needs keys.items)) w.in-Some-asked.is
+          (c.in_ok-asked.ensures.bare (bare_held s c.in-Some.held c.args.self.now h q c.args.p needs view stands c.needs-needs.ensures bare)) in
+          little_held c.few_touches.ensures c.few_applications.ensures s c.in-Some.held c.in-Some-replace.held w.in_ok-advanced-in-Some-asked.advanced c.match-asked.advanced c.args.self.now h q c.args.p needs w.in-Some-asked.reported.items w.as_slice.result.now
+          view same stands c.needs-needs.ensures w.as_slice.ensures.value listed w.in_ok-advanced-in-Some-asked.ensures.advanced w.advanced-is
+    ]

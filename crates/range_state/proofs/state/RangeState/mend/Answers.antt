@@ -1,0 +1,55 @@
+use Rattle.std.proofs.Common.{◌≡◌, ℕ, ◌+◌, ◌≤◌, List, filter, not, take, false, Option, Some, IfSome, sym, ap, ◌∙◌, subst}
+use Rattle.std.specs.List.{list_any}
+use Rattle.semantics.specs.Patterns.{Pattern, Slots}
+use Rattle.semantics.specs.States.{below}
+use Rattle.lazy_log.specs.Pending.{PendingSlots, meets_output}
+use Rattle.kept_ranges.specs.Sound.{KeptRange, IsSound, IsSoundAt}
+use Rattle.range_state.specs.Held.{FitsJoin, range_kept, view_of}
+use Rattle.range_state.specs.Ready.{StandsAt, pending_meets}
+use Rattle.range_state.specs.Work.{AreBareUnder, mend_steps}
+use Rattle.range_state.proofs.MendLemmas.{parted_sound, none_left, mending_takes}
+use Rattle.range_state.proofs.state.RangeState.mend.Goals as goal
+
+pub mend_all-requires-clause-sound : goal.mend_all-requires-clause-sound
+mend_all-requires-clause-sound g c =
+    let s = c.self.inside.subject in
+    let held = c.in-Some.held in
+    let h = g.R.Reader.list c.args.reader.now in
+    let was : c.self.inside.held ≡ Some held = sym c.replace.ensures.value ∙ c.in-Some.is in
+    let view : range_kept s held ≡ c.args.self.now = sym (ap (view_of s) was) ∙ c.self.view_is in
+    let sound : IsSoundAt (range_kept s held) h held.position = subst (λ (v : KeptRange). IsSound v h) (sym view) c.requires.sound in
+    parted_sound (range_kept s held) h held.position (meets_output held.pending.output c.args.range.now) c.in_ok-taken.taken.items c.take_meeting.new.self.noted c.in_ok-taken.ensures.taken (ap (λ (p : PendingSlots). p.noted) c.in_ok-taken.ensures.left) sound
+
+pub returns-clause-left : goal.returns-clause-left
+returns-clause-left g c =
+    let s = c.self.inside.subject in
+    let held = c.in-Some.held in
+    let was : c.self.inside.held ≡ Some held = sym c.replace.ensures.value ∙ c.in-Some.is in
+    let view : range_kept s held ≡ c.args.self.now = sym (ap (view_of s) was) ∙ c.self.view_is in
+    let fits : FitsJoin s.join held = subst (λ o. IfSome o (FitsJoin s.join)) was c.self.invariant in
+    ap (λ (p : PendingSlots). p.noted) (c.in_ok-mend_all.ensures.stays.pending ∙ c.in_ok-taken.ensures.left)
+    ∙ ap (λ (output : Pattern). filter (λ slots. not (meets_output output c.args.range.now slots)) held.pending.noted) fits.output
+    ∙ ap (λ (v : KeptRange). filter (λ slots. not (meets_output v.join.output c.args.range.now slots)) v.kept.pending) view
+
+pub returns-clause-clear : goal.returns-clause-clear
+returns-clause-clear g c =
+    let s = c.self.inside.subject in
+    let held = c.in-Some.held in
+    let was : c.self.inside.held ≡ Some held = sym c.replace.ensures.value ∙ c.in-Some.is in
+    let fits : FitsJoin s.join held = subst (λ o. IfSome o (FitsJoin s.join)) was c.self.invariant in
+    let left : c.mend_all.new.held.pending.noted ≡ filter (λ slots. not (meets_output s.join.output c.args.range.now slots)) held.pending.noted =
+    ap (λ (p : PendingSlots). p.noted) (c.in_ok-mend_all.ensures.stays.pending ∙ c.in_ok-taken.ensures.left) ∙ ap (λ (output : Pattern). filter (λ slots. not (meets_output output c.args.range.now slots)) held.pending.noted) fits.output in
+    ap (list_any (meets_output s.join.output c.args.range.now)) left ∙ none_left (meets_output s.join.output c.args.range.now) held.pending.noted
+
+pub returns-clause-cost : goal.returns-clause-cost
+returns-clause-cost g c =
+    let s = c.self.inside.subject in
+    let held = c.in-Some.held in
+    let h = g.R.Reader.list c.args.reader.now in
+    let was : c.self.inside.held ≡ Some held = sym c.replace.ensures.value ∙ c.in-Some.is in
+    let view : range_kept s held ≡ c.args.self.now = sym (ap (view_of s) was) ∙ c.self.view_is in
+    let fits : FitsJoin s.join held = subst (λ o. IfSome o (FitsJoin s.join)) was c.self.invariant in
+    let taken : c.in_ok-taken.taken.items ≡ filter (meets_output s.join.output c.args.range.now) held.pending.noted =
+    c.in_ok-taken.ensures.taken ∙ ap (λ (output : Pattern). filter (meets_output output c.args.range.now) held.pending.noted) fits.output in
+    subst (λ (v : KeptRange). (q : ℕ) → StandsAt q v → AreBareUnder v h q c.args.range.now → c.mend_all.new.steps ≤ c.args.steps.now + mend_steps v (below (take q h) v.rank) c.args.range.now) view
+    (mending_takes s held h c.args.range.now c.in_ok-taken.taken.items c.args.steps.now c.mend_all.new.steps taken c.in_ok-mend_all.ensures.cost)

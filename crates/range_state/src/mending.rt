@@ -1,0 +1,101 @@
+// Mending slots that were pending.
+ghost use Rattle.std.specs.Prelude.{◌≡◌, ◌+◌, ◌≤◌, ◌++◌, length, not, is_some, take, true, OnOk};
+ghost use Rattle.semantics.specs.Texts.{is_range, pairs_where};
+ghost use Rattle.semantics.specs.Patterns.{bind};
+ghost use Rattle.semantics.specs.Joins.{copy, value_operator};
+ghost use Rattle.semantics.specs.Histories.{joins_of};
+ghost use Rattle.semantics.specs.Outputs.{out};
+ghost use Rattle.semantics.specs.States.{below, merged};
+ghost use Rattle.growing_history.specs.Entered.{HasEntered, HasRank};
+ghost use Rattle.range_evaluation.specs.Trees.{is_asked, tree};
+ghost use Rattle.range_evaluation.specs.TreeLaws.{AreOutputSlots};
+ghost use Rattle.join_rows.specs.Kept.{AddsEach};
+ghost use Rattle.join_eval.specs.Moves.{Moves};
+ghost use Rattle.kept_ranges.specs.Notes.{note_limit};
+ghost use Rattle.kept_ranges.specs.Sound.{IsSoundAt};
+ghost use Rattle.range_state.specs.Held.{FitsJoin, range_kept};
+ghost use Rattle.range_state.specs.Mended.{AreAllBare, AreBareFor, KeepsPlace, steps_for, steps_under, with_pending};
+
+use crate::holding::Holding;
+use crate::subject::Subject;
+use join_eval::{Reader, evaluate};
+use join_rows::Rows;
+use key_pattern::SlotTexts;
+use out_of_memory::OutOfMemory;
+use range_notes::{Marked, Note};
+use std::mem;
+use std::sync::ledger::Ledger;
+use steps::Steps;
+
+/// Finds the rows under some slots again at a position, and adds the needs that are found.
+///
+/// On `OutOfMemory` rows may be lost.
+fn mend_slots<R: Reader, L: Ledger>(
+    subject: &Subject,
+    position: u64,
+    rows: &mut Rows,
+    slots: &SlotTexts,
+    reader: &mut R,
+    steps: &mut Steps<L>,
+) -> Result<(), OutOfMemory>
+    requires within { position ≤ length (R.list reader.old) }
+    requires above { R.floor reader.old ≤ position }
+    requires entered { HasEntered (R.list reader.old) }
+    requires stands { HasRank (joins_of (take position (R.list reader.old))) subject.now.join subject.now.rank }
+    requires ranked { subject.now.rank ≤ R.top }
+    requires copies { value_operator subject.now.join ≡ copy }
+    requires own_slots { AreOutputSlots subject.now.join slots.now }
+    ensures rows { OnOk result (rows.new.pairs ≡ merged (pairs_where (λ key. not (is_some (bind subject.now.join.output key slots.now))) rows.old.pairs)
+        (pairs_where (is_asked subject.now.join.output slots.now subject.now.range) (out subject.now.join (below (take position (R.list reader.old)) subject.now.rank)))) }
+    ensures needs { OnOk result (AddsEach (tree subject.now.join slots.now subject.now.range (below (take position (R.list reader.old)) subject.now.rank)) rows.old.needs rows.new.needs) }
+    ensures moves { Moves R.list R.floor R.went reader.old reader.new }
+    ensures counted { steps.old ≤ steps.new }
+    ensures cost { AreBareFor subject.now (R.list reader.old) position slots.now → OnOk result (steps.new ≤ steps.old + steps_for subject.now (R.list reader.old) position slots.now) }
+{
+    let slots = slots.lend();
+    let Subject {
+        alloc,
+        join,
+        rank,
+        range,
+    } = subject;
+    let found = evaluate(*alloc, join, *rank, range, &slots, position, reader, steps)?;
+    rows.drop_fitting(&join.output, &slots);
+    let left = mem::replace(rows, Rows::new(*alloc));
+    *rows = left.merge(found)?;
+    Ok(())
+}
+
+/// Mends these slots where it stands, one after another, and notes them.
+///
+/// On `OutOfMemory` what is held may be wrong.
+pub fn mend_all<R: Reader, L: Ledger>(
+    subject: &Subject,
+    held: &mut Holding,
+    taken: Vec<SlotTexts>,
+    reader: &mut R,
+    steps: &mut Steps<L>,
+) -> Result<(), OutOfMemory>
+    requires above { R.floor reader.old ≤ held.old.position }
+    requires entered { HasEntered (R.list reader.old) }
+    requires ranked { subject.now.rank ≤ R.top }
+    requires is_range { is_range subject.now.range.low subject.now.range.high ≡ true }
+    requires fits { FitsJoin subject.now.join held.old }
+    requires sound { IsSoundAt (with_pending (taken.items ++ held.old.pending.noted) (range_kept subject.now held.old)) (R.list reader.old) held.old.position }
+    ensures fits { OnOk result (FitsJoin subject.now.join held.new) }
+    ensures stays { KeepsPlace held.old held.new }
+    ensures sound { OnOk result (IsSoundAt (range_kept subject.now held.new) (R.list reader.new) held.old.position) }
+    ensures start { length held.old.notes.list + length taken.items ≤ note_limit → OnOk result (held.new.notes.start ≡ held.old.notes.start) }
+    ensures moves { Moves R.list R.floor R.went reader.old reader.new }
+    ensures counted { steps.old ≤ steps.new }
+    ensures cost { AreAllBare subject.now (R.list reader.old) held.old.position taken.items →
+        OnOk result (steps.new ≤ steps.old + steps_under subject.now (R.list reader.old) held.old.position taken.items) }
+{
+    let position = held.position;
+    for slots in taken {
+        mend_slots(subject, position, &mut held.rows, &slots, reader, steps)?;
+        let mark = Marked::Slots(slots);
+        held.notes.add(Note { position, mark })?;
+    }
+    Ok(())
+}

@@ -1,0 +1,314 @@
+// A kept range.
+ghost use Rattle.std.specs.Prelude.{◌≡◌, ℕ, ◌+◌, ◌≤◌, [], length, filter, take, false, not, IfOk, IsSome, OnOk, OnErr};
+ghost use Rattle.std.specs.Option.{IsSomeAnd};
+ghost use Rattle.semantics.specs.Texts.{pairs_within};
+ghost use Rattle.semantics.specs.Joins.{checks_of};
+ghost use Rattle.semantics.specs.Histories.{History, joins_of};
+ghost use Rattle.semantics.specs.Outputs.{out};
+ghost use Rattle.semantics.specs.States.{below};
+ghost use Rattle.growing_history.specs.Entered.{HasEntered, HasRank};
+ghost use Rattle.range_evaluation.specs.Trees.{reading_steps};
+ghost use Rattle.lazy_log.specs.Pending.{meets_output};
+ghost use Rattle.join_eval.specs.Moves.{Moves};
+ghost use Rattle.join_eval.specs.Walks.{AreBare};
+ghost use Rattle.kept_ranges.specs.Notes.{note_limit};
+ghost use Rattle.kept_ranges.specs.Sound.{IsSound};
+ghost use Rattle.range_state.specs.Held.{forgotten};
+ghost use Rattle.range_state.specs.Ready.{HasSameSubject, pending_meets, StandsAt, StandsOrIsForgotten};
+ghost use Rattle.range_state.specs.Since.{AnswersSince, ListsAllSince};
+ghost use Rattle.range_state.specs.Work.{AreBareThroughout, advance_steps, AreBareUnder, fill_needs, mend_steps, TouchesLittle};
+
+use crate::advancing::advance_held;
+use crate::filling::fill_at;
+use crate::holding::Holding;
+use crate::mending::mend_all;
+use crate::subject::Subject;
+use join_eval::{Changed, Reader};
+use join_types::{Join, Pair};
+use key_space::Range;
+use out_of_memory::OutOfMemory;
+use source_changes::ask_needs;
+use source_changes::laws::{advance_is_cheap, applied_are_bare, few_applications, few_touches};
+use std::alloc::Global;
+use std::marker::Model;
+use std::mem;
+use std::sync::ledger::Ledger;
+use steps::Steps;
+
+/// What is kept for a range of a join's output: nothing, or its rows at a position with all that brings them to a later
+/// one.
+#[derive(Drop)]
+pub struct RangeState {
+    subject: Subject,
+    held: Option<Holding>,
+}
+
+impl Model for RangeState {
+    ghost use Rattle.std.specs.Prelude.{IfSome};
+    ghost use Rattle.kept_ranges.specs.Sound.{KeptRange};
+    ghost use Rattle.range_state.specs.Held.{view_of, FitsJoin};
+
+    ghost Value = { KeptRange };
+
+    ghost view = { λ s. view_of s.subject s.held };
+
+    ghost invariant = { λ s. IfSome s.held (FitsJoin s.subject.join) };
+}
+
+impl RangeState {
+    /// A kept range of a join's output, with the join's rank, for which nothing is kept yet. What will be kept grows by this
+    /// allocator. Nothing is allocated.
+    pub fn new(alloc: Global, join: Join, rank: u8, range: Range) -> RangeState
+        ensures { result ≡ forgotten join rank range }
+    {
+        RangeState {
+            subject: Subject {
+                alloc,
+                join,
+                rank,
+                range,
+            },
+            held: None,
+        }
+    }
+
+    /// Where it stands: after how many entries. None exactly where nothing is kept.
+    pub fn position(&self) -> Option<u64>
+        ensures { result ≡ self.now.position }
+    {
+        match &self.held {
+            None => None,
+            Some(held) => Some(held.position),
+        }
+    }
+
+    /// The number of its rows, 0 where nothing is kept. It takes constant time.
+    pub fn rows(&self) -> u64
+        ensures { result ≡ length self.now.kept.rows }
+    {
+        match &self.held {
+            None => 0,
+            Some(held) => held.rows.len(),
+        }
+    }
+
+    /// Whether something pending meets the range. Linear in what is pending, and nothing is allocated.
+    pub fn pending_meets(&self, range: &Range) -> bool
+        ensures { result ≡ pending_meets self.now range.now }
+    {
+        match &self.held {
+            None => false,
+            Some(held) => held.pending.meets(range),
+        }
+    }
+
+    /// The join.
+    pub fn join(&self) -> &Join
+        ensures { result.now ≡ self.now.join }
+    {
+        &self.subject.join
+    }
+
+    /// The join's rank.
+    pub fn rank(&self) -> u8
+        ensures { result ≡ self.now.rank }
+    {
+        self.subject.rank
+    }
+
+    /// The range of the join's output.
+    pub fn range(&self) -> &Range
+        ensures { result.now ≡ self.now.range }
+    {
+        &self.subject.range
+    }
+
+    /// Lets go of all that is kept.
+    pub fn forget(&mut self)
+        ensures { self.new ≡ forgotten self.old.join self.old.rank self.old.range }
+    {
+        self.held = None;
+    }
+
+    /// Evaluates the join over its range after p entries, and keeps what it finds. Nothing is pending then. Linear in what
+    /// it reads, and logarithmic in the rows for each of them.
+    ///
+    /// On `OutOfMemory` nothing is kept. The reader may have gone on and steps may have been taken, here and in the other
+    /// calls over a reader.
+    ///
+    /// Where the ranges that are read are all bare, it takes at most one step for each of them and one for each pair in it.
+    pub fn fill<R: Reader, L: Ledger>(
+        &mut self,
+        p: u64,
+        reader: &mut R,
+        steps: &mut Steps<L>,
+    ) -> Result<(), OutOfMemory>
+        requires forgotten { self.old.position ≡ None }
+        requires within { p ≤ length (R.list reader.old) }
+        requires above { R.floor reader.old ≤ p }
+        requires entered { HasEntered (R.list reader.old) }
+        requires stands { HasRank (joins_of (take p (R.list reader.old))) self.old.join self.old.rank }
+        requires ranked { self.old.rank ≤ R.top }
+        ensures same { HasSameSubject self.old self.new }
+        ensures at { OnOk result (StandsAt p self.new) }
+        ensures clear { OnOk result (self.new.kept.pending ≡ []) }
+        ensures err { OnErr result (self.new.position ≡ None) }
+        ensures sound { IsSound self.new (R.list reader.new) }
+        ensures moves { Moves R.list R.floor R.went reader.old reader.new }
+        ensures counted { steps.old ≤ steps.new }
+        ensures cost { AreBare (joins_of (take p (R.list reader.old))) (fill_needs self.old.join self.old.range (below (take p (R.list reader.old)) self.old.rank)) →
+            OnOk result (steps.new ≤ steps.old + reading_steps (fill_needs self.old.join self.old.range (below (take p (R.list reader.old)) self.old.rank)) (below (take p (R.list reader.old)) self.old.rank)) }
+    {
+        let filled = fill_at(&self.subject, p, reader, steps)?;
+        self.held = Some(filled);
+        Ok(())
+    }
+
+    /// Brings it forward to where p entries stand. Slots of the output that changed pairs of check sources touch are pending
+    /// then, and changed pairs of the value source are applied. Where the reader does not know what changed in a range that
+    /// was read, it is filled again instead; where it stands at p already, nothing is done.
+    ///
+    /// It asks the reader once for each need, and then takes work for each changed key that is logarithmic in the rows.
+    ///
+    /// Where the ranges of its needs are bare from its position on to p, it takes at most one step for each need and three
+    /// for each key of its range that was put or removed in between.
+    ///
+    /// On `OutOfMemory` it is unchanged, or nothing is kept.
+    pub fn advance<R: Reader, L: Ledger>(
+        &mut self,
+        p: u64,
+        reader: &mut R,
+        steps: &mut Steps<L>,
+    ) -> Result<(), OutOfMemory>
+        requires order { IsSomeAnd self.old.position (λ q. (R.floor reader.old ≤ q) × (q ≤ p)) }
+        requires within { p ≤ length (R.list reader.old) }
+        requires entered { HasEntered (R.list reader.old) }
+        requires stands { HasRank (joins_of (take p (R.list reader.old))) self.old.join self.old.rank }
+        requires ranked { self.old.rank ≤ R.top }
+        requires sound { IsSound self.old (R.list reader.old) }
+        ensures same { HasSameSubject self.old self.new }
+        ensures at { OnOk result (StandsAt p self.new) }
+        ensures err { OnErr result (StandsOrIsForgotten self.old self.new) }
+        ensures sound { IsSound self.new (R.list reader.new) }
+        ensures unchecked { checks_of self.old.join.sources ≡ [] → self.old.kept.pending ≡ [] → self.new.kept.pending ≡ [] }
+        ensures moves { Moves R.list R.floor R.went reader.old reader.new }
+        ensures counted { steps.old ≤ steps.new }
+        ensures cost { (q : ℕ) → StandsAt q self.old → AreBareThroughout (R.list reader.old) q p self.old.kept.needs →
+            OnOk result (steps.new ≤ steps.old + advance_steps (R.list reader.old) q p self.old.kept.needs) }
+        ensures little { (q : ℕ) → StandsAt q self.old → AreBareThroughout (R.list reader.old) q p self.old.kept.needs →
+            OnOk result (TouchesLittle (R.list reader.old) q p self.old self.new) }
+    {
+        let Some(held) = &self.held else {
+            unreachable!()
+        };
+        if held.position == p {
+            return Ok(());
+        }
+        self.subject.look();
+        let Subject { alloc, rank, .. } = &self.subject;
+        let needs = held.rows.needs();
+        advance_is_cheap();
+        applied_are_bare();
+        few_touches();
+        few_applications();
+        let asked = ask_needs(*alloc, needs, *rank, held.position, p, reader, steps)?;
+        let Some(held) = mem::replace(&mut self.held, None) else {
+            unreachable!()
+        };
+        let advanced = match asked {
+            None => fill_at(&self.subject, p, reader, steps)?,
+            Some(reported) => {
+                advance_held(&self.subject, held, reported.as_slice(), p, reader, steps)?
+            }
+        };
+        self.held = Some(advanced);
+        Ok(())
+    }
+
+    /// Mends it where something pending meets a range: the rows under those slots are found again where it stands.
+    ///
+    /// For each of the slots it takes the search for the rows under them, and what evaluating the join under them takes.
+    ///
+    /// On `OutOfMemory` it is unchanged, or nothing is kept.
+    ///
+    /// Where the ranges that are read are all bare, it takes at most one step for each of them and one for each pair in it.
+    pub fn mend<R: Reader, L: Ledger>(
+        &mut self,
+        range: &Range,
+        reader: &mut R,
+        steps: &mut Steps<L>,
+    ) -> Result<(), OutOfMemory>
+        requires above { IsSomeAnd self.old.position (λ q. R.floor reader.old ≤ q) }
+        requires entered { HasEntered (R.list reader.old) }
+        requires ranked { self.old.rank ≤ R.top }
+        requires sound { IsSound self.old (R.list reader.old) }
+        ensures same { HasSameSubject self.old self.new }
+        ensures at { OnOk result (self.new.position ≡ self.old.position) }
+        ensures clear { OnOk result (pending_meets self.new range.now ≡ false) }
+        ensures left { OnOk result (self.new.kept.pending ≡ filter (λ slots. not (meets_output self.old.join.output range.now slots)) self.old.kept.pending) }
+        ensures err { OnErr result (StandsOrIsForgotten self.old self.new) }
+        ensures sound { IsSound self.new (R.list reader.new) }
+        ensures start { length self.old.notes.list + length (filter (meets_output self.old.join.output range.now) self.old.kept.pending) ≤ note_limit → OnOk result (self.new.notes.start ≡ self.old.notes.start) }
+        ensures moves { Moves R.list R.floor R.went reader.old reader.new }
+        ensures counted { steps.old ≤ steps.new }
+        ensures cost { (q : ℕ) → StandsAt q self.old → AreBareUnder self.old (R.list reader.old) q range.now →
+            OnOk result (steps.new ≤ steps.old + mend_steps self.old (below (take q (R.list reader.old)) self.old.rank) range.now) }
+    {
+        self.subject.look();
+        let Some(mut held) = mem::replace(&mut self.held, None) else {
+            unreachable!()
+        };
+        let taken = held.pending.take_meeting(range)?;
+        mend_all(&self.subject, &mut held, taken, reader, steps)?;
+        self.held = Some(held);
+        Ok(())
+    }
+
+    /// Its rows in a range, in the order of their keys: the join's output in the part of the range that is its own, where it
+    /// stands. It takes the search for the range, and is linear in what it gives; texts are shared.
+    ///
+    /// It takes one step, and one for each row that it gives.
+    pub fn read<L: Ledger>(
+        &self,
+        range: &Range,
+        steps: &mut Steps<L>,
+    ) -> Result<Vec<Pair>, OutOfMemory>
+        requires stands { IsSome self.now.position }
+        requires clear { pending_meets self.now range.now ≡ false }
+        ensures rows { IfOk result (λ pairs. pairs.items ≡ pairs_within range.now self.now.kept.rows) }
+        ensures output { IfOk result (λ pairs. (h : History) (q : ℕ) → HasEntered h → StandsAt q self.now → IsSound self.now h →
+            pairs.items ≡ pairs_within range.now (pairs_within self.now.range (out self.now.join (below (take q h) self.now.rank)))) }
+        ensures counted { steps.old ≤ steps.new }
+        ensures cost { IfOk result (λ pairs. steps.new ≡ steps.old + 1 + length pairs.items) }
+    {
+        let Some(held) = &self.held else {
+            unreachable!()
+        };
+        let pairs = held.rows.within(range)?;
+        steps.count_call(pairs.len());
+        Ok(pairs)
+    }
+
+    /// What changed in a range of its output since a position, at or before the one where it stands: `All` exactly where
+    /// nothing is kept, its notes start later, or slots meet the range that are pending or were noted since; otherwise the
+    /// keys of the range that were noted since, ascending, each once. At each other key of both ranges the output is the
+    /// same since then. It takes a look at each note and at all that is pending, and the sorting of the keys that it gives.
+    pub fn changed_since(&self, since: u64, range: &Range) -> Result<Changed, OutOfMemory>
+        ensures answer { IfOk result (AnswersSince since range.now self.now) }
+        ensures same { IfOk result (λ answer. (h : History) (q : ℕ) → HasEntered h → StandsAt q self.now → IsSound self.now h → ListsAllSince self.now h since q range.now answer) }
+    {
+        let Some(held) = &self.held else {
+            return Ok(Changed::All);
+        };
+        let Subject { alloc, join, .. } = &self.subject;
+        if since < held.notes.start()
+            || held.pending.meets(range)
+            || held
+                .notes
+                .slots_meet_since(*alloc, &join.output, since, range)?
+        {
+            return Ok(Changed::All);
+        }
+        Ok(Changed::Keys(held.notes.keys_since(*alloc, since, range)?))
+    }
+}

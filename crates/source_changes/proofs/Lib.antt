@@ -1,0 +1,8 @@
+mod OrderLemmas
+mod ListLemmas
+mod ApplyingLemmas
+mod LongerLemmas
+mod AskingLemmas
+pub mod SettingLemmas
+mod FillingLemmas
+mod CountLemmas

@@ -1,0 +1,42 @@
+-- What is said of changes over a list that has grown is so over the list before.
+use Rattle.std.proofs.Common.{◌≡◌, ℕ, ◌-◌, ◌≤◌, length, take, drop, true, sym, ap, ◌∙◌, subst, arith, length-drop}
+use Rattle.std.proofs.lemmas.List.{take-append-le, drop-append-le}
+use Rattle.semantics.specs.Texts.{Text, Range, value_at}
+use Rattle.semantics.specs.Histories.{History, IsPrefix, joins_of}
+use Rattle.semantics.specs.States.{below}
+use Rattle.growing_history.specs.Changes.{entries_between, changed_keys, Same, is_bare}
+use Rattle.growing_history.proofs.PrefixLemmas.{take_prefix}
+use Rattle.join_eval.specs.Answers.{IsBareAt, IsBareThroughout}
+
+-- what is the same at all positions of a longer history is so of the shorter one
+pub same_before : (h more : History) (q p rank : ℕ) (key : Text) → IsPrefix h more → p ≤ length h → q ≤ p → Same more q p rank key → Same h q p rank key
+same_before h more q p rank key prefix within order same x above up =
+    let at_x : take x more ≡ take x h = take_prefix x h more (omega arith) prefix in
+    let at_q : take q more ≡ take q h = take_prefix q h more (omega arith) prefix in
+    ap (λ (es : History). value_at key (below es rank)) (sym at_x) ∙ same x above up ∙ ap (λ (es : History). value_at key (below es rank)) at_q
+
+-- the entries between two positions of a history stay
+entries_longer : (h more : History) (q p : ℕ) → IsPrefix h more → p ≤ length h → q ≤ p → entries_between q p more ≡ entries_between q p h
+entries_longer h more q p prefix within order =
+    ap (λ (es : History). take (p - q) (drop q es)) prefix.1
+    ∙ ap (take (p - q)) (drop-append-le q h prefix.0 (omega arith))
+    ∙ take-append-le (p - q) (drop q h) prefix.0 (omega (arith, length-drop q h))
+
+-- so do the changed keys
+pub changed_longer : (h more : History) (q p : ℕ) (range : Range) → IsPrefix h more → p ≤ length h → q ≤ p → changed_keys q p range more ≡ changed_keys q p range h
+unfolding changed_keys
+changed_longer h more q p range prefix within order = rw (entries_longer h more q p prefix within order)
+
+-- a range that is bare from q to p is so over a longer history
+pub bare_longer : (h more : History) (q p : ℕ) (range : Range) → IsPrefix h more → p ≤ length h → IsBareThroughout h q p range → IsBareThroughout more q p range
+bare_longer h more q p range prefix within bare x above up =
+    let at_x : take x more ≡ take x h = take_prefix x h more (omega arith) prefix in
+    subst (λ (es : History). is_bare range (joins_of es) ≡ true) (sym at_x) (bare x above up)
+
+-- one that is bare at a position is so over a longer history
+pub bare_at_longer : (h more : History) (p : ℕ) (range : Range) → IsPrefix h more → p ≤ length h → IsBareAt h p range → IsBareAt more p range
+bare_at_longer h more p range prefix within bare = subst (λ (es : History). is_bare range (joins_of es) ≡ true) (sym (take_prefix p h more within prefix)) bare
+
+-- what stands below a rank after so many entries stays
+pub below_longer : (h more : History) (p rank : ℕ) → IsPrefix h more → p ≤ length h → below (take p more) rank ≡ below (take p h) rank
+below_longer h more p rank prefix within = ap (λ (es : History). below es rank) (take_prefix p h more within prefix)

@@ -1,0 +1,68 @@
+use Rattle.std.proofs.Common.{◌≡◌, ◌+◌, ◌++◌, take, sym, ap, ◌∙◌, subst, arith}
+use Rattle.growing_history.specs.Changes.{changed_keys}
+use Rattle.range_evaluation.specs.Trees.{Need}
+use Rattle.kept_ranges.specs.SoundLaws.{AreReportedBetween}
+use Rattle.join_eval.proofs.MovesLemmas.{moves_trans}
+use Rattle.source_changes.specs.Asking.{LieInRanges}
+use Rattle.source_changes.proofs.ListLemmas.{flat_map_more}
+use Rattle.source_changes.proofs.AskingLemmas.{inside_more, complete_more, asking_more, bare_read, lists_no_all, lists_keys, lists_changed, steps_changed}
+use Rattle.source_changes.proofs.asking.gather_answers.Goals as goal
+
+pub returns-in-All-clause-bare : goal.returns-in-All-clause-bare
+returns-in-All-clause-bare g c =
+    let before = c.loop-need.invariant in
+    let need = c.need-item.result in
+    let same : c.need.inside.range ≡ need.range = ap (λ (n : Need). n.range) c.need.view_is in
+    λ all. lists_no_all _ c.in_ok-keys.field-0 c.in-All.is
+    (c.in_ok-keys.ensures.bare (bare_read _ _ c.args.q c.args.p c.args.needs.now c.loop-need.need-index need c.need.inside.range before.moves.kept c.requires.within c.loop-need-test.true c.need-item.is same all))
+
+pub returns-in-All-clause-bare_cost : goal.returns-in-All-clause-bare_cost
+returns-in-All-clause-bare_cost g c =
+    let before = c.loop-need.invariant in
+    let need = c.need-item.result in
+    let same : c.need.inside.range ≡ need.range = ap (λ (n : Need). n.range) c.need.view_is in
+    λ all. lists_no_all _ c.in_ok-keys.field-0 c.in-All.is
+    (c.in_ok-keys.ensures.bare (bare_read _ _ c.args.q c.args.p c.args.needs.now c.loop-need.need-index need c.need.inside.range before.moves.kept c.requires.within c.loop-need-test.true c.need-item.is same all))
+
+pub loop-need-preserved : goal.loop-need-preserved
+loop-need-preserved g c =
+    let before = c.loop-need.invariant in
+    let h = g.R.Reader.list c.args.reader.now in
+    let here = g.R.Reader.list c.loop-need.reader in
+    let q = c.args.q in
+    let p = c.args.p in
+    let rank = c.args.rank in
+    let needs = c.args.needs.now in
+    let index = c.loop-need.need-index in
+    let need = c.need-item.result in
+    let range = c.need.inside.range in
+    let less = c.loop-need-test.true in
+    let read = c.need-item.is in
+    let told = c.loop-need.answers.items in
+    let keys = c.in-Keys.keys in
+    let answer = c.in_ok-keys.field-0 in
+    let same : range ≡ need.range = ap (λ (n : Need). n.range) c.need.view_is in
+    let added : c.append.new.self.items ≡ told ++ keys.items = c.in_ok-append-in-Keys.ensures.items in
+    let lists = lists_keys here q p rank need range answer keys c.in-Keys.is same c.in_ok-keys.ensures.exact in
+    record {
+      inside = subst (LieInRanges needs) (sym added) (inside_more needs told keys.items index need less read lists.inside before.inside);
+      complete = subst (AreReportedBetween h q p rank (take (index + 1) needs)) (sym added) (complete_more h here q p rank needs told keys.items index need before.moves.kept c.requires.within c.requires.order less read lists before.complete);
+      bare = λ all.
+          let bare = bare_read h here q p needs index need range before.moves.kept c.requires.within less read same all in
+          let changed = lists_changed h here q p need range answer keys before.moves.kept c.requires.within c.requires.order c.in-Keys.is same (c.in_ok-keys.ensures.bare bare) in
+          flat_map_more (λ (n : Need). changed_keys q p n.range h) told c.append.new.self.items needs index need less read (added ∙ ap (λ l. told ++ l) changed) (before.bare all);
+      bare_cost = λ all.
+          let bare = bare_read h here q p needs index need range before.moves.kept c.requires.within less read same all in
+          let cost = steps_changed h here q p need range c.loop-need.steps c.changed.new.steps before.moves.kept c.requires.within c.requires.order same (c.in_ok-keys.ensures.bare_cost bare) in
+          let more = asking_more h q p needs index need less read in
+          let so_far = before.bare_cost all in
+          omega arith;
+      moves = moves_trans g.R.Reader.list g.R.Reader.floor g.R.Reader.went c.args.reader.now c.loop-need.reader c.changed.new.self (g.met.R.Reader.went_trans c.args.reader.now c.loop-need.reader c.changed.new.self) before.moves
+          (record {
+            kept = c.in_ok-keys.ensures.kept;
+            entered = λ _. c.in_ok-keys.ensures.entered;
+            same_floor = c.in_ok-keys.ensures.same_floor;
+            on = c.in_ok-keys.ensures.on;
+          });
+      counted = let one = c.in_ok-keys.ensures.counted in let so_far = before.counted in omega arith;
+    }

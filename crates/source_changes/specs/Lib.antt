@@ -1,0 +1,4 @@
+pub mod Filling
+pub mod Asking
+pub mod Setting
+pub mod Laws

@@ -1,0 +1,109 @@
+// What a reader says of the ranges of needs.
+ghost use Rattle.std.specs.Prelude.{◌≡◌, ◌+◌, ◌≤◌, length, flat_map, Any, IfOk, IfSome, IfNone, true};
+ghost use Rattle.std.specs.Option.{IsSomeAnd};
+ghost use Rattle.std.specs.List.Sorted.{IsStrictlySortedBy};
+ghost use Rattle.semantics.specs.Texts.{text_cmp, is_range};
+ghost use Rattle.growing_history.specs.Changes.{changed_keys};
+ghost use Rattle.kept_ranges.specs.SoundLaws.{AreReportedBetween};
+ghost use Rattle.join_eval.specs.Answers.{MayNotBeKnown};
+ghost use Rattle.join_eval.specs.Moves.{Moves};
+ghost use Rattle.source_changes.specs.Asking.{HaveRanges, AreBareThroughout, LieInRanges, AreListed, asking_steps};
+
+use crate::merging::merged;
+use join_eval::{Changed, Reader};
+use join_rows::Need;
+use key_space::{Key, Range};
+use out_of_memory::OutOfMemory;
+use std::alloc::Global;
+use std::sync::ledger::Ledger;
+use steps::Steps;
+
+/// Looks at the range, and so knows that its bounds are those of a range.
+fn look_at(range: &Range)
+    ensures { is_range range.now.low range.now.high ≡ true }
+{
+    let _low = range.lo();
+}
+
+/// Looks at the range of each need.
+fn look_at_ranges(needs: &[Need])
+    ensures { HaveRanges needs.now }
+{
+    for need in needs {
+        look_at(&need.range);
+    }
+}
+
+/// Asks for each need what changed in its range, and puts the answers one after another; none where some answer is that it
+/// is not known.
+fn gather_answers<R: Reader, L: Ledger>(
+    alloc: Global,
+    needs: &[Need],
+    rank: u8,
+    q: u64,
+    p: u64,
+    reader: &mut R,
+    steps: &mut Steps<L>,
+) -> Result<Option<Vec<Key>>, OutOfMemory>
+    requires order { q ≤ p }
+    requires within { p ≤ length (R.list reader.old) }
+    requires above { R.floor reader.old ≤ q }
+    requires ranked { rank ≤ R.top }
+    ensures inside { IfOk result (λ found. IfSome found (λ keys. LieInRanges needs.now keys.items)) }
+    ensures complete { IfOk result (λ found. IfSome found (λ keys. AreReportedBetween (R.list reader.old) q p rank needs.now keys.items)) }
+    ensures unknown { IfOk result (λ found. IfNone found (Any (λ need. MayNotBeKnown (R.list reader.old) q p rank need.range) needs.now)) }
+    ensures bare { AreBareThroughout (R.list reader.old) q p needs.now → IfOk result (λ found. IsSomeAnd found (λ keys. keys.items ≡ flat_map (λ need. changed_keys q p need.range (R.list reader.old)) needs.now)) }
+    ensures bare_cost { AreBareThroughout (R.list reader.old) q p needs.now → IfOk result (λ _. steps.new ≡ steps.old + asking_steps q p (R.list reader.old) needs.now) }
+    ensures moves { Moves R.list R.floor R.went reader.old reader.new }
+    ensures counted { steps.old ≤ steps.new }
+{
+    let mut answers = Vec::new(alloc);
+    for need in needs {
+        match reader.changed(q, p, &need.range, rank, steps)? {
+            Changed::Keys(mut keys) => answers.append(&mut keys)?,
+            Changed::All => return Ok(None),
+        }
+    }
+    Ok(Some(answers))
+}
+
+/// Asks the reader for what changed in the range of each need from q to p: the keys of all answers, ascending, each once,
+/// or none where some answer is that it is not known. That comes only where the range of some need meets the output of a
+/// join below the rank. At a key of a need's range that is not among the keys the same stands at all positions from q to
+/// p. Where the ranges of all needs are bare from q to p, the keys are those in them that the entries between put or
+/// remove.
+///
+/// It asks once for each need, and sorts what is answered. The steps are those of the reader: where the ranges are bare,
+/// one for each need and one for each changed key of its range.
+///
+/// On `OutOfMemory` the reader may have gone on and steps may have been taken.
+pub fn ask_needs<R: Reader, L: Ledger>(
+    alloc: Global,
+    needs: &[Need],
+    rank: u8,
+    q: u64,
+    p: u64,
+    reader: &mut R,
+    steps: &mut Steps<L>,
+) -> Result<Option<Vec<Key>>, OutOfMemory>
+    requires order { q ≤ p }
+    requires within { p ≤ length (R.list reader.old) }
+    requires above { R.floor reader.old ≤ q }
+    requires ranked { rank ≤ R.top }
+    ensures ascending { IfOk result (λ found. IfSome found (λ keys. IsStrictlySortedBy text_cmp keys.items)) }
+    ensures inside { IfOk result (λ found. IfSome found (λ keys. LieInRanges needs.now keys.items)) }
+    ensures complete { IfOk result (λ found. IfSome found (λ keys. AreReportedBetween (R.list reader.old) q p rank needs.now keys.items)) }
+    ensures unknown { IfOk result (λ found. IfNone found (Any (λ need. MayNotBeKnown (R.list reader.old) q p rank need.range) needs.now)) }
+    ensures bare { AreBareThroughout (R.list reader.old) q p needs.now → IfOk result (λ found. IsSomeAnd found (λ keys. AreListed q p (R.list reader.old) needs.now keys.items)) }
+    ensures bare_cost { AreBareThroughout (R.list reader.old) q p needs.now → IfOk result (λ _. steps.new ≡ steps.old + asking_steps q p (R.list reader.old) needs.now) }
+    ensures ranges { HaveRanges needs.now }
+    ensures moves { Moves R.list R.floor R.went reader.old reader.new }
+    ensures counted { steps.old ≤ steps.new }
+{
+    look_at_ranges(needs);
+    let Some(answers) = gather_answers(alloc, needs, rank, q, p, reader, steps)? else {
+        return Ok(None);
+    };
+    let keys = merged(answers)?;
+    Ok(Some(keys))
+}

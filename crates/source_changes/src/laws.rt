@@ -1,0 +1,34 @@
+// Laws on needs through which changed keys are applied, and on what an advance costs.
+ghost use Rattle.source_changes.specs.Laws.{NeedCanFill, NeedsCanFill, FewTouches, FewApplications, AdvanceIsCheap, AppliedAreBare};
+
+/// Through a need that came by a path of a join that keeps the rules, a changed key of the value source can fill its output
+/// key.
+pub fn need_can_fill()
+    ensures { NeedCanFill }
+{}
+
+/// So it is of each need, and of those that are left of them by any test.
+pub fn needs_can_fill()
+    ensures { NeedsCanFill }
+{}
+
+/// There are at most as many touches as changed keys in the ranges of check needs.
+pub fn few_touches()
+    ensures { FewTouches }
+{}
+
+/// There are at most as many applications as changed keys in the ranges of value needs.
+pub fn few_applications()
+    ensures { FewApplications }
+{}
+
+/// To ask for each need, and two steps for each application, take at most one step for each need and three for each
+/// changed key of its range.
+pub fn advance_is_cheap()
+    ensures { AdvanceIsCheap }
+{}
+
+/// Where the ranges of needs are bare, so is that of each source key that is applied through them.
+pub fn applied_are_bare()
+    ensures { AppliedAreBare }
+{}

@@ -1,0 +1,4 @@
+pub mod ReachingLemmas
+pub mod ReadingLemmas
+pub mod EnteringLemmas
+pub mod RankLemmas

@@ -1,0 +1,3 @@
+pub mod Holds
+pub mod Spent
+pub mod Reaching

@@ -1,0 +1,12 @@
+// The lowest reader: over a list of entries in memory, it reads the base pairs that no output hides.
+//
+// It stands on `out_of_memory`, `key_space`, `key_pattern`, `join_types`, `join_set`, `base_versions`, `join_eval`, `steps` and, for
+// its definitions and laws, on `semantics`, `semantics_laws`, `key_ranges`, `growing_history`, `layering` and `cell_slots`. The
+// layers above may use `BaseReader`, which contracts see as the list of its entries.
+#![tactic(auto)]
+
+mod hiding;
+mod reaching;
+pub mod reader;
+
+pub use reader::BaseReader;

@@ -1,0 +1,76 @@
+-- What reading costs where one output alone is reached, and what it leaves in the cells.
+use Rattle.std.specs.Prelude.{◌≡◌, ℕ, ◌+◌, ◌<◌, ◌≤◌, List, [], ◌∷◌, ◌++◌, length, take, slice_get, true, Some}
+use Rattle.semantics.specs.Texts.{Range, pairs_within}
+use Rattle.semantics.specs.Joins.{Join, push}
+use Rattle.semantics.specs.Histories.{History, DeclaredJoin, joins_of, base_of}
+use Rattle.semantics.specs.Outputs.{out}
+use Rattle.semantics.specs.States.{below}
+use Rattle.key_ranges.specs.Ranges.{is_open}
+use Rattle.layering.specs.Reached.{reached, ReachesNoneBelow}
+use Rattle.range_state.specs.Held.{forgotten}
+use Rattle.cell_slots.specs.declared.slot.Part.{Part}
+use Rattle.cell_slots.specs.declared.slot.Slot.{Slot}
+use Rattle.cell_slots.specs.declared.slot.Slot.TheVariants.{Free, Held}
+use Rattle.cell_slots.specs.Slots.{Holdings, with_slot, HasFree, MeetsNone, HoldsReady, HoldsWhole}
+
+-- the number of base pairs in a range after the first p entries
+abbrev pub base_count : History → ℕ → Range → ℕ
+base_count h p range = length (pairs_within range (base_of (take p h)))
+
+-- the number of pairs in a range that a join makes of what stands below a rank after the first p entries
+abbrev pub row_count : History → ℕ → Range → ℕ → Join → ℕ
+row_count h p range rank j = length (pairs_within range (out j (below (take p h) rank)))
+
+-- the whole range as one part, which a cell holds
+abbrev pub one_part : Range → ℕ → List Part
+one_part range id = record { range = range; cell = Some id } ∷ []
+
+-- a ready range is covered by its cell alone, and no cell changes
+pub record CoversReady (before after : Holdings) (id : ℕ) (range : Range) (parts : List Part) : Type 0 where
+  pub one : parts ≡ one_part range id
+  pub still : after ≡ before
+
+-- a gap is reserved: it is covered by a cell that was free and now holds the range, for which nothing is kept yet
+pub record Reserves (before after : Holdings) (at rank : ℕ) (j : Join) (range : Range) (parts : List Part) : Type 0 where
+  pub id : ℕ
+  pub free : slice_get before.slots id ≡ Some Free
+  pub one : parts ≡ one_part range id
+  pub set : after ≡ with_slot id (Held at (forgotten j rank range)) before
+
+-- a cell holds just a range afterwards; at the lowest rank no other cell was used
+pub record KeepsJust (before after : Holdings) (rank at p : ℕ) (range : Range) : Type 0 where
+  pub id : ℕ
+  pub is : HoldsWhole after.slots id at p range
+  pub alone : rank ≡ 0 → after.used ≡ before.used ++ id ∷ []
+
+-- a range may be kept: its join is a push join, a cell is free, and none keeps a part of the range
+pub record MayKeep (slots : List Slot) (at : ℕ) (j : Join) (range : Range) : Type 0 where
+  pub pushed : j.kind ≡ push
+  pub free : HasFree slots
+  pub apart : MeetsNone slots at range
+
+-- reading what one join gives in a range: where a cell can be read over it, it costs one step and its rows; where it may be kept, a cell holds it afterwards
+pub record OneSpends (h : History) (before after : Holdings) (p : ℕ) (range : Range) (rank at : ℕ) (j : Join) (added : ℕ) : Type 0 where
+  pub used : is_open range ≡ true → HoldsReady before.slots at p range → added ≤ 1 + row_count h p range rank j
+  pub kept : is_open range ≡ true → MayKeep before.slots at j range → KeepsJust before after rank at p range
+
+-- reading what joins of a rank give in a range: nothing where there are none, and of one alone as above
+abbrev pub JoinsSpend : History → Holdings → Holdings → ℕ → Range → ℕ → List DeclaredJoin → ℕ → Type 0
+JoinsSpend h before after p range rank [] added = (added ≡ 0) × (after ≡ before)
+JoinsSpend h before after p range rank (s ∷ []) added = OneSpends h before after p range rank s.position s.join added
+JoinsSpend h before after p range rank (s ∷ t ∷ more) added = Unit {0}
+
+-- of the joins below a rank a range reaches one alone, which has this rank
+pub record ReachesOnly (joins : List DeclaredJoin) (range : Range) (top rank : ℕ) (s : DeclaredJoin) : Type 0 where
+  pub is_below : rank < top
+  pub one : reached range rank joins ≡ s ∷ []
+  pub alone : (r : ℕ) → r < top → (r ≡ rank → ⊥) → reached range r joins ≡ []
+
+-- reading a range below a rank: where no join below the rank reaches it, it costs at most one step and the base pairs, and no cell changes; where one alone does, it costs that and what reading of this one costs
+pub record Spends (h : History) (before after : Holdings) (p : ℕ) (range : Range) (top added : ℕ) : Type 0 where
+  pub none : ReachesNoneBelow range top (joins_of (take p h)) → added ≤ 1 + base_count h p range
+  pub still : ReachesNoneBelow range top (joins_of (take p h)) → after ≡ before
+  pub used : (rank : ℕ) (s : DeclaredJoin) → ReachesOnly (joins_of (take p h)) range top rank s → is_open range ≡ true → HoldsReady before.slots s.position p range →
+      added ≤ 2 + base_count h p range + row_count h p range rank s.join
+  pub kept : (rank : ℕ) (s : DeclaredJoin) → ReachesOnly (joins_of (take p h)) range top rank s → is_open range ≡ true → MayKeep before.slots s.position s.join range →
+      KeepsJust before after rank s.position p range

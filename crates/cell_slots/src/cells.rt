@@ -1,0 +1,97 @@
+// What a layer asks of the cells.
+ghost use Rattle.std.specs.Prelude.{◌≡◌, ℕ, ◌+◌, ◌-◌, ◌≤◌, List, length, map, take, slice_get, slice_set, true, MatchOption, IfOk, OnErr, Some, None};
+ghost use Rattle.semantics.specs.Texts.{Range as Bounds};
+ghost use Rattle.semantics.specs.Joins.{Join as PlainJoin};
+ghost use Rattle.semantics.specs.Histories.{History, joins_of};
+ghost use Rattle.key_ranges.specs.Ranges.{is_open};
+ghost use Rattle.layering.specs.Reached.{reached};
+ghost use Rattle.layering.specs.Standing.{last_declared};
+ghost use Rattle.layering.specs.Parts.{IsWithin, JoinTo};
+ghost use Rattle.kept_ranges.specs.Sound.{KeptRange};
+ghost use Rattle.range_serving.specs.Serving.{IsPast};
+ghost use Rattle.cell_slots.specs.declared.slot.Slot.TheVariants.{Lent, Held};
+ghost use Rattle.cell_slots.specs.Slots.{Frame, Holdings, IsDeclared, IsReached, IsReadySlot, IsRightFor, StandsAs, Takes, with_slot};
+ghost use Rattle.cell_slots.specs.Spending.{CoversReady, MayKeep, Reserves, Spends};
+
+use crate::slot::Part;
+use join_eval::Reader;
+use join_types::Join;
+use key_space::Range;
+use out_of_memory::OutOfMemory;
+use range_state::RangeState;
+
+/// A reader over cells, from which a layer above borrows.
+///
+/// A join is named by the position of its declaration.
+pub trait Cells: Reader {
+    /// What the cells hold, and which were lent.
+    ghost holdings: { Self → Holdings };
+
+    /// The joins of a rank whose outputs the range reaches, after the first p entries, in order of position.
+    fn reached(&self, p: u64, range: &Range, rank: u8) -> Result<Vec<u64>, OutOfMemory>
+        requires { p ≤ length (Self.list self.now) }
+        ensures { IfOk result (λ ats. ats.items ≡ map (λ s. s.position) (reached range.now rank (joins_of (take p (Self.list self.now))))) };
+
+    /// The position of the last declaration among the first p entries, 0 where there is none.
+    fn last_declared(&self, p: u64) -> Result<u64, OutOfMemory>
+        requires { p ≤ length (Self.list self.now) }
+        ensures { IfOk result (λ at. at ≡ last_declared (joins_of (take p (Self.list self.now)))) };
+
+    /// A copy of the join that was declared at a position.
+    fn join_at(&self, at: u64) -> Result<Join, OutOfMemory>
+        requires { (j : PlainJoin) × IsDeclared (Self.list self.now) at j }
+        ensures { IfOk result (IsDeclared (Self.list self.now) at) };
+
+    /// The range in parts, in order, each with the cell that holds it for the join, where one does.
+    fn parts(&self, at: u64, range: &Range) -> Result<Vec<Part>, OutOfMemory>
+        ensures { IfOk result (λ parts. JoinTo range.now (map (λ part. part.range) parts.items)) };
+
+    /// The range, which reaches the join's output, in parts, in order, each with the cell that holds it, where one does. For
+    /// a push join the gaps between what is held are reserved: the lowest free cell holds each of them from now on, while
+    /// there is one, with nothing kept yet.
+    fn cover(&mut self, at: u64, rank: u8, p: u64, range: &Range) -> Result<Vec<Part>, OutOfMemory>
+        requires within { p ≤ length (Self.list self.old) }
+        requires reached { IsReached (Self.list self.old) p at rank range.now }
+        ensures parts { IfOk result (λ parts. JoinTo range.now (map (λ part. part.range) parts.items)) }
+        ensures ready { IfOk result (λ parts. (id : ℕ) (s : KeptRange) → is_open range.now ≡ true → IsReadySlot (holdings self.old).slots id at p range.now s → CoversReady (holdings self.old) (holdings self.new) id range.now parts.items) }
+        ensures ranked { (id : ℕ) (s : KeptRange) → IsReadySlot (holdings self.old).slots id at p range.now s → s.rank ≡ rank }
+        ensures reserved { IfOk result (λ parts. (j : PlainJoin) → StandsAs (Self.list self.old) p at rank j → is_open range.now ≡ true → MayKeep (holdings self.old).slots at j range.now →
+            Reserves (holdings self.old) (holdings self.new) at rank j range.now parts.items) }
+        ensures frame { Frame 0 (holdings self.old) (holdings self.new) }
+        ensures list { Self.list self.new ≡ Self.list self.old }
+        ensures same_floor { Self.floor self.new ≡ Self.floor self.old };
+
+    /// Takes the kept range out of a cell, whose slot keeps its place, where the cell still holds the part for this join and
+    /// does not stand past p; otherwise none. Where it was kept while the join had a lesser rank, it is made anew with this
+    /// one, and nothing is kept for it yet. The cell is used.
+    fn lend(
+        &mut self,
+        id: u32,
+        at: u64,
+        rank: u8,
+        p: u64,
+        part: &Range,
+    ) -> Result<Option<RangeState>, OutOfMemory>
+        requires within { p ≤ length (Self.list self.old) }
+        requires stands { (j : PlainJoin) × StandsAs (Self.list self.old) p at rank j }
+        ensures taken { IfOk result (λ found. MatchOption found (holdings self.new ≡ holdings self.old)
+            (Takes (Self.list self.old) (Self.floor self.old) (holdings self.old) (holdings self.new) id at rank p part.now)) }
+        ensures held { IfOk result (λ found. (s : KeptRange) → slice_get (holdings self.old).slots id ≡ Some (Held at s) → s.rank ≡ rank → (IsPast p s → ⊥) → IsWithin part.now s.range → found ≡ Some s) }
+        ensures err { OnErr result (holdings self.new ≡ holdings self.old) }
+        ensures list { Self.list self.new ≡ Self.list self.old }
+        ensures same_floor { Self.floor self.new ≡ Self.floor self.old };
+
+    /// Puts a kept range back into the slot that keeps its place.
+    fn give_back(&mut self, id: u32, at: u64, state: RangeState)
+        requires lent { slice_get (holdings self.old).slots id ≡ Some (Lent at state.range) }
+        requires right { IsRightFor (Self.list self.old) at state }
+        ensures held { holdings self.new ≡ with_slot id (Held at state) (holdings self.old) }
+        ensures list { Self.list self.new ≡ Self.list self.old }
+        ensures same_floor { Self.floor self.new ≡ Self.floor self.old };
+
+    /// How a call of the reader leaves the cells.
+    ghost went_frame: { (a b : Self) → Self.went a b → Frame Self.top (holdings a) (holdings b) };
+
+    /// What reading costs, and what it leaves in the cells.
+    ghost spends_so: { (a b : Self) (p : ℕ) (range : Bounds) (rank added : ℕ) → Self.spends a b p range rank added → Spends (Self.list a) (holdings a) (holdings b) p range rank added };
+}

@@ -1,0 +1,98 @@
+-- Slots by their numbers, and the places that they keep.
+use Rattle.std.proofs.Common.{◌≡◌, ◌≢◌, ℕ, zero, suc, ◌+◌, ◌<◌, ◌≤◌, List, [], ◌∷◌, length, replicate, slice_get, slice_set, Option, Some, None, ◌⊎◌, inl, inr, refl, sym, ap, ◌∙◌, subst, arith}
+use Rattle.std.specs.Option.{option_and_then}
+use Rattle.std.proofs.lemmas.Bool.{cases_eq}
+use Rattle.std.proofs.lemmas.Option.{none-some, same_Some, slice_get_within}
+use Rattle.std.proofs.lemmas.List.{length-replicate}
+use Rattle.semantics.specs.Texts.{Range}
+use Rattle.cell_slots.specs.declared.slot.Slot.{Slot}
+use Rattle.cell_slots.specs.declared.slot.Slot.TheVariants.{Free}
+use Rattle.cell_slots.specs.Slots.{place_of, HasFree}
+use Rattle.cell_table.specs.Stores.{AreSlots, KeepsPlace, place_at}
+
+-- an element that is set stands there
+pub get-set_same : {A : Type 0} (xs : List A) (i : ℕ) (x : A) → i < length xs → slice_get (slice_set xs i x) i ≡ Some x
+get-set_same [] i x less = absurd (omega arith)
+get-set_same (y ∷ ys) zero x less = refl
+get-set_same (y ∷ ys) (suc i) x less = get-set_same ys i x (omega arith)
+
+-- every other one stays
+pub get-set_other : {A : Type 0} (xs : List A) (i k : ℕ) (x : A) → (k ≡ i → ⊥) → slice_get (slice_set xs i x) k ≡ slice_get xs k
+get-set_other [] i k x apart = refl
+get-set_other (y ∷ ys) zero zero x apart = absurd (apart refl)
+get-set_other (y ∷ ys) zero (suc k) x apart = refl
+get-set_other (y ∷ ys) (suc i) zero x apart = refl
+get-set_other (y ∷ ys) (suc i) (suc k) x apart = get-set_other ys i k x (λ e. apart (ap suc e))
+
+-- ---- places
+
+-- the place of a slot that stands at a number
+pub place_from_slot : (slots : List Slot) (id : ℕ) (slot : Slot) → slice_get slots id ≡ Some slot → place_at slots id ≡ place_of slot
+place_from_slot slots id slot h = ap (λ o. option_and_then place_of o) h
+
+-- a slot that keeps a place
+pub record Keeper (slots : List Slot) (id at : ℕ) (range : Range) : Type 0 where
+  pub slot : Slot
+  pub stands : slice_get slots id ≡ Some slot
+  pub place : place_of slot ≡ Some (at, range)
+
+keeper_by : (slots : List Slot) (id at : ℕ) (range : Range) (o : Option Slot) → slice_get slots id ≡ o → KeepsPlace slots id at range → Keeper slots id at range
+keeper_by slots id at range None e h = absurd (none-some (at, range) (sym (ap (λ o. option_and_then place_of o) e) ∙ h))
+keeper_by slots id at range (Some slot) e h = record { slot = slot; stands = e; place = sym (place_from_slot slots id slot e) ∙ h }
+
+-- where a place is kept, a slot keeps it
+pub keeper : (slots : List Slot) (id at : ℕ) (range : Range) → KeepsPlace slots id at range → Keeper slots id at range
+keeper slots id at range h = keeper_by slots id at range (slice_get slots id) refl h
+
+-- one slot keeps one place
+pub one_place : (slots : List Slot) (id at other : ℕ) (r s : Range) → KeepsPlace slots id at r → KeepsPlace slots id other s → (at ≡ other) × (r ≡ s)
+one_place slots id at other r s h g = let e = same_Some (at, r) (other, s) (sym h ∙ g) in (ap (λ p. p.0) e, ap (λ p. p.1) e)
+
+-- ---- a slot is set
+
+-- the place that is kept where a slot is set
+pub place_set : (slots : List Slot) (id : ℕ) (slot : Slot) → id < length slots → place_at (slice_set slots id slot) id ≡ place_of slot
+place_set slots id slot less = place_from_slot (slice_set slots id slot) id slot (get-set_same slots id slot less)
+
+-- every other one stays
+pub place_other : (slots : List Slot) (id other : ℕ) (slot : Slot) → other ≢ id → place_at (slice_set slots id slot) other ≡ place_at slots other
+place_other slots id other slot apart = ap (λ o. option_and_then place_of o) (get-set_other slots id other slot apart)
+
+same_by : (slots : List Slot) (id : ℕ) (old slot : Slot) → slice_get slots id ≡ Some old → place_of slot ≡ place_of old → (other : ℕ) → (other ≡ id) ⊎ (other ≡ id → ⊥) →
+    place_at (slice_set slots id slot) other ≡ place_at slots other
+same_by slots id old slot was same other (inl e) = subst (λ (q : ℕ). place_at (slice_set slots id slot) q ≡ place_at slots q) (sym e)
+    (place_set slots id slot (slice_get_within slots id old was) ∙ same ∙ sym (place_from_slot slots id old was))
+same_by slots id old slot was same other (inr apart) = place_other slots id other slot apart
+
+-- where the slot that is set keeps the place of the old one, all places stay
+pub same_places : (slots : List Slot) (id : ℕ) (old slot : Slot) → slice_get slots id ≡ Some old → place_of slot ≡ place_of old → (other : ℕ) → place_at (slice_set slots id slot) other ≡ place_at slots other
+same_places slots id old slot was same other = same_by slots id old slot was same other (cases_eq other id)
+
+-- ---- free slots
+
+-- so many free slots, of which none is below 0
+pub free_slots : (count : ℕ) → count ≤ 65536 → AreSlots (replicate count Free) 0
+free_slots count few = record { few = subst (λ n. n ≤ 65536) (sym (length-replicate count Free)) few; upto = omega arith; taken = λ id less. absurd (omega arith) }
+
+taken_by : (slots : List Slot) (least id : ℕ) → AreSlots slots least → slice_get slots least ≢ Some Free → (id ≡ least) ⊎ (id ≡ least → ⊥) → id < least + 1 → slice_get slots id ≢ Some Free
+taken_by slots least id h here (inl e) less = λ free. here (subst (λ (k : ℕ). slice_get slots k ≡ Some Free) e free)
+taken_by slots least id h here (inr apart) less = h.taken id (omega arith)
+
+-- where the least slot that may be free is taken, none is free below the next
+pub taken_more : (slots : List Slot) (least : ℕ) → AreSlots slots least → least < length slots → slice_get slots least ≢ Some Free → AreSlots slots (least + 1)
+taken_more slots least h less here = record { few = h.few; upto = omega arith; taken = λ id lower. taken_by slots least id h here (cases_eq id least) lower }
+
+-- where none is free below the number of slots, none is free
+pub none_free : (slots : List Slot) (least : ℕ) → AreSlots slots least → length slots ≤ least → HasFree slots → ⊥
+none_free slots least h all free = let inside : free.id < length slots = slice_get_within slots free.id Free free.free in h.taken free.id (omega arith) free.free
+
+replicated : {A : Type 0} (n : ℕ) (x y : A) (k : ℕ) → slice_get (replicate n x) k ≡ Some y → x ≡ y
+replicated zero x y k h = absurd (none-some y h)
+replicated (suc n) x y zero h = same_Some x y h
+replicated (suc n) x y (suc k) h = replicated n x y k h
+
+-- free slots keep no place
+pub free_keep_none : (count id at : ℕ) (range : Range) → KeepsPlace (replicate count Free) id at range → ⊥
+free_keep_none count id at range h =
+    let k = keeper (replicate count Free) id at range h in
+    none-some (at, range) (ap place_of (replicated count Free k.slot id k.stands) ∙ k.place)

@@ -1,0 +1,29 @@
+use Rattle.std.proofs.Common.{List, refl, sym, subst}
+use Rattle.std.proofs.lemmas.Result.{IfOk-weaker}
+use Rattle.semantics.specs.Texts.{Range as Bounds}
+use Rattle.layering.specs.Parts.{JoinTo}
+use Rattle.cell_slots.specs.declared.slot.Part.{Part}
+use Rattle.cell_table.specs.Moves.{GetCells}
+use Rattle.cell_table.proofs.CellLemmas.{frame_from, ready_from, reserves_gap, same_ranges}
+use Rattle.cell_table.proofs.table.CellTable.cover.Goals as goal
+
+pub returns-in-Pull-clause-ready : goal.returns-in-Pull-clause-ready
+returns-in-Pull-clause-ready c = λ id not_empty lies. record { one = c.in_ok-parts.ensures.whole id not_empty lies; still = refl }
+
+pub returns-in-Push-clause-join : goal.returns-in-Push-clause-join
+returns-in-Push-clause-join c =
+    IfOk-weaker c.reserve_parts.result _ _ (λ made got. subst (λ (rs : List Bounds). JoinTo c.args.range.now rs)
+    (sym (same_ranges c.args.at c.args.rank c.args.join.now c.args.self.now c.reserve_parts.new.self c.in_ok-parts.parts.items made.items got)) c.in_ok-parts.ensures.join) c.reserve_parts.ensures.got
+
+pub returns-in-Push-clause-ready : goal.returns-in-Push-clause-ready
+returns-in-Push-clause-ready c =
+    IfOk-weaker c.reserve_parts.result _ _ (λ made got id not_empty lies. ready_from c.args.at c.args.rank c.args.join.now c.args.self.now c.reserve_parts.new.self c.args.range.now id made.items
+    (subst (λ (ps : List Part). GetCells c.args.at c.args.rank c.args.join.now c.args.self.now ps made.items c.reserve_parts.new.self) (c.in_ok-parts.ensures.whole id not_empty lies) got)) c.reserve_parts.ensures.got
+
+pub returns-in-Push-clause-reserved : goal.returns-in-Push-clause-reserved
+returns-in-Push-clause-reserved c =
+    IfOk-weaker c.reserve_parts.result _ _ (λ made got not_empty may. reserves_gap c.args.at c.args.rank c.args.join.now c.args.self.now c.reserve_parts.new.self c.args.range.now made.items
+    (subst (λ (ps : List Part). GetCells c.args.at c.args.rank c.args.join.now c.args.self.now ps made.items c.reserve_parts.new.self) (c.in_ok-parts.ensures.none not_empty may.apart) got) may.free) c.reserve_parts.ensures.got
+
+pub returns-in-Push-clause-frame : goal.returns-in-Push-clause-frame
+returns-in-Push-clause-frame c = frame_from c.args.self.now.holdings c.reserve_parts.new.self.holdings c.args.at c.args.rank c.args.join.now c.args.range.now c.reserve_parts.ensures.slots

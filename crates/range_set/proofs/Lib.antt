@@ -1,0 +1,6 @@
+pub mod BoundLemmas
+pub mod JoinedLemmas
+pub mod PieceLemmas
+pub mod HeldLemmas
+pub mod StoredLemmas
+pub mod CoverLemmas

@@ -1,0 +1,5 @@
+pub mod Joined
+pub mod Held
+pub mod Pieces
+pub mod Gaps
+pub mod Stored

@@ -1,0 +1,228 @@
+-- Reading one rank more.
+use Rattle.std.proofs.Common.{◌≡◌, ℕ, ◌+◌, ◌-◌, ◌≤◌, List, [], ◌∷◌, length, map, max, take, true, false, Contains, None, ◌⊎◌, inl, inr, refl, sym, ap, ◌∙◌, subst, arith}
+use Rattle.std.specs.List.{AllByRecursion}
+use Rattle.std.proofs.lemmas.Bool.{false≢true}
+use Rattle.semantics.specs.Texts.{Text, Table, is_range, Range, within, pairs_within}
+use Rattle.semantics.specs.Histories.{History, IsPrefix, DeclaredJoin, joins_of}
+use Rattle.semantics.specs.States.{below}
+use Rattle.key_ranges.specs.Ranges.{is_open}
+use Rattle.key_ranges.specs.Containing.{bind_range}
+use Rattle.growing_history.specs.Changes.{Same, is_bare}
+use Rattle.growing_history.specs.Entered.{HasEntered}
+use Rattle.growing_history.proofs.EnteredLemmas.{has_entered_taken, declares_joins}
+use Rattle.growing_history.proofs.PrefixLemmas.{take_prefix}
+use Rattle.semantics.proofs.OfRankLemmas.{all_at}
+use Rattle.layering.specs.Reached.{reached, ReachesNoneBelow, with_parts}
+use Rattle.layering.specs.Standing.{last_declared}
+use Rattle.layering.proofs.ReachLemmas.{bare_reaches_none, reaches_none_below_each, reached_stand}
+use Rattle.layering.proofs.LayerLemmas.{below_next_within}
+use Rattle.layering.proofs.StandingLemmas.{last_lies_within, joins_stay_after_last}
+use Rattle.layering.proofs.SameLemmas.{same_below_next_within, same_from_last_up_to}
+use Rattle.layering.specs.Standing.{SameOutput}
+use Rattle.join_eval.specs.declared.reading.Changed.{Changed}
+use Rattle.join_eval.specs.declared.reading.Changed.TheVariants.{Keys, All}
+use Rattle.join_eval.specs.Answers.{AnswersChanges, IsBareThroughout, ListsChanges, MeetsOutput}
+use Rattle.key_ranges.proofs.OrderLemmas.{up_to_below}
+use Rattle.std.proofs.lemmas.List.{take_all}
+use Rattle.std.proofs.lemmas.Bool.{and_parts}
+use Rattle.cell_slots.specs.Slots.{Holdings, HoldsReady}
+use Rattle.cell_slots.specs.Spending.{row_count, KeepsJust, MayKeep, OneSpends, JoinsSpend, ReachesOnly, Spends}
+use Rattle.rank_layers.specs.Telling.{AddsChanges}
+use Rattle.rank_layers.proofs.FrameLemmas.{same_or_not}
+use Rattle.rank_layers.proofs.JoinLemmas.{one_spends_over}
+
+-- ---- the pairs
+
+-- what stands below the next rank in a range, over two lists with the same first entries
+pub exact_above : (h more : History) (p rank : ℕ) (range : Range) (all pairs : Table) → p ≤ length h → IsPrefix h more → HasEntered more → is_range range.low range.high ≡ true →
+    pairs ≡ pairs_within range (below (take p h) rank) →
+    all ≡ with_parts range (reached range rank (joins_of (take p more))) (below (take p more) rank) pairs →
+    all ≡ pairs_within range (below (take p h) (rank + 1))
+exact_above h more p rank range all pairs less prefix entered is pairs_is all_is =
+    let same = take_prefix p h more less prefix in
+    all_is
+    ∙ ap (with_parts range (reached range rank (joins_of (take p more))) (below (take p more) rank)) (pairs_is ∙ ap (λ l. pairs_within range (below l rank)) (sym same))
+    ∙ sym (below_next_within (take p more) rank range (has_entered_taken p more entered) is)
+    ∙ ap (λ l. pairs_within range (below l (rank + 1))) same
+
+-- ---- ranges that are bare
+
+none_at : (range : Range) (joins : List DeclaredJoin) → AllByRecursion (λ s. bind_range s.join.output range ≡ None) joins → (rank : ℕ) → ReachesNoneBelow range rank joins
+none_at range joins all rank =
+    (reaches_none_below_each joins range rank).1 (λ place s stands less. all_at (λ t. bind_range t.join.output range ≡ None) joins place s all stands)
+
+-- a bare range reaches no output of a rank
+pub bare_reached : (h : History) (p rank : ℕ) (range : Range) → HasEntered (take p h) → is_range range.low range.high ≡ true → is_bare range (joins_of (take p h)) ≡ true → reached range rank (joins_of (take p h)) ≡ []
+bare_reached h p rank range entered is bare =
+    none_at range (joins_of (take p h)) (bare_reaches_none (joins_of (take p h)) range (declares_joins (take p h) entered) is bare) (rank + 1) rank (omega arith)
+
+-- ---- the cost
+
+-- what joins cost where none is reached
+pub none_spends : (h : History) (b c : Holdings) (p : ℕ) (range : Range) (rank m : ℕ) (joins : List DeclaredJoin) → joins ≡ [] → JoinsSpend h b c p range rank joins m → (m ≡ 0) × (c ≡ b)
+none_spends h b c p range rank m joins none spends = subst (λ js. JoinsSpend h b c p range rank js m) none spends
+
+one_of : (h : History) (b c : Holdings) (p : ℕ) (range : Range) (rank m : ℕ) (joins : List DeclaredJoin) (s : DeclaredJoin) → joins ≡ s ∷ [] → JoinsSpend h b c p range rank joins m → OneSpends h b c p range rank s.position s.join m
+one_of h b c p range rank m joins s one spends = subst (λ js. JoinsSpend h b c p range rank js m) one spends
+
+-- below the next rank: the reader below and the joins of the rank
+pub spends_next : (h : History) (a b c : Holdings) (p : ℕ) (range : Range) (rank n m k : ℕ) → k ≡ n + m → Spends h a b p range rank n → JoinsSpend h b c p range rank (reached range rank (joins_of (take p h))) m →
+    Spends h a c p range (rank + 1) k
+spends_next h a b c p range rank n m k sum first joins = record {
+  none = λ none.
+      let here = none_spends h b c p range rank m (reached range rank (joins_of (take p h))) (none rank (omega arith)) joins in
+      let lower = first.none (λ r less. none r (omega arith)) in
+      omega (arith, here.0, lower, sum);
+  still = λ none.
+      let here = none_spends h b c p range rank m (reached range rank (joins_of (take p h))) (none rank (omega arith)) joins in
+      here.1 ∙ first.still (λ r less. none r (omega arith));
+  used = λ rk s only opened holds. elim (same_or_not rk rank) [
+    | inl e ↦
+        let none = lower_none rk s only e in
+        let one : OneSpends h b c p range rank s.position s.join m = one_of h b c p range rank m (reached range rank (joins_of (take p h))) s (subst (λ r. reached range r (joins_of (take p h)) ≡ s ∷ []) e only.one) joins in
+        let here : m ≤ 1 + row_count h p range rk s.join = subst (λ r. m ≤ 1 + row_count h p range r s.join) (sym e) (one.used opened (subst (λ cells. HoldsReady cells.slots s.position p range) (sym (first.still none)) holds)) in
+        let lower = first.none none in
+        omega (arith, here, lower, sum)
+    | inr apart ↦
+        let here = none_spends h b c p range rank m (reached range rank (joins_of (take p h))) (only.alone rank (omega arith) (λ e. apart (sym e))) joins in
+        let lower = first.used rk s (lower_only rk s only apart) opened holds in
+        omega (arith, here.0, lower, sum)
+  ];
+  kept = λ rk s only opened may. elim (same_or_not rk rank) [
+    | inl e ↦
+        let none = lower_none rk s only e in
+        let one : OneSpends h b c p range rank s.position s.join m = one_of h b c p range rank m (reached range rank (joins_of (take p h))) s (subst (λ r. reached range r (joins_of (take p h)) ≡ s ∷ []) e only.one) joins in
+        subst (λ r. KeepsJust a c r s.position p range) (sym e) (subst (λ cells. KeepsJust cells c rank s.position p range) (first.still none)
+        (one.kept opened (subst (λ cells. MayKeep cells.slots s.position s.join range) (sym (first.still none)) may)))
+    | inr apart ↦
+        let here = none_spends h b c p range rank m (reached range rank (joins_of (take p h))) (only.alone rank (omega arith) (λ e. apart (sym e))) joins in
+        subst (λ cells. KeepsJust a cells rk s.position p range) (sym here.1) (first.kept rk s (lower_only rk s only apart) opened may)
+  ];
+}
+  where
+    lower_none : (rk : ℕ) (s : DeclaredJoin) → ReachesOnly (joins_of (take p h)) range (rank + 1) rk s → rk ≡ rank → ReachesNoneBelow range rank (joins_of (take p h))
+    lower_none rk s only e = λ r less. only.alone r (omega arith) (λ same. omega (arith, same, e, less))
+
+    lower_only : (rk : ℕ) (s : DeclaredJoin) → ReachesOnly (joins_of (take p h)) range (rank + 1) rk s → (rk ≡ rank → ⊥) → ReachesOnly (joins_of (take p h)) range rank rk s
+    lower_only rk s only apart = record {
+      is_below = omega (arith, only.is_below, apart);
+      one = only.one;
+      alone = λ r less. only.alone r (omega arith);
+    }
+
+spend_over : (h more : History) (b c : Holdings) (p : ℕ) (range : Range) (rank m : ℕ) (joins : List DeclaredJoin) → take p more ≡ take p h → JoinsSpend more b c p range rank joins m → JoinsSpend h b c p range rank joins m
+spend_over h more b c p range rank m [] same spends = spends
+spend_over h more b c p range rank m (s ∷ []) same spends = one_spends_over h more b c p range rank s.position s.position s.join m same refl spends
+spend_over h more b c p range rank m (s ∷ t ∷ joins) same spends = tt
+
+-- what joins cost, over a list with the same first entries
+pub joins_spend_over : (h more : History) (b c : Holdings) (p : ℕ) (range : Range) (rank m : ℕ) → take p more ≡ take p h →
+    JoinsSpend more b c p range rank (reached range rank (joins_of (take p more))) m → JoinsSpend h b c p range rank (reached range rank (joins_of (take p h))) m
+joins_spend_over h more b c p range rank m same spends =
+    subst (λ l. JoinsSpend h b c p range rank (reached range rank (joins_of l)) m) same (spend_over h more b c p range rank m (reached range rank (joins_of (take p more))) same spends)
+
+-- over a bare range no more is spent than by the reader below
+pub bare_costs : (h : History) (b c : Holdings) (p : ℕ) (range : Range) (rank : ℕ) (joins : List DeclaredJoin) (table pairs all : Table) (old mid new : ℕ) → joins ≡ [] → all ≡ with_parts range joins table pairs → JoinsSpend h b c p range rank joins (new - mid) →
+    mid ≤ new → mid ≡ old + 1 + length pairs → new ≡ old + 1 + length all
+bare_costs h b c p range rank joins table pairs all old mid new none is spends up cost =
+    let here = none_spends h b c p range rank (new - mid) joins none spends in
+    let rows = ap length (is ∙ ap (λ js. with_parts range js table pairs) none) in
+    omega (arith, here.0, rows, up, cost)
+
+-- ---- what may have changed
+
+-- a list that begins with one that has entered
+pub entered_before : (h more : History) → IsPrefix h more → HasEntered more → HasEntered h
+entered_before h more prefix entered =
+    subst HasEntered (take_prefix (length h) h more (omega arith) prefix ∙ take_all (length h) h (omega arith)) (has_entered_taken (length h) more entered)
+
+-- where the joins of the rank that the range reaches make the same from the last declaration on, the same stands below the next rank where it does below the rank
+same_next : (h : History) (q p since rank : ℕ) (range : Range) (key : Text) → HasEntered h → is_range range.low range.high ≡ true → q ≤ p → since ≡ max q (last_declared (joins_of (take p h))) → within range key ≡ true →
+    Same h q p rank key → AllByRecursion (λ s. SameOutput h since p rank key s.join) (reached range rank (joins_of (take p h))) → Same h q p (rank + 1) key
+same_next h q p since rank range key entered is order from inside same outputs =
+    let last = last_lies_within h p in
+    let stay = joins_stay_after_last h since p (omega (arith, from)) in
+    same_from_last_up_to h q p (rank + 1) key entered
+    (subst (λ n. Same h n p (rank + 1) key) from
+    (same_below_next_within h since p rank range key entered is inside stay
+    (λ x up down. same x (omega (arith, from)) down ∙ sym (same since (omega (arith, from)) (omega (arith, from, last))))
+    (subst (λ joins. AllByRecursion (λ s. SameOutput h since p rank key s.join) (reached range rank joins)) (stay p (omega (arith, from, last)) (omega arith)) outputs)))
+
+-- where the range reaches no output of the rank, the same stands below the next rank where it does below the rank
+same_above : (h : History) (q p rank : ℕ) (range : Range) (key : Text) → HasEntered h → is_range range.low range.high ≡ true → q ≤ p → reached range rank (joins_of (take p h)) ≡ [] → within range key ≡ true →
+    Same h q p rank key → Same h q p (rank + 1) key
+same_above h q p rank range key entered is order none inside same =
+    same_next h q p (max q (last_declared (joins_of (take p h)))) rank range key entered is order refl inside same
+    (subst (AllByRecursion (λ s. SameOutput h (max q (last_declared (joins_of (take p h)))) p rank key s.join)) (sym none) tt)
+
+-- a range with a key is not empty
+not_empty : (range : Range) (key : Text) → within range key ≡ true → is_open range ≡ true
+not_empty range key inside = let parts = and_parts _ _ inside in up_to_below range.low key range.high parts.0 parts.1
+
+-- what is said below a rank holds below the next one, where the range reaches no output of the rank or is empty
+pub answers_above : (h : History) (q p rank : ℕ) (range : Range) (answer : Changed) → HasEntered h → is_range range.low range.high ≡ true → q ≤ p →
+    (reached range rank (joins_of (take p h)) ≡ []) ⊎ (is_open range ≡ false) → AnswersChanges h q p rank range answer → AnswersChanges h q p (rank + 1) range answer
+answers_above h q p rank range (Keys keys) entered is order (inl none) lists = record {
+  ascend = lists.ascend;
+  inside = lists.inside;
+  complete = λ key inside unlisted. same_above h q p rank range key entered is order none inside (lists.complete key inside unlisted);
+}
+answers_above h q p rank range (Keys keys) entered is order (inr empty) lists = record {
+  ascend = lists.ascend;
+  inside = lists.inside;
+  complete = λ key inside unlisted. absurd (false≢true (sym empty ∙ not_empty range key inside));
+}
+answers_above h q p rank range All entered is order why meets = record {
+  open_range = meets.open_range;
+  place = meets.place;
+  standing = meets.standing;
+  stands = meets.stands;
+  is_below = omega (arith, meets.is_below);
+  meets = meets.meets;
+}
+
+meets_by : (joins found : List DeclaredJoin) (range : Range) (rank : ℕ) → reached range rank joins ≡ found → is_open range ≡ true → (found ≡ [] → ⊥) → MeetsOutput joins (rank + 1) range
+meets_by joins [] range rank is opened some = absurd (some refl)
+meets_by joins (s ∷ more) range rank is opened some =
+    let stands = (reached_stand joins range rank s).0 (subst (λ js. Contains js s) (sym is) (0, omega arith, refl)) in
+    record {
+      open_range = opened;
+      place = stands.0.place;
+      standing = s;
+      stands = stands.0.stands;
+      is_below = omega (arith, stands.0.ranked);
+      meets = stands.1;
+    }
+
+-- a range that is not empty and reaches an output of a rank meets an output below the next one
+pub meets_above : (joins : List DeclaredJoin) (range : Range) (rank : ℕ) → is_open range ≡ true → (reached range rank joins ≡ [] → ⊥) → MeetsOutput joins (rank + 1) range
+meets_above joins range rank opened some = meets_by joins (reached range rank joins) range rank refl opened some
+
+-- positions of joins are none exactly where there is no join
+pub no_positions : (joins : List DeclaredJoin) (ats : List ℕ) → ats ≡ map (λ s. s.position) joins → length ats ≡ 0 → joins ≡ []
+no_positions [] ats is none = refl
+no_positions (s ∷ joins) ats is none = let long = ap length is in absurd (omega (arith, long, none))
+
+pub some_positions : (joins : List DeclaredJoin) (ats : List ℕ) → ats ≡ map (λ s. s.position) joins → (length ats ≡ 0 → ⊥) → joins ≡ [] → ⊥
+some_positions joins ats is some none = some (ap length (is ∙ ap (map (λ s. s.position)) none))
+
+-- ---- what changed, with the outputs of the rank
+
+-- keys that are listed below a rank, with those that its joins add, are listed below the next one
+pub answers_with : (h : History) (q p since rank : ℕ) (range : Range) (given : List Text) (answer : Changed) → HasEntered h → is_range range.low range.high ≡ true → q ≤ p → since ≡ max q (last_declared (joins_of (take p h))) →
+    is_open range ≡ true → (reached range rank (joins_of (take p h)) ≡ [] → ⊥) → ListsChanges h q p rank range given →
+    AddsChanges h since p rank range (reached range rank (joins_of (take p h))) given answer → AnswersChanges h q p (rank + 1) range answer
+answers_with h q p since rank range given (Keys keys) entered is order from opened some lists added = record {
+  ascend = added.ascend;
+  inside = added.inside;
+  complete = λ key inside unlisted. same_next h q p since rank range key entered is order from inside (lists.complete key inside (λ has. unlisted (added.keeps key has))) (added.complete key inside unlisted);
+}
+answers_with h q p since rank range given All entered is order from opened some lists added = meets_above (joins_of (take p h)) range rank opened some
+
+-- a range that reaches an output of a rank is not bare at all positions
+pub never_bare : (h more : History) (q p rank : ℕ) (range : Range) (ats : List ℕ) → q ≤ p → p ≤ length h → IsPrefix h more → HasEntered more → is_range range.low range.high ≡ true →
+    ats ≡ map (λ s. s.position) (reached range rank (joins_of (take p more))) → (length ats ≡ 0 → ⊥) → IsBareThroughout h q p range → ⊥
+never_bare h more q p rank range ats order less prefix entered is ats_are some bare =
+    some_positions (reached range rank (joins_of (take p more))) ats ats_are some
+    (bare_reached more p rank range (has_entered_taken p more entered) is
+    (subst (λ l. is_bare range (joins_of l) ≡ true) (sym (take_prefix p h more less prefix)) (bare p order (omega arith))))

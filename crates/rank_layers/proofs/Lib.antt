@@ -1,0 +1,6 @@
+pub mod FrameLemmas
+pub mod PartLemmas
+pub mod JoinLemmas
+pub mod KeyLemmas
+pub mod TellingLemmas
+pub mod AboveLemmas

@@ -1,0 +1,166 @@
+-- One part of a range that is read from a cell.
+use Rattle.std.proofs.Common.{◌≡◌, ℕ, zero, suc, ◌+◌, ◌-◌, ◌<◌, ◌≤◌, List, [], ◌∷◌, ◌++◌, flat_map, get_or, length, take, slice_get, Some, None, sym, ap, ◌∙◌, subst, arith}
+use Rattle.std.proofs.lemmas.List.{append-nil, take_more}
+use Rattle.std.proofs.lemmas.List.Concat.{flat_map-append}
+use Rattle.std.proofs.lemmas.Option.{none-some, same_Some}
+use Rattle.semantics.specs.Texts.{Range, pairs_within}
+use Rattle.semantics.specs.Joins.{Join}
+use Rattle.semantics.specs.Histories.{declare, Write, Entry, History, IsPrefix, joins_of}
+use Rattle.semantics.specs.Outputs.{out}
+use Rattle.semantics.specs.States.{below}
+use Rattle.key_ranges.proofs.OrderLemmas.{up_to_itself}
+use Rattle.growing_history.specs.Entered.{HasEntered, HasRank}
+use Rattle.growing_history.proofs.PrefixLemmas.{prefix_refl, take_prefix}
+use Rattle.layering.specs.Parts.{IsWithin}
+use Rattle.layering.proofs.PartLemmas.{part_of_range, within_is_kept}
+use Rattle.join_eval.specs.Moves.{Moves}
+use Rattle.join_eval.proofs.MovesLemmas.{moves_refl, moves_trans}
+use Rattle.kept_ranges.specs.Sound.{KeptRange, IsSound}
+use Rattle.range_state.specs.Held.{forgotten}
+use Rattle.range_state.specs.Ready.{HasSameSubject, IsReady}
+use Rattle.range_serving.specs.Serving.{output_within}
+use Rattle.cell_slots.specs.declared.slot.Slot.TheVariants.{Lent, Held}
+use Rattle.cell_slots.specs.Slots.{Holdings, with_slot, Frame, HoldsWhole, IsDeclared, IsRightFor, StandsAs, Takes}
+use Rattle.cell_slots.specs.Spending.{KeepsJust}
+use Rattle.cell_slots.specs.FrameLaws.{frame_refl, frame_trans}
+use Rattle.rank_layers.proofs.FrameLemmas.{frame_weaker, frame_around, still_lent, given_back}
+
+-- ---- how a reader goes on
+
+-- what a reader goes on by may be said in weaker words
+pub moves_as : {S : Type 0} (list : S → History) (floor : S → ℕ) (went more : S → S → Type 0) (a b : S) → (went a b → more a b) → Moves list floor went a b → Moves list floor more a b
+moves_as list floor went more a b weaker moves = record { kept = moves.kept; entered = moves.entered; same_floor = moves.same_floor; on = weaker moves.on }
+
+-- how the reader below goes on, as a layer's
+pub moves_below : {S : Type 0} (list : S → History) (floor : S → ℕ) (went : S → S → Type 0) (holds : S → Holdings) (top rank : ℕ) (a b : S) → top ≡ rank → (went a b → Frame top (holds a) (holds b)) → Moves list floor went a b →
+    Moves list floor (λ x y. Frame (rank + 1) (holds x) (holds y)) a b
+moves_below list floor went holds top rank a b is frames moves =
+    moves_as list floor went (λ x y. Frame (rank + 1) (holds x) (holds y)) a b
+    (λ on. frame_weaker rank (rank + 1) (holds a) (holds b) (omega arith) (subst (λ t. Frame t (holds a) (holds b)) is (frames on))) moves
+
+-- a reader that keeps its list and its floor
+pub moves_by_frame : {S : Type 0} (list : S → History) (floor : S → ℕ) (holds : S → Holdings) (top : ℕ) (a b : S) → list b ≡ list a → floor b ≡ floor a → Frame top (holds a) (holds b) →
+    Moves list floor (λ x y. Frame top (holds x) (holds y)) a b
+moves_by_frame list floor holds top a b same floors frame = record {
+  kept = subst (IsPrefix (list a)) (sym same) (prefix_refl (list a));
+  entered = subst HasEntered (sym same);
+  same_floor = floors;
+  on = frame;
+}
+
+-- ---- joins by their positions
+
+get-append : {A : Type 0} (xs ys : List A) (i : ℕ) (x : A) → slice_get xs i ≡ Some x → slice_get (xs ++ ys) i ≡ Some x
+get-append [] ys i x is = absurd (none-some x is)
+get-append (y ∷ xs) ys zero x is = is
+get-append (y ∷ xs) ys (suc i) x is = get-append xs ys i x is
+
+-- a join that was declared stays so in a longer history
+pub declared_over_longer : (h more : History) (at : ℕ) (j : Join) → IsPrefix h more → IsDeclared h at j → IsDeclared more at j
+declared_over_longer h more at j prefix d = record {
+  counted = d.counted;
+  entry = d.entry;
+  stands = ap (λ l. slice_get l (at - 1)) prefix.1 ∙ get-append h prefix.0 (at - 1) d.entry d.stands;
+  declares = d.declares;
+}
+
+declared_as : (w : Write) → (j k : Join) → w ≡ declare j → w ≡ declare k → j ≡ k
+declared_as w j k is also = cc
+
+-- at a position one join is declared
+pub declared_once : (h : History) (at : ℕ) (j k : Join) → IsDeclared h at j → IsDeclared h at k → j ≡ k
+declared_once h at j k d e =
+    let same : d.entry ≡ e.entry = same_Some d.entry e.entry (sym d.stands ∙ e.stands) in
+    declared_as d.entry.write j k d.declares (ap (λ (x : Entry). x.write) same ∙ e.declares)
+
+-- ---- a kept range that is taken out of a slot, worked on and given back
+
+-- what is right stays right after work that keeps its subject
+pub right_after : (h more : History) (at : ℕ) (state after : KeptRange) → IsPrefix h more → IsRightFor h at state → HasSameSubject state after → IsSound after more → IsRightFor more at after
+right_after h more at state after prefix right same sound = record {
+  declared = subst (IsDeclared more at) (sym same.join) (declared_over_longer h more at state.join prefix right.declared);
+  sound = sound;
+}
+
+-- its place is still lent
+pub place_lent : (h : History) (floor : ℕ) (before lent mid : Holdings) (id at rank p : ℕ) (part : Range) (state after : KeptRange) → Takes h floor before lent id at rank p part state → Frame rank lent mid → HasSameSubject state after →
+    slice_get mid.slots id ≡ Some (Lent at after.range)
+place_lent h floor before lent mid id at rank p part state after takes frame same =
+    still_lent before lent mid id at rank (Held at takes.was) state.range takes.held takes.lent frame ∙ ap (λ range. Some (Lent at range)) (sym same.range)
+
+-- around the work the slots go on as a layer's
+pub frame_part : (h : History) (floor : ℕ) (before lent mid after : Holdings) (id at rank p : ℕ) (part : Range) (state s : KeptRange) → Takes h floor before lent id at rank p part state → Frame rank lent mid →
+    after ≡ with_slot id (Held at s) mid → Frame (rank + 1) before after
+frame_part h floor before lent mid after id at rank p part state s takes frame set =
+    frame_around before lent mid after id at rank takes.was s state.range takes.held takes.least takes.lent frame set
+
+-- and so does the reader
+pub moves_part : {S : Type 0} (list : S → History) (floor : S → ℕ) (went : S → S → Type 0) (holds : S → Holdings) (top rank : ℕ) (a b c d : S) (id at p : ℕ) (part : Range) (state s : KeptRange) → top ≡ rank →
+    Takes (list a) (floor a) (holds a) (holds b) id at rank p part state → list b ≡ list a → floor b ≡ floor a → (went b c → Frame top (holds b) (holds c)) → Moves list floor went b c →
+    holds d ≡ with_slot id (Held at s) (holds c) → list d ≡ list c → floor d ≡ floor c → Moves list floor (λ x y. Frame (rank + 1) (holds x) (holds y)) a d
+moves_part list floor went holds top rank a b c d id at p part state s is takes same floors frames moves set last last_floor = record {
+  kept = subst (λ l. IsPrefix l (list d)) same (subst (IsPrefix (list b)) (sym last) moves.kept);
+  entered = λ e. subst HasEntered (sym last) (moves.entered (subst HasEntered (sym same) e));
+  same_floor = last_floor ∙ moves.same_floor ∙ floors;
+  on = frame_part (list a) (floor a) (holds a) (holds b) (holds c) (holds d) id at rank p part state s takes (subst (λ t. Frame t (holds b) (holds c)) is (frames moves.on)) set;
+}
+
+-- what was served is the join's output in the part
+pub output_of_part : (h more : History) (floor : ℕ) (before lent : Holdings) (id at rank p : ℕ) (part : Range) (state : KeptRange) (j : Join) → Takes h floor before lent id at rank p part state → more ≡ h → IsDeclared h at j →
+    output_within state more p part ≡ pairs_within part (out j (below (take p h) rank))
+output_of_part h more floor before lent id at rank p part state j takes same declared =
+    part_of_range part state.range (out state.join (below (take p more) state.rank)) (λ key. within_is_kept part state.range key takes.whole)
+    ∙ (λ i. pairs_within part (out (declared_once h at state.join j takes.right.declared declared i) (below (take p (same i)) (takes.ranked i))))
+
+-- a range lies within itself
+pub within_itself : (range : Range) → IsWithin range range
+within_itself range = record { begins = up_to_itself range.low; ends = up_to_itself range.high }
+
+-- a cell that was reserved holds the whole part once it is read
+pub whole_from : (mid after : Holdings) (id at rank p : ℕ) (part : Range) (j : Join) (state s : KeptRange) → state ≡ forgotten j rank part → slice_get mid.slots id ≡ Some (Lent at s.range) → after ≡ with_slot id (Held at s) mid →
+    HasSameSubject state s → IsReady p part s → (state.position ≡ None → s.kept.pending ≡ []) → HoldsWhole after.slots id at p part
+whole_from mid after id at rank p part j state s is lent set same ready filled = record {
+  state = s;
+  held = given_back mid after id (Held at s) (Lent at s.range) lent set;
+  stands = ready.stands;
+  clear = filled (ap (λ (k : KeptRange). k.position) is);
+  just = same.range ∙ ap (λ (k : KeptRange). k.range) is;
+}
+
+-- the cell alone was used, where the reader that worked uses none
+pub keeps_from : (h : History) (floor : ℕ) (before lent mid after : Holdings) (id at rank p : ℕ) (part : Range) (state s : KeptRange) → Takes h floor before lent id at rank p part state → Frame rank lent mid →
+    after ≡ with_slot id (Held at s) mid → HoldsWhole after.slots id at p part → KeepsJust before after rank at p part
+keeps_from h floor before lent mid after id at rank p part state s takes frame set whole = record {
+  id = id;
+  is = whole;
+  alone = λ none. ap (λ (c : Holdings). c.used) set ∙ frame.unused none ∙ ap (λ (c : Holdings). c.used) takes.lent;
+}
+
+-- ---- over longer histories
+
+-- a join stands so in a longer history too
+pub stands_over : (h more : History) (p at rank : ℕ) (j : Join) → p ≤ length h → IsPrefix h more → StandsAs h p at rank j → StandsAs more p at rank j
+stands_over h more p at rank j less prefix stands = record {
+  declared = declared_over_longer h more at j prefix stands.declared;
+  ranked = subst (λ l. HasRank (joins_of l) j rank) (sym (take_prefix p h more less prefix)) stands.ranked;
+}
+
+-- layers go on one after another
+pub moves_on : {S : Type 0} (list : S → History) (floor : S → ℕ) (holds : S → Holdings) (top : ℕ) (a b c : S) →
+    Moves list floor (λ x y. Frame top (holds x) (holds y)) a b → Moves list floor (λ x y. Frame top (holds x) (holds y)) b c → Moves list floor (λ x y. Frame top (holds x) (holds y)) a c
+moves_on list floor holds top a b c = moves_trans list floor (λ x y. Frame top (holds x) (holds y)) a b c (frame_trans top (holds a) (holds b) (holds c))
+
+-- a reader that is not called
+pub moves_not : {S : Type 0} (list : S → History) (floor : S → ℕ) (holds : S → Holdings) (top : ℕ) (a : S) → Moves list floor (λ x y. Frame top (holds x) (holds y)) a a
+moves_not list floor holds top a = moves_refl list floor (λ x y. Frame top (holds x) (holds y)) a (frame_refl top (holds a))
+
+-- what a function makes of one element more
+pub flat_map_more : {A B : Type 0} (f : A → List B) (xs : List A) (i : ℕ) (x : A) → i < length xs → x ≡ get_or xs i x → flat_map f (take (i + 1) xs) ≡ flat_map f (take i xs) ++ f x
+flat_map_more f xs i x less is =
+    ap (flat_map f) (take_more xs i x less ∙ ap (λ y. take i xs ++ y ∷ []) (sym is)) ∙ flat_map-append f (take i xs) (x ∷ []) ∙ ap (λ ys. flat_map f (take i xs) ++ ys) (append-nil (f x))
+
+-- what a call of the reader below ensures, as a layer's
+pub moves_from_call : {S : Type 0} (list : S → History) (floor : S → ℕ) (went : S → S → Type 0) (holds : S → Holdings) (top rank : ℕ) (a b : S) → top ≡ rank → (went a b → Frame top (holds a) (holds b)) →
+    IsPrefix (list a) (list b) → HasEntered (list b) → floor b ≡ floor a → went a b → Moves list floor (λ x y. Frame (rank + 1) (holds x) (holds y)) a b
+moves_from_call list floor went holds top rank a b is frames kept entered floors on =
+    moves_below list floor went holds top rank a b is frames (record { kept = kept; entered = λ e. entered; same_floor = floors; on = on })

@@ -1,0 +1,7 @@
+use Rattle.rank_layers.proofs.PartLemmas.{moves_below}
+use Rattle.rank_layers.proofs.part.read_alone.Goals as goal
+
+pub returns-clause-moves : goal.returns-clause-moves
+returns-clause-moves g c =
+    moves_below g.R.Reader.list g.R.Reader.floor g.R.Reader.went g.R.Cells.holdings g.R.Reader.top c.args.asked.rank c.args.reader.now c.serve_alone.new.reader c.requires.next
+    (g.met.R.Cells.went_frame c.args.reader.now c.serve_alone.new.reader) c.serve_alone.ensures.moves

@@ -1,0 +1,5 @@
+use Rattle.core_events.proofs.PlainLemmas.{scan_is_freed}
+use Rattle.core_events.proofs.plain_laws.scan_is_freed.Goals as goal
+
+pub returns : goal.returns
+returns c = scan_is_freed

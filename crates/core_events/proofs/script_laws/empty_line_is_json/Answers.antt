@@ -1,0 +1,7 @@
+use Rattle.std.proofs.Common.{refl}
+use Rattle.core_events.proofs.Computes.{definitions_on_literals}
+use Rattle.core_events.proofs.script_laws.empty_line_is_json.Goals as goal
+
+pub returns : goal.returns
+unfolding definitions_on_literals
+returns c = refl

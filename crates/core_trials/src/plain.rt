@@ -1,0 +1,148 @@
+// The core with nothing kept: one client alone, who evaluates the state afresh where a scan begins.
+ghost use Rattle.std.specs.Prelude.{◌<◌, length, IfSome};
+
+use crate::showing::show_done;
+use join_types::{Pair, Write};
+use key_space::Range;
+use plain_client::PlainClient;
+use request_codec::{Reply, Request};
+use scan_events::{Done, Event, ScanBound};
+use session::Service;
+use std::alloc::Global;
+use std::test::Fail;
+
+/// A scan under way.
+#[derive(Drop)]
+struct PlainScan {
+    number: u32,
+    range: Range,
+    /// Up to where it is answered.
+    place: ScanBound,
+    /// How many entries there were where it began.
+    position: u64,
+    /// The pairs of its range that stood there.
+    pairs: Vec<Pair>,
+}
+
+/// A core that keeps nothing but the entries, and what it will answer to the scans under way.
+#[derive(Drop)]
+struct PlainCore {
+    client: PlainClient,
+    scans: Vec<PlainScan>,
+}
+
+/// The request that a write is.
+fn request_of(write: Write) -> Request {
+    match write {
+        Write::Put(key, value) => Request::Put(key, value),
+        Write::Remove(key) => Request::Remove(key),
+        Write::Declare(join) => Request::Declare(join),
+    }
+}
+
+/// What the client answers to a request.
+fn ask(client: &mut PlainClient, request: Request) -> Result<Reply, Fail> {
+    match request {
+        Request::Quit => Err(Fail::from("a client is not asked to quit")),
+        request => Ok(client.answer(request)),
+    }
+}
+
+/// Where the scan with a number stands among those under way, if there is one.
+fn find(scans: &[PlainScan], number: u32) -> Option<usize>
+    ensures { IfSome result (λ i. i < length scans.now) }
+{
+    for (i, scan) in scans.iter().enumerate() {
+        if scan.number == number {
+            return Some(i);
+        }
+    }
+    None
+}
+
+impl PlainCore {
+    /// A write enters where nothing is against it.
+    fn append(&mut self, write: Write) -> Result<Done, Fail> {
+        match ask(&mut self.client, request_of(write))? {
+            Reply::Done(position) => Ok(Done::Entered(position)),
+            Reply::Refused(position, cause) => Ok(Done::Refused(position, cause)),
+            _ => Err(Fail::from("a write is not answered")),
+        }
+    }
+
+    /// A scan begins after all entries, unless one with its number is under way.
+    fn begin(&mut self, number: u32, range: Range) -> Result<Done, Fail> {
+        if find(self.scans.as_slice(), number).is_some() {
+            return Ok(Done::Nothing);
+        }
+        let place = ScanBound::first_of(&range)?;
+        let asked = Request::Scan(range.copy()?);
+        let Reply::Pairs(position, pairs) = ask(&mut self.client, asked)? else {
+            return Err(Fail::from("a scan is not answered"));
+        };
+        self.scans.push(PlainScan {
+            number,
+            range,
+            place,
+            position,
+            pairs,
+        })?;
+        Ok(Done::Begun(position))
+    }
+
+    /// The place of a scan moves to a bound above it, up to the scan's last bound.
+    fn piece(&mut self, number: u32, upto: ScanBound) -> Done {
+        let Some(i) = find(self.scans.as_slice(), number) else {
+            return Done::Nothing;
+        };
+        let scan = &mut self.scans[i];
+        if upto.text() <= scan.place.text() || scan.range.hi() < upto.text() {
+            return Done::Nothing;
+        }
+        scan.place = upto;
+        Done::Answered
+    }
+
+    /// A scan that has come to its last bound ends with its pairs.
+    fn finish(&mut self, number: u32) -> Done {
+        let Some(i) = find(self.scans.as_slice(), number) else {
+            return Done::Nothing;
+        };
+        let scan = &self.scans[i];
+        if scan.place.text() < scan.range.hi() {
+            return Done::Nothing;
+        }
+        let PlainScan {
+            position,
+            pairs,
+            ..
+        } = self.scans.remove(i);
+        Done::Finished { position, pairs }
+    }
+
+    /// The answer to an event, none where it is of a cell.
+    fn step(&mut self, event: Event) -> Result<Option<Done>, Fail> {
+        match event {
+            Event::Append { write, .. } => Ok(Some(self.append(write)?)),
+            Event::Begin { scan, range } => Ok(Some(self.begin(scan, range)?)),
+            Event::Piece { scan, upto } => Ok(Some(self.piece(scan, upto))),
+            Event::Finish { scan } => Ok(Some(self.finish(scan))),
+            Event::Advance { .. } | Event::Mend { .. } | Event::Evict { .. } => Ok(None),
+        }
+    }
+}
+
+/// The answers to the events that are of no cell with nothing kept, as lines.
+pub fn show_plain(alloc: Global, events: Vec<Event>) -> Result<String, Fail> {
+    let mut core = PlainCore {
+        client: PlainClient::new(alloc),
+        scans: Vec::new(alloc),
+    };
+    let mut text = String::new(alloc);
+    for event in events {
+        if let Some(done) = core.step(event)? {
+            show_done(alloc, &mut text, &done)?;
+        }
+    }
+    Ok(text)
+}

@@ -1,0 +1,119 @@
+-- What the reader of all ranks leaves of what cells hold, where one is taken out, worked on and put back.
+use Rattle.std.proofs.Common.{◌≡◌, ◌⊎◌, ℕ, ◌≤◌, [], true, false, take, slice_get, List, Option, Some, None, IfSome, is_some, Result, Ok, Err, OnOk, inl, inr, sym, ap, ◌∙◌, subst, arith}
+use Rattle.std.proofs.lemmas.Bool.{cases_eq, false≢true}
+use Rattle.std.proofs.lemmas.Option.{slice_get_within}
+use Rattle.semantics.specs.Texts.{is_range, Range}
+use Rattle.semantics.specs.Joins.{Join}
+use Rattle.semantics.specs.Histories.{History, IsPrefix, joins_of}
+use Rattle.semantics.specs.States.{ranks_of}
+use Rattle.semantics.proofs.OfRankLemmas.{all_at}
+use Rattle.semantics.proofs.AdmissibleSets.{entered_is_admissible_lem}
+use Rattle.growing_history.specs.Entered.{HasEntered, HasRank}
+use Rattle.growing_history.proofs.EnteredLemmas.{has_entered_taken}
+use Rattle.kept_ranges.specs.Sound.{KeptRange, IsSound, IsSoundAt}
+use Rattle.range_state.specs.Ready.{pending_meets}
+use Rattle.cell_slots.specs.declared.slot.Slot.{Slot}
+use Rattle.cell_slots.specs.declared.slot.Slot.TheVariants.{Lent, Held}
+use Rattle.cell_slots.specs.Slots.{Holdings, with_slot, Frame, HasFree, MeetsNone, HoldsReady, IsDeclared, IsRightFor}
+use Rattle.cell_slots.specs.Spending.{Spends}
+use Rattle.cell_table.proofs.SlotLemmas.{get-set_same, get-set_other}
+use Rattle.rank_layers.proofs.PartLemmas.{declared_over_longer}
+use Rattle.scan_core.specs.Bringing.{HasSamePlace}
+use Rattle.scan_core.specs.Cells.{HoldsAt, IsTaken, IsTakenOut, KeepsLast}
+use Rattle.scan_core.specs.Rights.{AreRight, Contents}
+use Rattle.scan_core.specs.Worlds.{NoneLent, IsMendedIn, PieceSpends}
+use Rattle.scan_core.proofs.SpendLemmas.{index_stands, rank_within, kept_after, used_after}
+
+-- what was found is what was taken out
+pub taken_out : (h : History) (id : ℕ) (before after : Holdings) (found : Option (ℕ × KeptRange)) (at : ℕ) (s : KeptRange) → found ≡ Some (at, s) → IsTaken h id before after found → IsTakenOut h id before after at s
+taken_out h id before after found at s is taken = subst (IsTaken h id before after) is taken
+
+-- what holds where something is there holds where it is
+pub where_some : (o : Option ℕ) (P : Type 0) → IfSome o (λ q. P) → is_some o ≡ true → P
+where_some None P h some = absurd (false≢true some)
+where_some (Some q) P h some = h
+
+-- a kept range that stands somewhere has a rank that a reader of all ranks reads
+pub small_rank : (h : History) (s : KeptRange) → HasEntered h → IsSound s h → IfSome s.position (λ q. s.rank ≤ 8)
+small_rank h s entered sound = by s.position sound
+  where
+    by : (o : Option ℕ) → IfSome o (IsSoundAt s h) → IfSome o (λ q. s.rank ≤ 8)
+    by None sound = tt
+    by (Some q) sound =
+        let r = sound.stands in
+        let joins = joins_of (take q h) in
+        let few = all_at (λ n. n ≤ 7) (ranks_of joins) r.place _ (entered_is_admissible_lem (take q h) (has_entered_taken q h entered).entered).shallow (index_stands (ranks_of joins) r.place (rank_within joins r.place r.standing r.stands)) in
+        omega (arith, few, r.ranked)
+
+-- so has a join that stands
+pub rank_small : (h : History) (q : ℕ) (j : Join) (rank : ℕ) → HasEntered h → HasRank (joins_of (take q h)) j rank → rank ≤ 8
+rank_small h q j rank entered r =
+    let joins = joins_of (take q h) in
+    let few = all_at (λ n. n ≤ 7) (ranks_of joins) r.place _ (entered_is_admissible_lem (take q h) (has_entered_taken q h entered).entered).shallow (index_stands (ranks_of joins) r.place (rank_within joins r.place r.standing r.stands)) in
+    omega (arith, few, r.ranked)
+
+-- the place of what was taken out is still lent
+pub still_there : (before taken mid : Holdings) (id at : ℕ) (s : KeptRange) (range : Range) → HoldsAt before.slots id at s → taken ≡ with_slot id (Lent at s.range) before → Frame 8 taken mid → range ≡ s.range →
+    slice_get mid.slots id ≡ Some (Lent at range)
+still_there before taken mid id at s range held lent frame same =
+    frame.left id (Lent at s.range) (ap (λ (c : Holdings). slice_get c.slots id) lent ∙ get-set_same before.slots id (Lent at s.range) (slice_get_within before.slots id (Held at s) held)) tt
+    ∙ ap (λ r. Some (Lent at r)) (sym same)
+
+-- what was worked on is right for the history after it
+pub right_same : (h more : History) (at : ℕ) (s t : KeptRange) → IsPrefix h more → IsRightFor h at s → HasSamePlace s t → IsSound t more → IsRightFor more at t
+right_same h more at s t prefix right same sound = record {
+  declared = subst (IsDeclared more at) (sym same.join) (declared_over_longer h more at s.join prefix right.declared);
+  sound = sound;
+}
+
+-- it stands in its slot afterwards
+pub held_back : (mid after : Holdings) (id at : ℕ) (s : KeptRange) → slice_get mid.slots id ≡ Some (Lent at s.range) → after ≡ with_slot id (Held at s) mid → HoldsAt after.slots id at s
+held_back mid after id at s lent put =
+    ap (λ (c : Holdings). slice_get c.slots id) put ∙ get-set_same mid.slots id (Held at s) (slice_get_within mid.slots id (Lent at s.range) lent)
+
+held_not_lent : (at other : ℕ) (s : KeptRange) (range : Range) → Some (Held at s) ≡ Some (Lent other range) → ⊥
+held_not_lent at other s range e = cc
+
+-- and no slot is lent, where none was
+pub none_lent_back : (before taken mid after : Holdings) (id at : ℕ) (s t : KeptRange) → taken ≡ with_slot id (Lent at s.range) before → Frame 8 taken mid → slice_get mid.slots id ≡ Some (Lent at t.range) →
+    after ≡ with_slot id (Held at t) mid → NoneLent before.slots → NoneLent after.slots
+none_lent_back before taken mid after id at s t lent frame there put none other from range is = by (cases_eq other id)
+  where
+    by : (other ≡ id) ⊎ (other ≡ id → ⊥) → ⊥
+    by (inl e) = held_not_lent at from t range (sym (held_back mid after id at t there put) ∙ ap (slice_get after.slots) (sym e) ∙ is)
+    by (inr apart) =
+        let in_mid = sym (ap (λ (c : Holdings). slice_get c.slots other) put ∙ get-set_other mid.slots id other (Held at t) apart) ∙ is in
+        let in_taken = frame.lent other from range in_mid in
+        none other from range (sym (ap (λ (c : Holdings). slice_get c.slots other) lent ∙ get-set_other before.slots id other (Lent at s.range) apart) ∙ in_taken)
+
+-- where mending succeeds, the cell is mended
+pub mended_from : {X E : Type 0} (r : Result X E) (before after : List Slot) (id at : ℕ) (part : Range) (s t : KeptRange) → HoldsAt before id at s → HoldsAt after id at t → t.range ≡ s.range →
+    OnOk r (t.position ≡ s.position) → OnOk r (pending_meets t part ≡ false) → OnOk r (IsMendedIn before after id part)
+mended_from (Ok x) before after id at part s t was held range position clear = record {
+  at = at;
+  was = s;
+  kept = t;
+  held_before = was;
+  held = held;
+  range = range;
+  position = position;
+  clear = clear;
+}
+mended_from (Err e) before after id at part s t was held range position clear = tt
+
+-- ---- a piece
+
+-- what a piece leaves and costs
+pub piece_from : (h read : History) (before cleared : Holdings) (mid : Contents) (after : Holdings) (p : ℕ) (range : Range) (added : ℕ) → read ≡ h → cleared.slots ≡ before.slots → cleared.used ≡ [] → cleared.setting ≡ before.setting →
+    mid.history ≡ read → mid.cells.setting ≡ cleared.setting → HasEntered read → is_range range.low range.high ≡ true → Spends read cleared mid.cells p range 8 added → AreRight mid.history mid.cells.slots → KeepsLast mid after.slots →
+    PieceSpends h before after p range added
+piece_from h read before cleared mid after p range added same slots unused setting same_mid setting_mid entered is spends right keeps =
+    let entered_h = subst HasEntered same entered in
+    let spends_h = subst (λ l. Spends l cleared mid.cells p range 8 added) same spends in
+    record {
+      kept = λ place s reach not_empty stands free apart few.
+          kept_after h p range place s cleared mid after.slots before.setting.room added entered_h unused (same_mid ∙ same) (ap (λ x. x.room) (setting_mid ∙ setting)) spends_h right keeps reach not_empty
+          stands (subst HasFree (sym slots) free) (subst (λ xs. MeetsNone xs s.position range) (sym slots) apart) few;
+      used = λ place s reach not_empty ready.
+          used_after h p range place s cleared mid.cells added entered_h is spends_h reach not_empty (subst (λ xs. HoldsReady xs s.position p range) (sym slots) ready);
+    }

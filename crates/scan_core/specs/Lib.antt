@@ -1,0 +1,9 @@
+pub mod Rights
+pub mod Reading
+pub mod CoreLaws
+pub mod Cells
+pub mod Towers
+pub mod Bringing
+pub mod Going
+pub mod Worlds
+pub mod Running

@@ -1,0 +1,130 @@
+// What a scan's piece and events of cells do to the reader.
+ghost use Rattle.std.specs.Prelude.{◌≡◌, ℕ, ◌-◌, ◌≤◌, length, take, IfOk, OnOk};
+ghost use Rattle.semantics.specs.Texts.{pairs_within};
+ghost use Rattle.semantics.specs.Histories.{joins_of};
+ghost use Rattle.semantics.specs.States.{state};
+ghost use Rattle.growing_history.specs.Entered.{HasEntered, HasRank};
+ghost use Rattle.kept_ranges.specs.Sound.{KeptRange};
+ghost use Rattle.range_serving.specs.Serving.{IsPast};
+ghost use Rattle.cell_slots.specs.Slots.{Frame};
+ghost use Rattle.cell_slots.specs.Spending.{Spends};
+ghost use Rattle.scan_core.specs.Cells.{HoldsAt, IsHeldAt};
+ghost use Rattle.scan_core.specs.Rights.{AreRight};
+ghost use Rattle.scan_core.specs.Worlds.{IsBroughtIn, IsMendedIn, NoneLent, PieceSpends};
+
+use crate::cell_events::{bring, mend};
+use crate::stack::Stack;
+use join_eval::Reader;
+use join_types::Pair;
+use key_space::Range;
+use out_of_memory::OutOfMemory;
+use std::alloc::Global;
+use std::sync::ledger::Ledger;
+use steps::Steps;
+
+/// The pairs of a range after the first p entries, with the joins of all ranks. The history stays, and no more cells are lent.
+fn read_all<L: Ledger>(
+    reader: &mut Stack,
+    p: u64,
+    range: &Range,
+    steps: &mut Steps<L>,
+) -> Result<Vec<Pair>, OutOfMemory>
+    requires { p ≤ length reader.old.history }
+    ensures exact { IfOk result (λ pairs. pairs.items ≡ pairs_within range.now (state (take p reader.old.history))) }
+    ensures spent { IfOk result (λ _. Spends reader.old.history reader.old.cells reader.new.cells p range.now 8 (steps.new - steps.old)) }
+    ensures counted { steps.old ≤ steps.new }
+    ensures history { reader.new.history ≡ reader.old.history }
+    ensures frame { Frame 8 reader.old.cells reader.new.cells }
+    ensures entered { HasEntered reader.old.history }
+    ensures right { AreRight reader.new.history reader.new.cells.slots }
+{
+    reader.look();
+    let found = reader.pairs(p, range, 8, steps);
+    reader.look();
+    found
+}
+
+/// The pairs of a range after the first p entries. The book is told of the cells that were used, and frees those that have to
+/// go. The history stays.
+pub fn read_piece<L: Ledger>(
+    reader: &mut Stack,
+    p: u64,
+    range: &Range,
+    steps: &mut Steps<L>,
+) -> Result<Vec<Pair>, OutOfMemory>
+    requires { p ≤ length reader.old.history }
+    ensures exact { IfOk result (λ pairs. pairs.items ≡ pairs_within range.now (state (take p reader.old.history))) }
+    ensures spends { OnOk result (PieceSpends reader.old.history reader.old.cells reader.new.cells p range.now (steps.new - steps.old)) }
+    ensures counted { steps.old ≤ steps.new }
+    ensures history { reader.new.history ≡ reader.old.history }
+    ensures unlent { NoneLent reader.old.cells.slots → NoneLent reader.new.cells.slots }
+    ensures room { reader.new.cells.setting.room ≡ reader.old.cells.setting.room }
+{
+    let _low = range.lo();
+    reader.clear_used();
+    let found = read_all(reader, p, range, steps);
+    let settled = reader.settle();
+    let pairs = found?;
+    settled?;
+    Ok(pairs)
+}
+
+/// Brings what a cell holds to a position, with the rank that its join has there.
+///
+/// On `OutOfMemory` the cell holds what it held, or nothing is kept for its range.
+pub fn advance_cell<L: Ledger>(
+    alloc: Global,
+    reader: &mut Stack,
+    id: u32,
+    rank: u8,
+    to: u64,
+    steps: &mut Steps<L>,
+) -> Result<(), OutOfMemory>
+    requires within { to ≤ length reader.old.history }
+    requires held { IsHeldAt reader.old.cells.slots id }
+    requires before { (at : ℕ) (s : KeptRange) → HoldsAt reader.old.cells.slots id at s → IsPast to s → ⊥ }
+    requires stands { (at : ℕ) (s : KeptRange) → HoldsAt reader.old.cells.slots id at s → HasRank (joins_of (take to reader.old.history)) s.join rank }
+    requires small { rank ≤ 8 }
+    ensures brought { OnOk result (IsBroughtIn reader.old.cells.slots reader.new.cells.slots id to) }
+    ensures counted { steps.old ≤ steps.new }
+    ensures history { reader.new.history ≡ reader.old.history }
+    ensures unlent { NoneLent reader.old.cells.slots → NoneLent reader.new.cells.slots }
+    ensures room { reader.new.cells.setting.room ≡ reader.old.cells.setting.room }
+{
+    let Some((at, state)) = reader.take(id)? else {
+        unreachable!()
+    };
+    let mut state = state;
+    reader.look();
+    let brought = bring(alloc, &mut state, rank, to, reader, steps);
+    reader.look();
+    reader.give_back(id, at, state);
+    brought
+}
+
+/// Finds anew what is pending in a range of what a cell holds.
+///
+/// On `OutOfMemory` the cell holds what it held, or nothing is kept for its range.
+pub fn mend_cell<L: Ledger>(
+    reader: &mut Stack,
+    id: u32,
+    range: &Range,
+    steps: &mut Steps<L>,
+) -> Result<(), OutOfMemory>
+    requires { IsHeldAt reader.old.cells.slots id }
+    ensures mended { OnOk result (IsMendedIn reader.old.cells.slots reader.new.cells.slots id range.now) }
+    ensures counted { steps.old ≤ steps.new }
+    ensures history { reader.new.history ≡ reader.old.history }
+    ensures unlent { NoneLent reader.old.cells.slots → NoneLent reader.new.cells.slots }
+    ensures room { reader.new.cells.setting.room ≡ reader.old.cells.setting.room }
+{
+    let Some((at, state)) = reader.take(id)? else {
+        unreachable!()
+    };
+    let mut state = state;
+    reader.look();
+    let mended = mend(&mut state, range, reader, steps);
+    reader.look();
+    reader.give_back(id, at, state);
+    mended
+}

@@ -1,7 +1,7 @@
 #!/usr/bin/env bash
-# Runs the built program on what stands under examples/: requests with their replies, and files of joins with what is written
-# about them. Then on lines that are too long to stand there, and to each end that can be had here. It compares what is
-# written, the status, and the line on standard error.
+# Runs the built program on what stands under examples/: requests with their replies, files of joins with what is written about
+# them, and scripts of events with what is printed about them. Then on lines that are too long to stand there, on loads, and to
+# each end that can be had here. It compares what is written, the status, and the line on standard error.
 # Usage: bench/examples.sh PROGRAM
 set -u
 program=$(realpath "${1:?the path of the built program}")
@@ -22,7 +22,10 @@ attempt() {
 
 # judge NAME STATUS ENDED WANTED: says whether the program ended with the status and wrote what was wanted.
 judge() {
-  if [ "$3" = "$2" ] && cmp -s "$folder/written" "$4" && [ "$(cat "$folder/message")" = "${messages[$2]}" ]; then
+  # With status 2 the text that says how the program is called follows.
+  local message
+  message=$(if [ "$2" = 2 ]; then head -n 1 "$folder/message"; else cat "$folder/message"; fi)
+  if [ "$3" = "$2" ] && cmp -s "$folder/written" "$4" && [ "$message" = "${messages[$2]}" ]; then
     echo "same: $1"
   else
     echo "differs: $1"
@@ -39,6 +42,13 @@ for joins in *.joins; do
   grep -q '^\["refused"' "$written" && status=7
   attempt "$joins" "$status" "$written" check "$joins"
 done
+for script in *.script; do
+  printed=${script%.script}.printed
+  status=0
+  grep -q '^\["refused"' "$printed" && status=7
+  attempt "$script" "$status" "$printed" replay "$script"
+  attempt "$script in one cell" "$status" "$printed" replay --cells 1 --rows 1 "$script"
+done
 
 echo '["error","value"]' > "$folder/wanted"
 attempt "a value of 65,537 bytes" 0 "$folder/wanted" run < <(printf '["put","k|a","%65537s"]\n' '')
@@ -46,6 +56,16 @@ echo '["error","long"]' > "$folder/wanted"
 attempt "a line of 1,048,577 bytes" 3 "$folder/wanted" run < <(printf '%1048577s\n' '')
 
 attempt "no words" 2 /dev/null < first.requests
+attempt "an option that is not there" 2 /dev/null run --cell 1 < first.requests
+for word in run check replay load; do
+  grep -q "$word" "$folder/message" || { echo "differs: the usage names no $word"; failed=1; }
+done
+echo '["load",2,0,0,0,0,0,0]' > "$folder/wanted"
+attempt "a load of no act" 0 "$folder/wanted" load --steps 0
+echo '["load",1506,195,783,214,1519,90,58245]' > "$folder/wanted"
+attempt "a load of 2,000 acts" 0 "$folder/wanted" load --number 7 --steps 2000
+attempt "a load of 2,000 acts with one row kept" 0 "$folder/wanted" load --number 7 --steps 2000 --rows 1
+attempt "a script that is not there" 9 /dev/null replay none
 attempt "a file that is not there" 9 /dev/null check none
 attempt "standard input that is a folder" 4 /dev/null run < .
 : > "$folder/written"

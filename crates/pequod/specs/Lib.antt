@@ -1,5 +1,5 @@
-pub mod Words
+pub mod Built
 pub mod Statuses
-pub mod Histories
-pub mod Commands
+pub mod Replays
+pub mod Loads
 pub mod Messages

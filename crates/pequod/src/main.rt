@@ -1,22 +1,26 @@
 // Pequod: an ordered key-value cache with cache joins, as a program.
 //
 // `main` makes the real source, sink and shelf and hands them to the top call, `top::pequod`, which does all that the program
-// does and carries its contract. The crate stands on `session`, `joins_file` and `join_model`, and on what is below them.
+// does and carries its contract. The crate stands on `command_words` for the words, on `session` and `world_client` for `run`, on
+// `joins_file` for `check`, on `event_script` and `scan_core` for `replay`, on `load_run` for `load`, on `clap` of the toolchain for
+// the text that says how it is called, and on what is below them.
 #![tactic(auto)]
 
 mod check;
-mod plain_client;
+mod load;
+mod replay;
 mod run;
 mod status;
 #[cfg(test)]
 mod tests;
 mod top;
-mod words;
+mod usage;
 
 ghost use Rattle.std.specs.Prelude.{◌≡◌, ◌⊎◌, IfErr};
 
 use crate::status::Status;
 use crate::top::pequod;
+use crate::usage::usage;
 use pq_io::{FileShelf, Reading, Writing};
 use std::env;
 use std::io::ErrorKind;
@@ -59,6 +63,11 @@ fn main(rt: HostRuntime) -> ExitCode {
     };
     if let Some(message) = status.message() {
         let _ = rt.eprintln(message);
+    }
+    if status == Status::WORDS
+        && let Ok(text) = usage(rt.alloc())
+    {
+        let _ = rt.eprintln(text.as_str());
     }
     ExitCode::from(status.number)
 }

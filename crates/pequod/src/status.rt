@@ -19,9 +19,9 @@ impl Status {
     pub const READ_FAULT: Status = Status { number: 4 };
     /// A write failed.
     pub const WRITE_FAULT: Status = Status { number: 5 };
-    /// There was no memory: to begin `run`, or for what `check` would write.
+    /// There was no memory: to begin `run`, or for what `check`, `replay` or `load` would write.
     pub const MEMORY: Status = Status { number: 6 };
-    /// The joins file has a refused line, which was written.
+    /// The joins file or the script has a refused line, which was written.
     pub const REFUSED: Status = Status { number: 7 };
     /// The shelf gave no file.
     pub const SHELF_FAULT: Status = Status { number: 9 };

@@ -3,6 +3,8 @@ mod examples;
 mod faults;
 mod files;
 mod limits;
+mod loads;
+mod replays;
 mod rows;
 mod words;
 
@@ -60,6 +62,14 @@ impl<'a> Given<'a> {
         Given {
             file,
             ..Given::new(&["check", "j"])
+        }
+    }
+
+    /// `replay` of a script of these bytes.
+    fn replay(file: &'a [u8]) -> Given<'a> {
+        Given {
+            file,
+            ..Given::new(&["replay", "j"])
         }
     }
 

@@ -1,0 +1,3 @@
+pub mod JoinLemmas
+pub mod KeyLemmas
+pub mod PlanLemmas

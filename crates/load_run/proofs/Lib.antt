@@ -1,0 +1,4 @@
+pub mod FreeLemmas
+pub mod ActLemmas
+pub mod LookLemmas
+pub mod TextLemmas

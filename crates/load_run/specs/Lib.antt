@@ -1,0 +1,4 @@
+pub mod Entries
+pub mod Lines
+pub mod Free
+pub mod Holdings

@@ -1,0 +1,66 @@
+// What the tables hold.
+ghost use Rattle.std.specs.Prelude.{◌≡◌, ◌+◌, ◌∷◌, [], true, IfOk, nat_eq};
+ghost use Rattle.std.specs.List.{ends_with};
+ghost use Rattle.semantics.specs.Texts.{bar, is_key};
+ghost use Rattle.load_run.specs.Lines.{pair_bytes, holding_of, table_holding};
+ghost use Rattle.load_run.specs.Holdings.{plain_holding};
+
+use join_types::Pair;
+use key_space::Range;
+use out_of_memory::OutOfMemory;
+use std::alloc::Global;
+use world_client::WorldClient;
+
+/// What a table holds.
+#[derive(Clone, Copy, Debug, PartialEq, Eq)]
+pub struct Holding {
+    /// How many pairs.
+    pub count: u64,
+    /// How many bytes their keys and values have.
+    pub bytes: u64,
+}
+
+/// The sum of two numbers of bytes. Pairs whose texts have 2^64 bytes or more are more than 2^47, for which there is no
+/// memory.
+pub fn add_bytes(bytes: u64, more: u64) -> Result<u64, OutOfMemory>
+    ensures { IfOk result (λ sum. sum ≡ bytes + more) }
+{
+    bytes.checked_add(more).ok_or(OutOfMemory)
+}
+
+/// The bytes of a pair's key and value.
+fn pair_bytes(pair: &Pair) -> u64
+    ensures { result ≡ pair_bytes pair.now }
+{
+    pair.key.text().len() as u64 + pair.value.text().len() as u64
+}
+
+/// What pairs come to. Linear in their number.
+fn holding_of(pairs: &[Pair]) -> Result<Holding, OutOfMemory>
+    ensures { IfOk result (λ holding. plain_holding holding ≡ holding_of pairs.now) }
+{
+    let mut bytes = 0;
+    for pair in pairs {
+        bytes = add_bytes(bytes, pair_bytes(pair))?;
+    }
+    Ok(Holding {
+        count: pairs.len() as u64,
+        bytes,
+    })
+}
+
+/// What the table whose keys begin with this text holds.
+pub fn table_holding(
+    alloc: Global,
+    client: &mut WorldClient,
+    prefix: &str,
+) -> Result<Holding, OutOfMemory>
+    requires key { is_key prefix.now ≡ true }
+    requires ends { ends_with nat_eq prefix.now (bar ∷ []) ≡ true }
+    ensures holding { IfOk result (λ holding. plain_holding holding ≡ table_holding prefix.now client.old) }
+    ensures same { client.new ≡ client.old }
+{
+    let range = Range::prefix_range(alloc, prefix)?;
+    let reading = client.read(&range)?;
+    holding_of(reading.pairs.as_slice())
+}

@@ -1,0 +1,43 @@
+-- The commands that the program does.
+use Rattle.std.specs.Prelude.{◌==◌, List, Bool, true, false, if◌then◌else◌, Option, Some, None, option_and_then}
+use Rattle.semantics.specs.Texts.{Text}
+use Rattle.command_words.specs.Commands.{Command, run, serve, check, replay, load, command_of}
+
+-- the command, where the program does it: `serve` waits for the server, and a load has one worker
+abbrev pub built : Command → Option Command
+built (run room) = Some (run room)
+built (serve address room workers links joins) = None
+built (check file) = Some (check file)
+built (replay file room) = Some (replay file room)
+built (load room workers number steps users) = if workers == 1 then Some (load room workers number steps users) else None
+
+-- the command that words form, where the program does it
+abbrev pub built_command : List Text → Option Command
+built_command words = option_and_then built (command_of words)
+
+-- whether a command reads the source; the words may form none
+abbrev pub uses_source : Option Command → Bool
+uses_source None = false
+uses_source (Some (run room)) = true
+uses_source (Some (serve address room workers links joins)) = false
+uses_source (Some (check file)) = false
+uses_source (Some (replay file room)) = false
+uses_source (Some (load room workers number steps users)) = false
+
+-- whether a command writes to the sink
+abbrev pub uses_sink : Option Command → Bool
+uses_sink None = false
+uses_sink (Some (run room)) = true
+uses_sink (Some (serve address room workers links joins)) = false
+uses_sink (Some (check file)) = true
+uses_sink (Some (replay file room)) = true
+uses_sink (Some (load room workers number steps users)) = true
+
+-- whether a command takes a file from the shelf
+abbrev pub uses_shelf : Option Command → Bool
+uses_shelf None = false
+uses_shelf (Some (run room)) = false
+uses_shelf (Some (serve address room workers links joins)) = false
+uses_shelf (Some (check file)) = true
+uses_shelf (Some (replay file room)) = true
+uses_shelf (Some (load room workers number steps users)) = false

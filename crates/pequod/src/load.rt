@@ -1,0 +1,33 @@
+// Loading a cache with acts that are drawn, and telling what it holds then.
+ghost use Rattle.std.specs.Prelude.{◌≡◌, ◌≢◌, ◌≤◌};
+ghost use Rattle.pq_io.specs.Faults.{Rose};
+ghost use Rattle.pequod.specs.Loads.{LoadsTo};
+
+use crate::status::Status;
+use command_words::Room;
+use load_run::{Load, load_text};
+use pq_io::{Failed, Sink, write_whole};
+use std::alloc::Global;
+
+/// Does the acts of a load in order, over so much room, and writes the line of what stands then.
+pub fn load<W: Sink>(alloc: Global, room: Room, load: Load, sink: &mut W) -> Status
+    requires some_cells { 1 ≤ room.cells }
+    requires few_cells { room.cells ≤ 65536 }
+    requires some_rows { 1 ≤ room.rows }
+    requires some_users { 1 ≤ load.users }
+    requires few_users { load.users ≤ 9999 }
+    requires few_steps { load.steps ≤ 1000000 }
+    ensures load { LoadsTo result.number load.number load.steps load.users (W.taken sink.old) (W.taken sink.new) }
+    ensures sink_later { W.faults sink.old ≤ W.faults sink.new }
+    ensures write { result.number ≡ 5 → Rose (W.faults sink.old) (W.faults sink.new) }
+    ensures writes_kept { result.number ≢ 5 → W.faults sink.new ≡ W.faults sink.old }
+    ensures memory_sink { result.number ≡ 6 → sink.new ≡ sink.old }
+{
+    let Ok(line) = load_text(alloc, room.cells, room.rows, load) else {
+        return Status::MEMORY;
+    };
+    match write_whole(sink, line.as_slice()) {
+        Err(Failed) => Status::WRITE_FAULT,
+        Ok(()) => Status::DONE,
+    }
+}

@@ -1,0 +1,31 @@
+// Loads. The lines are those that another program makes of the same numbers.
+use crate::status::Status;
+use crate::tests::Given;
+use std::test::Fail;
+
+#[test]
+fn a_load_of_no_act_has_the_joins_alone(rt: HostRuntime) -> Result<(), Fail> {
+    let given = Given::new(&["load", "--steps", "0"]);
+    given.gives(&rt, "no act", Status::DONE, "[\"load\",2,0,0,0,0,0,0]\n")
+}
+
+/// What a load of 2,000 acts by 100 users prints, drawn from 7.
+const LINE: &str = "[\"load\",1506,195,783,214,1519,90,58245]\n";
+
+#[test]
+fn a_load_is_told_by_its_numbers(rt: HostRuntime) -> Result<(), Fail> {
+    let words = ["load", "--number", "7", "--steps", "2000", "--workers=1"];
+    Given::new(&words).gives(&rt, "2,000 acts", Status::DONE, LINE)
+}
+
+#[test]
+fn the_line_of_a_load_does_not_depend_on_the_rows(rt: HostRuntime) -> Result<(), Fail> {
+    let words = ["load", "--number", "7", "--steps", "2000", "--rows", "1"];
+    Given::new(&words).gives(&rt, "one row", Status::DONE, LINE)
+}
+
+#[test]
+fn the_line_of_a_load_may_not_be_written(rt: HostRuntime) -> Result<(), Fail> {
+    let given = Given::new(&["load", "--steps", "3"]).failing(0, 1);
+    given.gives(&rt, "a write", Status::WRITE_FAULT, "")
+}

@@ -1,0 +1,3 @@
+pub mod ScanSteps
+pub mod DoneCases
+pub mod Answering

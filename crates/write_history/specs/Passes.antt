@@ -1,5 +1,5 @@
 -- A pass as contracts see it, and how it goes on.
-use Rattle.std.specs.Prelude.{◌≡◌, ℕ, []}
+use Rattle.std.specs.Prelude.{◌≡◌, ℕ, ◌<◌, ◌≤◌, [], length}
 use Rattle.atomic_table.specs.Seated.{TableId}
 use Rattle.semantics.specs.Histories.{Write, Entry, History, IsPrefix}
 use Rattle.write_history.specs.Entries.{IsRecorded, written_by}
@@ -30,3 +30,13 @@ pub record GoesOn (old new : PassView) : Type 0 where
   pub same_writers : new.writers ≡ old.writers
   pub begins : IsPrefix old.view new.view
   pub recorded : IsRecorded new.writers new.view
+
+-- the pass is of the history, and may append to it
+pub record MayAppend (history : TableId) (pass : PassView) : Type 0 where
+  pub same_history : pass.history ≡ history
+  pub writer : pass.number < pass.writers
+
+-- the pass is of the history, and has seen so many entries, at least
+pub record HasSeen (history : TableId) (pass : PassView) (count : ℕ) : Type 0 where
+  pub same_history : pass.history ≡ history
+  pub within : count ≤ length pass.view

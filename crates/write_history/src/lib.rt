@@ -24,3 +24,6 @@ mod turn;
 pub use fault::AppendFault;
 pub use history::History;
 pub use pass::Pass;
+
+#[cfg(test)]
+mod tests;

@@ -1,8 +1,10 @@
 // Parts of a range, from its pieces.
-ghost use Rattle.std.specs.Prelude.{◌≡◌, map, IfOk};
-ghost use Rattle.cell_table.specs.Stores.{part_of};
+ghost use Rattle.std.specs.Prelude.{◌≡◌, ◌<◌, length, map, true, IfOk};
+ghost use Rattle.key_ranges.specs.Ranges.{is_open};
+ghost use Rattle.cell_table.specs.Stores.{one_gap, part_of};
 
 use cell_slots::Part;
+use key_space::Range;
 use out_of_memory::OutOfMemory;
 use range_set::Piece;
 use std::alloc::Global;
@@ -28,5 +30,28 @@ pub fn parts_of(alloc: Global, pieces: Vec<Piece<u32>>) -> Result<Vec<Part>, Out
     for piece in pieces {
         parts.push(part_of(piece))?;
     }
+    Ok(parts)
+}
+
+/// A range in more parts than this is read as one: to evaluate it once takes less than to evaluate so many gaps.
+const MOST_PARTS: usize = 64;
+
+/// Whether a range that is not empty is in more parts than are read one by one.
+pub fn are_too_many(parts: &[Part], range: &Range) -> bool
+    ensures open { result ≡ true → is_open range.now ≡ true }
+    ensures many { result ≡ true → 1 < length parts.now }
+{
+    range.lo() < range.hi() && parts.len() > MOST_PARTS
+}
+
+/// The range as one part that no cell holds.
+pub fn one_gap(alloc: Global, range: &Range) -> Result<Vec<Part>, OutOfMemory>
+    ensures { IfOk result (λ parts. parts.items ≡ one_gap range.now) }
+{
+    let mut parts = Vec::with_capacity(alloc, 1)?;
+    parts.push(Part {
+        range: range.copy()?,
+        cell: None,
+    })?;
     Ok(parts)
 }

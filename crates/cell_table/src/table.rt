@@ -15,7 +15,7 @@ ghost use Rattle.cell_table.specs.Moves.{Evicts, GetCells, GetsCellAs, IsHeld, I
 
 use crate::directory::Directory;
 use crate::lending::{given, held_in, lendable, made_anew};
-use crate::parts::parts_of;
+use crate::parts::{are_too_many, one_gap, parts_of};
 use crate::slots::Slots;
 use cell_slots::{Part, Slot};
 use evict_book::EvictBook;
@@ -119,7 +119,8 @@ impl CellTable {
     }
 
     /// The range in parts, as `parts` gives them; for a push join each part that no cell holds is reserved, while a cell is
-    /// free. It takes the search for the parts, and for each that is reserved what `reserve` takes.
+    /// free. Where there are more than 64 parts, the range is one part that no cell holds, and nothing is reserved. It
+    /// takes the search for the parts, and for each that is reserved what `reserve` takes.
     ///
     /// On `OutOfMemory` some parts may be reserved.
     pub fn cover(
@@ -139,6 +140,9 @@ impl CellTable {
         ensures same_limit { self.new.limit ≡ self.old.limit }
     {
         let parts = self.parts(at, range)?;
+        if are_too_many(parts.as_slice(), range) {
+            return one_gap(self.alloc, range);
+        }
         match join.kind {
             Kind::Pull => Ok(parts),
             Kind::Push => self.reserve_parts(at, join, rank, range, parts),

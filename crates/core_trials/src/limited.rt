@@ -1,6 +1,8 @@
 // What is kept where few rows may be, and where a join is pulled: an event that evicts a cell tells whether it held something.
+use crate::plain::show_plain;
 use crate::script::read_events;
-use crate::showing::show_all;
+use crate::showing::{show_all, show_scans};
+use std::alloc::Global;
 use std::test::Fail;
 
 /// How many rows may be kept, and one more for each range; events, and the answers to them, a line each.
@@ -99,5 +101,44 @@ fn limited_events(rt: HostRuntime) -> Result<(), Fail> {
         let shown = show_all(alloc, 16, row.limit, events)?;
         assert_eq!(rt; shown.as_str(), row.answers);
     }
+    Ok(())
+}
+
+/// Seventy ranges that are kept, a scan over all of them, and then an event that evicts the next cell, and one that evicts the
+/// last of the seventy.
+fn many_ranges(alloc: Global) -> Result<String, Fail> {
+    let mut text = String::from_str(alloc, "write b|<x>|<y> = copy a|<x>|<y>\n")?;
+    for number in 10..80_u64 {
+        let write = format!(in alloc; "write a|{number}|1=A\n")?;
+        let begin = format!(in alloc; "begin 1 b|{number}| b|{number}}}\n")?;
+        let end = format!(in alloc; "piece 1 b|{number}}}\nfinish 1\n")?;
+        text.push_str(write.as_str())?;
+        text.push_str(begin.as_str())?;
+        text.push_str(end.as_str())?;
+    }
+    text.push_str("begin 1 b| b}\npiece 1 b}\nfinish 1\nevict 70\nevict 69\n")?;
+    Ok(text)
+}
+
+/// A range in very many parts is read as a whole, and none of its gaps gets a cell.
+#[test]
+fn many_parts(rt: HostRuntime) -> Result<(), Fail> {
+    let alloc = rt.alloc();
+    let lines = many_ranges(alloc)?;
+    let shown = show_all(
+        alloc,
+        1024,
+        100000,
+        read_events(&rt, alloc, lines.as_str())?,
+    )?;
+    assert!(rt; shown.as_str().ends_with("nothing\nevicted\n"));
+    let scans = show_scans(
+        alloc,
+        1024,
+        100000,
+        read_events(&rt, alloc, lines.as_str())?,
+    )?;
+    let plain = show_plain(alloc, read_events(&rt, alloc, lines.as_str())?)?;
+    assert_eq!(rt; scans.as_str(), plain.as_str());
     Ok(())
 }

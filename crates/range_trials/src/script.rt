@@ -1,0 +1,96 @@
+// Scripts of calls of a kept range.
+ghost use Rattle.range_trials.specs.Tried.{IsTried};
+
+use crate::trial::Trial;
+use join_eval::Changed;
+use join_types::Pair;
+use key_space::Range;
+use out_of_memory::OutOfMemory;
+use std::alloc::Global;
+use std::process::Abort;
+use std::sync::ledger::Ledger;
+use std::test::Fail;
+use steps::Steps;
+
+/// The pairs, as `key=value` with spaces between them.
+pub fn show_pairs(text: &mut String, pairs: &[Pair]) -> Result<(), Fail> {
+    for pair in pairs {
+        text.push(' ')?;
+        text.push_str(pair.key.text())?;
+        text.push('=')?;
+        text.push_str(pair.value.text())?;
+    }
+    Ok(())
+}
+
+/// What changed: the keys with spaces between them, or a star.
+pub fn show_changed(text: &mut String, changed: &Changed) -> Result<(), Fail> {
+    match changed {
+        Changed::All => text.push_str(" *")?,
+        Changed::Keys(keys) => for key in keys.iter() {
+            text.push(' ')?;
+            text.push_str(key.text())?;
+        },
+    }
+    Ok(())
+}
+
+/// Shows where memory ran out.
+fn show_memory(text: &mut String, done: Result<(), OutOfMemory>) -> Result<(), Fail> {
+    if done.is_err() {
+        text.push_str(" memory;")?;
+    }
+    Ok(())
+}
+
+/// Makes the call that the words say, over the range, and shows what it answers behind a semicolon.
+pub fn call<L: Ledger>(
+    rt: &impl Abort,
+    alloc: Global,
+    trial: &mut Trial,
+    range: &Range,
+    words: &str,
+    steps: &mut Steps<L>,
+    text: &mut String,
+) -> Result<(), Fail>
+    requires { IsTried trial.old.reader.inner trial.old.declared trial.old.length trial.old.state }
+    ensures { IsTried trial.new.reader.inner trial.new.declared trial.new.length trial.new.state }
+{
+    let (name, number) = words.split_once(' ').unwrap_or((words, "0"));
+    let p = number.parse::<u64>().expect(rt, "a position");
+    match name {
+        "fill" => {
+            let done = trial.fill(rt, p, steps);
+            show_memory(text, done)?;
+        }
+        "advance" => {
+            let done = trial.advance(rt, p, steps);
+            show_memory(text, done)?;
+        }
+        "mend" => {
+            let done = trial.mend(rt, range, steps);
+            show_memory(text, done)?;
+        }
+        "again" => if trial.state.position().is_none() {
+            trial.fill(rt, p, steps)?;
+        },
+        "refuse" => trial.reader.left = p,
+        "count" => {
+            text.push_str(format!(in alloc; " {};", trial.reader.counted)?.as_str())?;
+            trial.reader.counted = 0;
+        }
+        "forget" => trial.state.forget(),
+        "read" => {
+            let pairs = trial.read(rt, range, steps)?;
+            show_pairs(text, pairs.as_slice())?;
+            text.push(';')?;
+        }
+        "since" => {
+            let changed = trial.state.changed_since(p, range)?;
+            show_changed(text, &changed)?;
+            text.push(';')?;
+        }
+        _ => panic!(rt; "no such call"),
+    }
+    Ok(())
+}

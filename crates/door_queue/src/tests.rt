@@ -6,6 +6,7 @@ use std::process::Abort;
 use std::sync::{Arc, Wait};
 use std::test::Fail;
 use std::thread;
+use std::time::Duration;
 
 #[test]
 fn a_closed_queue_gives_what_it_holds(rt: HostRuntime) -> Result<(), Fail> {
@@ -107,5 +108,64 @@ fn each_item_is_taken_once(rt: HostRuntime) -> Result<(), Fail> {
         count_items(&rt, &mut counts, taker.join(&rt)?.as_slice());
     }
     assert!(rt; counts.iter().all(|count| *count == 1));
+    Ok(())
+}
+
+/// Waits at the bell until it is closed, and tells the queue of each ring that it has heard. It says how many there were.
+fn hear_all(rt: &impl Wait, bell: &Bell, heard: &DoorQueue<u32>) -> u32 {
+    let mut count = 0u32;
+    for _ in rt.forever() {
+        match bell.wait(rt) {
+            Rung::Work => count = count.saturating_add(1),
+            Rung::Closed => break,
+        }
+        let _ = heard.put(rt, count);
+    }
+    count
+}
+
+#[test]
+fn one_who_waits_at_a_bell_is_woken(rt: HostRuntime) -> Result<(), Fail> {
+    let alloc: Global = rt.alloc();
+    let bell = Arc::new(alloc, Bell::new())?;
+    let heard = Arc::new(alloc, DoorQueue::new(alloc, 1)?)?;
+    let (their_bell, theirs) = (Arc::try_clone(&bell)?, Arc::try_clone(&heard)?);
+    let waiter = thread::spawn(&rt, move || hear_all(&rt, &their_bell, &theirs))?;
+    for ring in [1, 2, 3] {
+        // By then the other thread sleeps at the bell, as it is to do for the test to tell something.
+        thread::sleep(&rt, Duration::from_millis(20));
+        bell.ring(&rt);
+        assert_eq!(rt; heard.take(&rt), Some(ring));
+    }
+    thread::sleep(&rt, Duration::from_millis(20));
+    bell.close(&rt);
+    assert_eq!(rt; waiter.join(&rt), 3);
+    Ok(())
+}
+
+#[test]
+fn all_who_wait_go_on_at_the_close(rt: HostRuntime) -> Result<(), Fail> {
+    let alloc: Global = rt.alloc();
+    let empty = Arc::new(alloc, DoorQueue::new(alloc, 1)?)?;
+    let full = Arc::new(alloc, DoorQueue::new(alloc, 1)?)?;
+    assert!(rt; full.put(&rt, 0u32).is_ok());
+    let mut takers = Vec::new(alloc);
+    let mut putters = Vec::new(alloc);
+    for item in [1u32, 2] {
+        let theirs = Arc::try_clone(&empty)?;
+        takers.push(thread::spawn(&rt, move || take_all(&rt, alloc, &theirs))?)?;
+        let theirs = Arc::try_clone(&full)?;
+        putters.push(thread::spawn(&rt, move || theirs.put(&rt, item).is_err())?)?;
+    }
+    // By then the four sleep, as they are to do for the test to tell something.
+    thread::sleep(&rt, Duration::from_millis(20));
+    empty.close(&rt);
+    full.close(&rt);
+    for taker in takers {
+        assert!(rt; taker.join(&rt)?.is_empty());
+    }
+    for putter in putters {
+        assert!(rt; putter.join(&rt));
+    }
     Ok(())
 }

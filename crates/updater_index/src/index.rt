@@ -13,8 +13,8 @@ use std::marker::Model;
 ///
 /// Ranges stand by the place where their two bounds part. A key is looked for at each length with which the bounds of
 /// some range begin alike, and there at each place behind that beginning of the key, at its next byte or a greater one.
-/// So `stab` costs a search for each such place, of which there are at most 256 times as many as the key has bytes and
-/// commonly a handful, and the ranges that contain the key: none of the others, however many they are, nested or alike.
+/// So `stab` costs a search for each such place, commonly a handful of them, and the ranges that contain the key: none of
+/// the others, however many they are, nested or alike.
 #[derive(Debug, Drop)]
 pub struct UpdaterIndex {
     registered: Registered,
@@ -72,7 +72,11 @@ impl UpdaterIndex {
         self.marks.unmark(id);
     }
 
-    /// The ids with a range that contains the key, ascending, each once. What it costs is said at the type.
+    /// The ids with a range that contains the key, ascending, each once.
+    ///
+    /// It takes a search for each length with which the bounds of some range, which may be gone, begin alike, one at each
+    /// place where bounds part on the way of the key, and one more for each range that contains it. At the worst there are
+    /// some 256 such places for each byte of the key, and no range that contains it.
     pub fn stab(&self, key: &Key) -> Result<Vec<u32>, OutOfMemory>
         ensures { IfOk result (λ ids. ids.items ≡ stabbed key.now self.now.held) }
     {

@@ -2,6 +2,7 @@
 use super::*;
 use key_space::{Key, Range};
 use std::alloc::Global;
+use std::env;
 use std::process::Abort;
 use std::test::Fail;
 
@@ -135,4 +136,111 @@ fn marks_come_out_in_the_order_of_marking(rt: HostRuntime) -> Result<(), Fail> {
     assert_eq!(rt; index.next_marked(), Some(1));
     assert_eq!(rt; index.next_marked(), None);
     Ok(())
+}
+
+// `bench/stabs.sh` runs the next five and takes the time.
+
+/// How often a key is stabbed: so often as the variable `STABS` says, or else once.
+fn times(rt: &HostRuntime) -> u32 {
+    match env::var(rt, "STABS") {
+        Ok(text) => text.parse().unwrap_or(1),
+        Err(_) => 1,
+    }
+}
+
+/// Registers one range of the id.
+fn add_one(
+    rt: &impl Abort,
+    alloc: Global,
+    index: &mut UpdaterIndex,
+    id: u32,
+    low: &str,
+    high: &str,
+) -> Result<(), Fail> {
+    let range = Range::read(alloc, low, high).expect(rt, "a range");
+    assert!(rt; (id as usize) < index.ids());
+    index.register(id, vec![in alloc; range]?)?;
+    Ok(())
+}
+
+/// Stabs the key so many times, and compares how many ids it concerns.
+fn stab_often(
+    rt: &impl Abort,
+    index: &UpdaterIndex,
+    times: u32,
+    key: &Key,
+    count: usize,
+) -> Result<(), Fail> {
+    for _ in 0..times {
+        assert_eq!(rt; index.stab(key)?.len(), count);
+    }
+    Ok(())
+}
+
+#[test]
+fn stabs_among_100_000_apart(rt: HostRuntime) -> Result<(), Fail> {
+    let alloc = rt.alloc();
+    let mut index = UpdaterIndex::new(alloc, 100_000)?;
+    for id in 0..100_000u32 {
+        let low = format!(in alloc; "t|{id:05}|")?;
+        let high = format!(in alloc; "t|{id:05}}}")?;
+        add_one(&rt, alloc, &mut index, id, low.as_str(), high.as_str())?;
+    }
+    let key = read_key(&rt, alloc, "t|54321|x");
+    stab_often(&rt, &index, times(&rt), &key, 1)
+}
+
+#[test]
+fn stabs_a_thousand_over_one_key(rt: HostRuntime) -> Result<(), Fail> {
+    let alloc = rt.alloc();
+    let mut index = UpdaterIndex::new(alloc, 100_000)?;
+    for id in 0..100_000u32 {
+        let group = id / 1_000;
+        let low = format!(in alloc; "t|{group:02}|{id:05}")?;
+        let high = format!(in alloc; "t|{group:02}}}")?;
+        add_one(&rt, alloc, &mut index, id, low.as_str(), high.as_str())?;
+    }
+    let key = read_key(&rt, alloc, "t|54|x");
+    stab_often(&rt, &index, times(&rt), &key, 1_000)
+}
+
+#[test]
+fn stabs_among_100_000_nested(rt: HostRuntime) -> Result<(), Fail> {
+    let alloc = rt.alloc();
+    let mut index = UpdaterIndex::new(alloc, 100_000)?;
+    for id in 0..100_000u32 {
+        let low = format!(in alloc; "t|{id:06}")?;
+        let high = format!(in alloc; "t|{:06}", 999_999u32.saturating_sub(id))?;
+        add_one(&rt, alloc, &mut index, id, low.as_str(), high.as_str())?;
+    }
+    let key = read_key(&rt, alloc, "t|000009|x");
+    stab_often(&rt, &index, times(&rt), &key, 10)
+}
+
+#[test]
+fn stabs_among_100_000_alike(rt: HostRuntime) -> Result<(), Fail> {
+    let alloc = rt.alloc();
+    let mut index = UpdaterIndex::new(alloc, 100_000)?;
+    for id in 0..100_000 {
+        add_one(&rt, alloc, &mut index, id, "t|a|", "t|a}")?;
+    }
+    let key = read_key(&rt, alloc, "t|a|x");
+    stab_often(&rt, &index, times(&rt), &key, 100_000)
+}
+
+#[test]
+fn stabs_where_12_750_part_behind_the_key(rt: HostRuntime) -> Result<(), Fail> {
+    let alloc = rt.alloc();
+    let mut index = UpdaterIndex::new(alloc, 1)?;
+    let mut beginning = String::from_str(alloc, "t|")?;
+    for _ in 0..510 {
+        let low = format!(in alloc; "{beginning}b")?;
+        for last in 'c'..='{' {
+            let high = format!(in alloc; "{beginning}{last}")?;
+            add_one(&rt, alloc, &mut index, 0, low.as_str(), high.as_str())?;
+        }
+        beginning.push('a')?;
+    }
+    let key = read_key(&rt, alloc, beginning.as_str());
+    stab_often(&rt, &index, times(&rt), &key, 0)
 }

@@ -182,7 +182,7 @@ fn eight_threads_append_many(rt: HostRuntime) -> Result<(), Fail> {
     all_meet(&rt, rt.alloc(), 8, 10_000)
 }
 
-// `bench/appends.sh` runs the next three and takes the time.
+// `bench/appends.sh` runs the next four and takes the time.
 
 #[test]
 fn one_thread_appends_200_000(rt: HostRuntime) -> Result<(), Fail> {
@@ -197,6 +197,23 @@ fn two_threads_append_200_000(rt: HostRuntime) -> Result<(), Fail> {
 #[test]
 fn four_threads_append_200_000(rt: HostRuntime) -> Result<(), Fail> {
     all_meet(&rt, rt.alloc(), 4, 50_000)
+}
+
+/// The pass looks so often, at a history to which nobody appends.
+fn look_often<R: Wait + Abort>(rt: &R, history: &History, pass: &mut Pass, count: u32)
+    requires { pass.old.history ≡ history.now }
+{
+    for _ in 0..count {
+        assert_eq!(rt; history.look(rt, pass), 0);
+    }
+}
+
+#[test]
+fn one_thread_looks_1_000_000(rt: HostRuntime) -> Result<(), Fail> {
+    let (history, mut passes) = History::new(rt.alloc(), 1)?;
+    let mut pass = passes.pop().ok_or("a pass")?;
+    look_often(&rt, &history, &mut pass, 1_000_000);
+    Ok(())
 }
 
 /// The pattern `table|x`.
@@ -324,4 +341,66 @@ fn each_call_answers_with_ample_memory(rt: HostRuntime) -> Result<(), Fail> {
     expect_same(&rt, alloc, &seen, vec![in alloc; put, remove]?)?;
     assert!(rt; History::with_readers(alloc, u32::MAX, 1).is_err());
     Ok(())
+}
+
+/// Appends the write as the next entry, or where no memory is found the same once more: then nothing has entered, and the turn
+/// is free.
+fn append_next<R: Wait + Abort>(
+    rt: &R,
+    history: &History,
+    writer: &mut Pass,
+    reader: &mut Pass,
+    write: Write,
+    again: Write,
+)
+    requires may { MayAppend history.now writer.old }
+    requires same_history { reader.old.history ≡ history.now }
+    ensures may { MayAppend history.now writer.new }
+    ensures same_history { reader.new.history ≡ history.now }
+{
+    let before = history.look(rt, reader);
+    let mut entered = history.append(rt, writer, write);
+    if matches!(&entered, Err(AppendFault::OutOfMemory)) {
+        assert_eq!(rt; history.look(rt, reader), before);
+        entered = history.append(rt, writer, again);
+    }
+    assert!(rt;
+        matches!(&entered, Ok(position) if *position == before.saturating_add(1)),
+        "{entered:?}"
+    );
+}
+
+/// Appends so many puts behind the first entry, and compares all that have entered.
+fn append_behind<R: Wait + Abort>(
+    rt: &R,
+    alloc: Global,
+    history: &History,
+    mut writer: Pass,
+    mut reader: Pass,
+    count: u32,
+) -> Result<(), Fail>
+    requires may { MayAppend history.now writer }
+    requires same_history { reader.history ≡ history.now }
+{
+    for number in 0..count {
+        let put = put_of(rt, alloc, "p|", number);
+        let again = put_of(rt, alloc, "p|", number);
+        append_next(rt, history, &mut writer, &mut reader, put, again);
+    }
+    let last = history.look(rt, &mut reader);
+    assert_eq!(rt; last, 1 + u64::from(count));
+    let seen = history.entries(rt, &mut reader, 1, last)?;
+    expect_own_orders(rt, alloc, &seen, 1, count)
+}
+
+#[test]
+fn an_append_without_memory_leaves_nothing(rt: HostRuntime) -> Result<(), Fail> {
+    let alloc = rt.alloc();
+    let (history, mut passes) = History::with_readers(alloc, 1, 1)?;
+    let mut reader = passes.pop().ok_or("a reader")?;
+    let mut writer = passes.pop().ok_or("a writer")?;
+    let join = Write::Declare(copy_of(&rt, alloc, "b")?);
+    let again = Write::Declare(copy_of(&rt, alloc, "b")?);
+    append_next(&rt, &history, &mut writer, &mut reader, join, again);
+    append_behind(&rt, alloc, &history, writer, reader, 1_030)
 }

@@ -1,16 +1,18 @@
 #!/usr/bin/env bash
 # Runs the built program on what stands under examples/: requests with their replies, files of joins with what is written about
-# them, and scripts of events with what is printed about them. Then on lines that are too long to stand there, on loads, and to
-# each end that can be had here. It compares what is written, the status, and the line on standard error.
+# them, and scripts of events with what is printed about them; the requests through a connection to its server besides. Then on
+# lines that are too long to stand there, on loads, and to each end that can be had here. It compares what is written, the status,
+# and the line on standard error.
 # Usage: bench/examples.sh PROGRAM
 set -u
 program=$(realpath "${1:?the path of the built program}")
-cd "$(dirname "$0")/../examples" || exit 1
+bench=$(realpath "$(dirname "$0")")
+cd "$bench/../examples" || exit 1
 folder=$(mktemp -d)
 trap 'rm -rf "$folder"' EXIT
 failed=0
 messages=([0]='' [2]='pequod: words' [3]='pequod: long' [4]='pequod: read fault' [5]='pequod: write fault'
-  [7]='pequod: file refused' [9]='pequod: shelf fault')
+  [7]='pequod: file refused' [8]='pequod: doors fault' [9]='pequod: shelf fault')
 
 # attempt NAME STATUS WANTED WORD..: runs the program with these words, and compares what it writes with the file WANTED.
 attempt() {
@@ -34,7 +36,10 @@ judge() {
 }
 
 for requests in *.requests; do
-  attempt "$requests" 0 "${requests%.requests}.replies" run < "$requests"
+  replies=${requests%.requests}.replies
+  attempt "$requests" 0 "$replies" run < "$requests"
+  "$bench/through_link.py" "$program" --cells 2 --rows 5 < "$requests" > "$folder/written" 2> "$folder/message"
+  judge "$requests through a connection" 0 $? "$replies"
 done
 for joins in *.joins; do
   written=${joins%.joins}.written
@@ -57,7 +62,7 @@ attempt "a line of 1,048,577 bytes" 3 "$folder/wanted" run < <(printf '%1048577s
 
 attempt "no words" 2 /dev/null < first.requests
 attempt "an option that is not there" 2 /dev/null run --cell 1 < first.requests
-for word in run check replay load; do
+for word in run serve check replay load; do
   grep -q "$word" "$folder/message" || { echo "differs: the usage names no $word"; failed=1; }
 done
 echo '["load",2,0,0,0,0,0,0]' > "$folder/wanted"
@@ -67,6 +72,8 @@ attempt "a load of 2,000 acts" 0 "$folder/wanted" load --number 7 --steps 2000
 attempt "a load of 2,000 acts with one row kept" 0 "$folder/wanted" load --number 7 --steps 2000 --rows 1
 attempt "a script that is not there" 9 /dev/null replay none
 attempt "a file that is not there" 9 /dev/null check none
+attempt "a server's joins file that is refused" 7 clash.written serve 127.0.0.1:0 --joins clash.joins
+attempt "an address that cannot be opened" 8 /dev/null serve nowhere
 attempt "standard input that is a folder" 4 /dev/null run < .
 : > "$folder/written"
 "$program" run < first.requests > /dev/full 2> "$folder/message"

@@ -1,4 +1,4 @@
-pub mod EnteredLemmas
+pub mod VerdictLemmas
 mod HidingLemmas
 mod ReplayLemmas
 mod RankLemmas

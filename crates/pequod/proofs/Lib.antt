@@ -1,2 +1,3 @@
 pub mod RoomLemmas
 pub mod ReplayLemmas
+pub mod FileLemmas

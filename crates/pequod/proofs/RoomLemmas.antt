@@ -20,10 +20,16 @@ pub record IsLoad (room : Room) (steps users : ℕ) : Type 0 where
   pub some_users : 1 ≤ users
   pub few_users : users ≤ 9999
 
+-- and those of what is served
+pub record IsServe (room : Room) (workers : ℕ) : Type 0 where
+  pub keeps : IsRoom room
+  pub some_workers : 1 ≤ workers
+  pub few_workers : workers ≤ 64
+
 -- and those of every command that the program does
 abbrev pub IsWithin : Command → Type 0
 IsWithin (run room) = IsRoom room
-IsWithin (serve address room workers links joins) = Unit {0}
+IsWithin (serve address room workers links joins) = IsServe room workers
 IsWithin (check file) = Unit {0}
 IsWithin (replay file room) = IsRoom room
 IsWithin (load room workers number steps users) = IsLoad room steps users
@@ -90,8 +96,9 @@ run_within args = chosen (are_taken run_options args && is_unnamed (given_once w
 serve_within : (args : List Argument) → IfSome (serve_of args) IsWithin
 serve_within args =
     chosen (are_taken serve_options args) _ None
-    (followed_any (named args) _ (λ address. followed_any (room_of args) _ (λ room. followed_any (workers_of 4 args) _ (λ workers. followed_any (links_of args) _ (λ links.
-    mapped_any (joins_of args) (serve address room workers links) (λ joins. tt))))))
+    (followed_any (named args) _ (λ address. followed IsRoom (room_of args) _ (room_within args) (λ room h.
+    followed (LiesWithin 1 64) (workers_of 4 args) _ (number_lies (codes "workers") 1 64 4 args (lit≤ tt) (lit≤ tt)) (λ workers some. followed_any (links_of args) _ (λ links.
+    mapped_any (joins_of args) (serve address room workers links) (λ joins. record { keeps = h; some_workers = some.0; few_workers = some.1 }))))))
     tt
 
 check_within : (args : List Argument) → IfSome (check_of args) IsWithin

@@ -1,5 +1,6 @@
 pub mod Built
 pub mod Statuses
 pub mod Replays
+pub mod Serves
 pub mod Loads
 pub mod Messages

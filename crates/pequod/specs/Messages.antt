@@ -11,8 +11,9 @@ words_of status =
     else (if status == 5 then Some (codes "write fault")
     else (if status == 6 then Some (codes "memory")
     else (if status == 7 then Some (codes "file refused")
+    else (if status == 8 then Some (codes "doors fault")
     else (if status == 9 then Some (codes "shelf fault")
-    else (if status == 10 then Some (codes "spent") else None)))))))
+    else (if status == 10 then Some (codes "spent") else None))))))))
 
 -- the line of a status, without its end
 abbrev pub message_of : ℕ → Option Text

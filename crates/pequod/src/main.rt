@@ -1,15 +1,17 @@
 // Pequod: an ordered key-value cache with cache joins, as a program.
 //
-// `main` makes the real source, sink and shelf and hands them to the top call, `top::pequod`, which does all that the program
-// does and carries its contract. The crate stands on `command_words` for the words, on `session` and `world_client` for `run`, on
-// `joins_file` for `check`, on `event_script` and `scan_core` for `replay`, on `load_run` for `load`, on `clap` of the toolchain for
-// the text that says how it is called, and on what is below them.
+// `main` makes the real source, sink, shelf and doors and hands them to the top call, `top::pequod`, which does all that the
+// program does and carries its contract. The crate stands on `command_words` for the words, on `session` and `world_client` for
+// `run`, on `server` and `pequod_cache` for `serve`, on `joins_file` for `check` and `serve`, on `event_script` and `scan_core` for
+// `replay`, on `load_run` for `load`, on `clap` of the toolchain for the text that says how it is called, and on what is below
+// them.
 #![tactic(auto)]
 
 mod check;
 mod load;
 mod replay;
 mod run;
+mod serve;
 mod status;
 #[cfg(test)]
 mod tests;
@@ -19,9 +21,9 @@ mod usage;
 ghost use Rattle.std.specs.Prelude.{◌≡◌, ◌⊎◌, IfErr};
 
 use crate::status::Status;
-use crate::top::pequod;
+use crate::top::{links, pequod};
 use crate::usage::usage;
-use pq_io::{FileShelf, Reading, Writing};
+use pq_io::{FileShelf, OpenGate, Reading, TcpDoors, Writing};
 use std::env;
 use std::io::ErrorKind;
 use std::process::ExitCode;
@@ -52,12 +54,16 @@ fn main(rt: HostRuntime) -> ExitCode {
             let mut source = Reading::new(rt.stdin());
             let mut sink = Writing::new(rt.stdout());
             let mut shelf = FileShelf::new(&rt);
+            let mut doors = TcpDoors::new(&rt, links(words.as_slice()));
             pequod(
+                &rt,
                 rt.alloc(),
                 words.as_slice(),
                 &mut source,
                 &mut sink,
                 &mut shelf,
+                &mut doors,
+                &OpenGate,
             )
         }
     };

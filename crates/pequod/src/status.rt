@@ -19,10 +19,12 @@ impl Status {
     pub const READ_FAULT: Status = Status { number: 4 };
     /// A write failed.
     pub const WRITE_FAULT: Status = Status { number: 5 };
-    /// There was no memory: to begin `run`, or for what `check`, `replay` or `load` would write.
+    /// There was no memory: to begin `run` or `serve`, or for what `check`, `replay` or `load` would write.
     pub const MEMORY: Status = Status { number: 6 };
     /// The joins file or the script has a refused line, which was written.
     pub const REFUSED: Status = Status { number: 7 };
+    /// The doors could not be opened, or gave no link.
+    pub const DOORS_FAULT: Status = Status { number: 8 };
     /// The shelf gave no file.
     pub const SHELF_FAULT: Status = Status { number: 9 };
     /// The input gave bytes 2^40 times and did not end.
@@ -39,6 +41,7 @@ impl Status {
             5 => Some("pequod: write fault"),
             6 => Some("pequod: memory"),
             7 => Some("pequod: file refused"),
+            8 => Some("pequod: doors fault"),
             9 => Some("pequod: shelf fault"),
             10 => Some("pequod: spent"),
             _ => None,

@@ -6,17 +6,20 @@ mod limits;
 mod loads;
 mod replays;
 mod rows;
+mod serves;
 mod words;
 
 use crate::status::Status;
 use crate::tests::examples::EXAMPLES;
 use crate::tests::rows::ROWS;
 use crate::top::pequod;
-use pq_io::{MemShelf, MemSink, MemSource, Sink};
+use pq_io::{MemDoors, MemLink, MemShelf, MemSink, MemSource, OpenGate, Sink};
 use std::alloc::AllocError;
 use std::process::Abort;
 use std::str;
+use std::sync::Wait;
 use std::test::Fail;
+use std::thread::Threads;
 
 /// Lines, and what one client alone is answered.
 struct Row {
@@ -25,7 +28,8 @@ struct Row {
     replies: &'static str,
 }
 
-/// What the program is given: its words, the bytes of its source and of the file `j` on its shelf, and which calls fail.
+/// What the program is given: its words, the bytes of its source and of the file `j` on its shelf, and which calls fail. Its doors
+/// hold no link.
 #[derive(Clone, Copy)]
 struct Given<'a> {
     words: &'a [&'a str],
@@ -34,6 +38,7 @@ struct Given<'a> {
     in_bytes: bool,
     failing_read: usize,
     failing_write: usize,
+    failing_doors: &'a [usize],
 }
 
 impl<'a> Given<'a> {
@@ -46,6 +51,7 @@ impl<'a> Given<'a> {
             in_bytes: false,
             failing_read: 0,
             failing_write: 0,
+            failing_doors: &[],
         }
     }
 
@@ -91,7 +97,7 @@ impl<'a> Given<'a> {
     }
 
     /// Runs the program into a sink, and says how it ended.
-    fn into_sink<R: AllocGlobal, W: Sink>(
+    fn into_sink<R: AllocGlobal + Threads + Wait + Sync, W: Sink>(
         self,
         rt: &R,
         sink: &mut W,
@@ -107,11 +113,22 @@ impl<'a> Given<'a> {
         let mut source = MemSource::new(self.input.to_vec(alloc)?, cuts, fails);
         let files = vec![in alloc; (String::from_str(alloc, "j")?, self.file.to_vec(alloc)?)]?;
         let mut shelf = MemShelf::new(files, Vec::new(alloc));
-        Ok(pequod(alloc, words.as_slice(), &mut source, sink, &mut shelf))
+        let fails = self.failing_doors.to_vec(alloc)?;
+        let mut doors: MemDoors<MemLink> = MemDoors::new(Vec::new(alloc), fails);
+        Ok(pequod(
+            rt,
+            alloc,
+            words.as_slice(),
+            &mut source,
+            sink,
+            &mut shelf,
+            &mut doors,
+            &OpenGate,
+        ))
     }
 
     /// Runs the program, and asserts how it ends and what it writes. The name stands in the message of an assertion.
-    fn gives<R: AllocGlobal + Abort>(
+    fn gives<R: AllocGlobal + Threads + Wait + Abort + Sync>(
         self,
         rt: &R,
         name: &str,

@@ -10,7 +10,7 @@ use Rattle.protocol.specs.Requests.{write, read}
 use Rattle.protocol.specs.Replies.{done, answered, refused}
 use Rattle.protocol.specs.Told.{Told}
 use Rattle.join_set.specs.Summaries.{Summary, StandsFor}
-use Rattle.join_model.proofs.EnteredLemmas.{AllEntered-push}
+use Rattle.semantics.proofs.EnteredLemmas.{AllEntered-push}
 use Rattle.plain_client.specs.Histories.{AreOwn, IsKept}
 use Rattle.protocol.proofs.TellingSteps.{told_read, told_refused, told_done}
 

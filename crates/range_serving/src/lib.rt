@@ -3,8 +3,8 @@
 //
 // It stands on `out_of_memory`, `key_space`, `join_types`, `join_eval`, `range_state`, `steps` and, for its definitions and laws,
 // on `semantics`, `growing_history`, `layering`, `lazy_log`, `range_notes` and `kept_ranges`. The layers above may use all that
-// is public here: `serve` a piece from a kept range, or `serve_alone` from one of its own that is let go; `tell` what changed
-// of a kept range's output; and `merge` pairs.
+// is public here: `serve` a piece from a kept range, or `serve_alone` from one of its own that is let go; `reach` a position
+// alone; `tell` what changed of a kept range's output; and `merge` pairs.
 #![tactic(auto)]
 
 pub mod merging;
@@ -12,5 +12,5 @@ pub mod serving;
 pub mod telling;
 
 pub use merging::merge;
-pub use serving::{serve, serve_alone};
+pub use serving::{reach, serve, serve_alone};
 pub use telling::tell;

@@ -32,7 +32,10 @@ fn is_past(state: &RangeState, p: u64) -> bool
 }
 
 /// Brings it to where p entries stand: fills it where it is forgotten, and advances it where it stands below.
-fn reach<R: Reader, L: Ledger>(
+///
+/// On `OutOfMemory` it stands where it stood, or at p, or is forgotten, and is right for the reader's list. The reader may
+/// have gone on and steps may have been taken.
+pub fn reach<R: Reader, L: Ledger>(
     state: &mut RangeState,
     p: u64,
     reader: &mut R,

@@ -9,23 +9,8 @@ use Rattle.std.proofs.lemmas.List.FromFn.{get_or-map-range_with_len, length-map-
 use Rattle.semantics.specs.Graphs.{Edges, reads, read_by, vertices, greatest, rank_within, rank, ranks, AreVertices}
 use Rattle.semantics.proofs.Members.{IsIn, IsIn-map, IsIn-from_map, IsIn-filter, IsIn-from_filter, map-same}
 use Rattle.semantics.proofs.GraphReadings.{edge-from_reads, reads-from_edge, IsIn-read_by, IsIn-from_read_by, AreVertices-get_or}
-use Rattle.semantics.proofs.GraphRanks.{greatest-le, rank_within-le}
+use Rattle.semantics.proofs.GraphRanks.{greatest-le, greatest-ge, rank_within-le}
 use Rattle.rank_order.specs.Raises.{raised_at, raised}
-
--- the start of a fold is at most its end
-fold_max-start : (a : ℕ) (xs : List ℕ) → a ≤ fold max a xs
-fold_max-start a [] = omega arith
-fold_max-start a (x ∷ xs) = let rest = fold_max-start (max a x) xs in omega arith
-
--- an element is at most the end of the fold
-fold_max-ge : (a x : ℕ) (xs : List ℕ) → IsIn x xs → x ≤ fold max a xs
-fold_max-ge a x [] m = absurd m
-fold_max-ge a x (y ∷ xs) (inl e) = let rest = fold_max-start (max a y) xs in omega arith
-fold_max-ge a x (y ∷ xs) (inr m) = fold_max-ge (max a y) x xs m
-
--- an element is at most the greatest
-pub greatest-ge : (x : ℕ) (xs : List ℕ) → IsIn x xs → x ≤ greatest xs
-greatest-ge x xs m = fold_max-ge 0 x xs m
 
 -- lists with the same elements have the same greatest
 pub greatest-same : (xs ys : List ℕ) → ((x : ℕ) → IsIn x xs → IsIn x ys) → ((y : ℕ) → IsIn y ys → IsIn y xs) → greatest xs ≡ greatest ys

@@ -62,6 +62,21 @@ greatest_from a m (x ∷ xs) h each = let here = each x (inl refl) in greatest_f
 pub greatest-le : (m : ℕ) (xs : List ℕ) → ((x : ℕ) → IsIn x xs → x ≤ m) → greatest xs ≤ m
 greatest-le m xs each = greatest_from 0 m xs (omega arith) each
 
+-- the start of a fold is at most its end
+fold_max-start : (a : ℕ) (xs : List ℕ) → a ≤ fold max a xs
+fold_max-start a [] = omega arith
+fold_max-start a (x ∷ xs) = let rest = fold_max-start (max a x) xs in omega arith
+
+-- an element is at most the end of the fold
+fold_max-ge : (a x : ℕ) (xs : List ℕ) → IsIn x xs → x ≤ fold max a xs
+fold_max-ge a x [] m = absurd m
+fold_max-ge a x (y ∷ xs) (inl e) = let rest = fold_max-start (max a y) xs in omega arith
+fold_max-ge a x (y ∷ xs) (inr m) = fold_max-ge (max a y) x xs m
+
+-- an element is at most the greatest
+pub greatest-ge : (x : ℕ) (xs : List ℕ) → IsIn x xs → x ≤ greatest xs
+greatest-ge x xs m = fold_max-ge 0 x xs m
+
 -- a rank is at most as deep as it was looked for
 pub rank_within-le : (deeper n : ℕ) (edges : Edges) (a : ℕ) → rank_within deeper n edges a ≤ deeper
 rank_within-le zero n edges a = omega arith

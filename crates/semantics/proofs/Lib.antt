@@ -22,3 +22,5 @@ pub mod GraphLeast
 pub mod JoinSets
 pub mod JoinReadings
 pub mod AdmissibleSets
+pub mod EnteredLemmas
+pub mod NameLemmas

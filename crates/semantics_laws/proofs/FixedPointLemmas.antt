@@ -1,5 +1,5 @@
 -- The state is what the joins make of the state itself: what a source reads stands below the join's rank.
-use Rattle.std.proofs.Common.{◌≡◌, ℕ, zero, suc, ◌<◌, ◌≤◌, ◌⊎◌, inl, inr, ⊎_elim, List, [], ◌∷◌, length, map, fold, max, true, false, cond, slice_get, slice_index, Option, Some, None, refl, sym, ap, ◌∙◌, arith}
+use Rattle.std.proofs.Common.{◌≡◌, ℕ, zero, suc, ◌<◌, ◌⊎◌, inl, inr, ⊎_elim, List, [], ◌∷◌, length, map, true, false, cond, slice_get, slice_index, Option, Some, None, refl, sym, ap, ◌∙◌, arith}
 use Rattle.std.proofs.lemmas.Bool.{cases_Bool}
 use Rattle.std.proofs.lemmas.List.FromFn.{get_or-map-range_with_len}
 use Rattle.std.proofs.lemmas.Option.{slice_get_within}
@@ -13,7 +13,7 @@ use Rattle.semantics.specs.OutputLaws.{fits_source}
 use Rattle.semantics.specs.StateLaws.{DeclaresJoins}
 use Rattle.semantics.proofs.Members.{IsIn, IsIn-map, IsIn-from_list_any, IsIn-from_Contains, Contains-from_IsIn}
 use Rattle.semantics.proofs.GraphReadings.{reads-from_edge, IsIn-read_by}
-use Rattle.semantics.proofs.GraphRanks.{rank_is_one_more_lem}
+use Rattle.semantics.proofs.GraphRanks.{greatest-ge, rank_is_one_more_lem}
 use Rattle.semantics.proofs.PatternLemmas.{fits_overlap}
 use Rattle.semantics.proofs.TableLemmas.{IsAscending, ascending-pairs_where, value_at-pairs_where, same_tables}
 use Rattle.semantics.proofs.ChoiceLemmas.{out_reads_sources}
@@ -25,21 +25,10 @@ use Rattle.semantics_laws.proofs.ReadingLemmas.{reading_is_overlaps_lem}
 
 -- ---- ranks
 
--- the start of a fold is at most its end
-fold_max-start : (a : ℕ) (xs : List ℕ) → a ≤ fold max a xs
-fold_max-start a [] = omega arith
-fold_max-start a (x ∷ xs) = let rest = fold_max-start (max a x) xs in omega arith
-
--- an element is at most the end of the fold
-fold_max-ge : (a x : ℕ) (xs : List ℕ) → IsIn x xs → x ≤ fold max a xs
-fold_max-ge a x [] m = absurd m
-fold_max-ge a x (y ∷ xs) (inl e) = let rest = fold_max-start (max a y) xs in omega arith
-fold_max-ge a x (y ∷ xs) (inr m) = fold_max-ge (max a y) x xs m
-
 -- without a cycle, what is read has a lesser rank
 rank-read : (n : ℕ) (edges : Edges) (a b : ℕ) → AreVertices n edges → IsAcyclic edges → a < n → reads edges a b ≡ true → rank n edges b < rank n edges a
 rank-read n edges a b v acyclic h r =
-    let more = fold_max-ge 0 (suc (rank n edges b)) (map (λ c. suc (rank n edges c)) (read_by n edges a)) (IsIn-map (λ c. suc (rank n edges c)) b (read_by n edges a) (IsIn-read_by n edges a b v r)) in
+    let more = greatest-ge (suc (rank n edges b)) (map (λ c. suc (rank n edges c)) (read_by n edges a)) (IsIn-map (λ c. suc (rank n edges c)) b (read_by n edges a) (IsIn-read_by n edges a b v r)) in
     omega (arith, more, rank_is_one_more_lem n edges a v acyclic h)
 
 -- the rank of a join that stands is that of its number

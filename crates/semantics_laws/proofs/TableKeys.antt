@@ -1,33 +1,19 @@
 -- The names of tables in front of texts: filled keys, and the range of a table.
-use Rattle.std.proofs.Common.{◌≡◌, ◌⊎◌, ℕ, suc, ◌+◌, ◌<◌, ◌≤◌, Bool, true, false, ◌==◌, ◌&&◌, nat_le, nat_lt, List, [], ◌∷◌, ◌++◌, length, refl, sym, ap, ◌∙◌, subst, inl, inr, ⊎_elim, arith, Ordering, Less, Equal, Greater, nat_cmp, is_lt, is_le, eqb-true, eq-eqb, ltb-true, ltb-false, leb-true, le-leb, nat_eq, length-append}
-use Rattle.std.specs.List.{list_all, list_any, join_with_byte, position_or_len, starts_with}
+use Rattle.std.proofs.Common.{◌≡◌, ◌⊎◌, ℕ, suc, ◌+◌, ◌<◌, ◌≤◌, Bool, true, false, ◌==◌, ◌&&◌, nat_le, nat_lt, [], ◌∷◌, ◌++◌, length, refl, sym, ap, ◌∙◌, subst, inl, inr, ⊎_elim, arith, Ordering, Less, Equal, Greater, nat_cmp, is_lt, is_le, eqb-true, eq-eqb, ltb-true, ltb-false, leb-true, le-leb, nat_eq, length-append}
+use Rattle.std.specs.List.{join_with_byte, position_or_len, starts_with}
 use Rattle.std.specs.Ordering.{ordering_then}
 use Rattle.std.specs.Cmp.{tied_itself}
 use Rattle.std.proofs.lemmas.Cmp.{nat_cmp_total}
-use Rattle.std.proofs.lemmas.Bool.{and_parts, and_from, or_parts, or_right, false≢true}
+use Rattle.std.proofs.lemmas.Bool.{and_parts, and_from, or_right, false≢true}
 use Rattle.std.proofs.lemmas.Option.{cond_some, option_and_then_some}
 use Rattle.semantics.specs.Texts.{Text, bar, brace, same, text_cmp, is_key, has_bar, table_of, names_table, ends_range, within}
-use Rattle.semantics.specs.Patterns.{literal, slot, Pattern, Slots, no_slots, begins_with_table, is_literal, is_literal_byte, is_segment, segment_texts, TakeAll}
-use Rattle.semantics.proofs.PieceLemmas.{Lacks, same_by_equal}
-use Rattle.semantics.proofs.BindLemmas.{texts-no_slots}
-use Rattle.semantics.proofs.PatternLemmas.{text_lacks, segment_texts_take, segments_of_pattern, two_of_pattern}
+use Rattle.semantics.specs.Patterns.{segment_texts}
+use Rattle.semantics.proofs.PieceLemmas.{same_by_equal}
+use Rattle.semantics.proofs.NameLemmas.{table_of-named, names_joined}
+use Rattle.semantics.proofs.PatternLemmas.{segment_texts_take, segments_of_pattern, two_of_pattern}
 use Rattle.semantics_laws.specs.PatternLaws.{FillIsKey, table_range, TableHasRange, TableRangeIsRange}
 
 -- ---- a name in front
-
--- a name and `|` in front of a text
-pub has_bar-named : (name rest : Text) → has_bar (name ++ bar ∷ rest) ≡ true
-has_bar-named [] rest = refl
-has_bar-named (b ∷ bs) rest = or_right _ _ (has_bar-named bs rest)
-
--- such a text is of the table with the name
-pub table_of-named : (name rest : Text) → Lacks bar name → table_of (name ++ bar ∷ rest) ≡ name
-table_of-named [] rest h = refl
-table_of-named (b ∷ bs) rest h =
-    let parts = or_parts (b == bar) (list_any (λ x. x == bar) bs) h in
-    let next = position_or_len (λ x. x == bar) (bs ++ bar ∷ rest) in
-    let step : 1 + next ≡ suc next = omega arith in
-    rw (parts.0, step) (ap (λ r. b ∷ r) (table_of-named bs rest parts.1))
 
 -- a text in which `|` stands is its table's name, `|` and a rest
 abbrev IsNamed : Text → Type 0
@@ -49,25 +35,6 @@ named [] h = absurd (false≢true h)
 named (b ∷ bs) h = named_by b bs (b == bar) refl h (named bs)
 
 -- ---- filled keys
-
--- a text that begins with a name of 1 to 64 bytes and `|` names a table
-names_table-named : (name rest : Text) → Lacks bar name → nat_le 1 (length name) ≡ true → nat_le (length name) 64 ≡ true → names_table (name ++ bar ∷ rest) ≡ true
-names_table-named name rest h long short =
-    let e = ap length (table_of-named name rest h) in
-    and_from _ _ (and_from _ _ (has_bar-named name rest) (ap (nat_le 1) e ∙ long)) (ap (λ n. nat_le n 64) e ∙ short)
-
--- the texts of a pattern's segments, joined, name a table
-names_joined : (p : Pattern) (ts : List Text) (given : Slots) → nat_le 2 (length p) ≡ true → begins_with_table p ≡ true → list_all is_segment p ≡ true → TakeAll p ts given → names_table (join_with_byte bar ts) ≡ true
-names_joined [] ts given two begins ok h = absurd (false≢true two)
-names_joined (slot place width ∷ ss) ts given two begins ok h = absurd (false≢true begins)
-names_joined (literal l ∷ []) ts given two begins ok h = absurd (false≢true two)
-names_joined (literal l ∷ s ∷ ss) [] given two begins ok h = absurd h
-names_joined (literal l ∷ s ∷ ss) (t ∷ []) given two begins ok h = absurd h.1
-names_joined (literal l ∷ s ∷ ss) (t ∷ u ∷ us) given two begins ok h =
-    let fine : is_literal l ≡ true = (and_parts (is_literal l) (list_all is_segment (s ∷ ss)) ok).0 in
-    let lacks = text_lacks (literal l) l no_slots fine texts-no_slots refl in
-    subst (λ x. names_table (x ++ bar ∷ join_with_byte bar (u ∷ us)) ≡ true) h.0
-    (names_table-named l (join_with_byte bar (u ∷ us)) lacks (and_parts (nat_le 1 (length l)) (list_all is_literal_byte l) fine).0 begins)
 
 -- what a pattern is filled to is a key
 pub fill_is_key_lem : FillIsKey

@@ -1,5 +1,5 @@
 -- Lists of entries: beginnings of one list, entries by number, and one entry more.
-use Rattle.std.proofs.Common.{◌≡◌, ◌≢◌, ◌⊎◌, ℕ, ◌<◌, ◌≤◌, ◌==◌, [], ◌∷◌, ◌++◌, length, nat_le, true, false, if◌then◌else◌, None, ne_eqb, eq-eqb, refl, sym, ap, ◌∙◌, subst, ⊎_elim, inl, inr, arith, append_assoc}
+use Rattle.std.proofs.Common.{◌≡◌, ◌≢◌, ℕ, ◌<◌, ◌≤◌, ◌==◌, [], ◌∷◌, ◌++◌, length, nat_le, true, false, if◌then◌else◌, None, ne_eqb, eq-eqb, refl, sym, ap, ◌∙◌, subst, ⊎_elim, arith, append_assoc}
 use Rattle.std.specs.List.{AllByRecursion}
 use Rattle.std.proofs.lemmas.List.{append-nil, length-append}
 use Rattle.std.proofs.lemmas.List.{nil_from_length}
@@ -8,6 +8,7 @@ use Rattle.std.proofs.lemmas.Bool.{le-leb, lt-leb}
 use Rattle.std.proofs.lemmas.Bool.Decides.{leb_tells}
 use Rattle.semantics.specs.Histories.{Entry, History, IsPrefix}
 use Rattle.semantics.specs.Verdicts.{verdict}
+use Rattle.semantics.proofs.EnteredLemmas.{AllEntered-nil, AllEntered-push}
 use Rattle.semantics.proofs.Members.{AllByRecursion-append}
 use Rattle.growing_history.specs.Entered.{IsWrite}
 use Rattle.growing_history.proofs.ElementLemmas.{all_left}
@@ -67,21 +68,11 @@ written_by-between number a b h first next same =
 
 -- ---- one entry more
 
--- an entry of a list with one more is the last one, or stands in the list
-entry_of_push : (h before after : History) (e f : Entry) → h ++ e ∷ [] ≡ before ++ f ∷ after → ((before ≡ h) × (f ≡ e)) ⊎ ((rest : History) × (h ≡ before ++ f ∷ rest))
-entry_of_push [] [] after e f is = let first : e ≡ f = cc in inl (refl, sym first)
-entry_of_push [] (b ∷ before) after e f is = let n = simp length-append at (ap length is) in absurd (omega arith)
-entry_of_push (x ∷ h) [] after e f is = let first : x ≡ f = cc in inr (h, ap (λ y. y ∷ h) first)
-entry_of_push (x ∷ h) (b ∷ before) after e f is =
-    let first : x ≡ b = cc in
-    let others : h ++ e ∷ [] ≡ before ++ f ∷ after = cc in
-    ⊎_elim (λ p. inl ((λ i. sym first i ∷ p.0 i), p.1)) (λ r. inr (r.0, (λ i. first i ∷ r.1 i))) (entry_of_push h before after e f others)
-
 -- a history without entries may stand
 pub IsRecorded-nil : (writers : ℕ) → IsRecorded writers []
 IsRecorded-nil writers = record {
   entered = record {
-    entered = λ before e after is. let n = simp length-append at (ap length is) in absurd (omega arith);
+    entered = AllEntered-nil;
     writes = tt;
   };
   below = tt;
@@ -91,7 +82,7 @@ IsRecorded-nil writers = record {
 pub IsRecorded-push : (writers : ℕ) (h : History) (e : Entry) → IsRecorded writers h → verdict e.write h ≡ None → IsWrite e.write → e.client < writers → IsRecorded writers (h ++ e ∷ [])
 IsRecorded-push writers h e old free write below = record {
   entered = record {
-    entered = λ before f after is. ⊎_elim (λ p. (λ i. verdict (p.1 i).write (p.0 i)) ∙ free) (λ r. old.entered.entered before f r.0 r.1) (entry_of_push h before after e f is);
+    entered = AllEntered-push h e old.entered.entered free;
     writes = AllByRecursion-append (λ e. IsWrite e.write) h (e ∷ []) old.entered.writes (write, tt);
   };
   below = AllByRecursion-append (λ e. e.client < writers) h (e ∷ []) old.below (below, tt);

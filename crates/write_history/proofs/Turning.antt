@@ -49,14 +49,18 @@ module _ (kinds : Kinds) where
       Rule record { words = set s.words i (get_or s.words i 0); homes = homes; views = views }
   loaded s i homes views k = subst (λ (ws : List ℕ). Rule record { words = ws; homes = homes; views = views }) (sym (set-get_or s.words i 0)) k
 
-  -- numbers stay apart where a seat keeps its role
+  -- a seat that keeps its role keeps a number apart from the others'
+  stays_apart : (s : State Stored Known) (k : Rule s) (id : ℕ) (v w : Known) → get_elem? s.views id ≡ some v → w.role ≡ v.role →
+      (seat : ℕ) (u : Known) → seat ≢ id → get_elem? s.views seat ≡ some u → Apart u.role w.role × Apart w.role u.role
+  stays_apart s k id v w at same seat u away at' = (
+    subst (λ r. Apart u.role r) (sym same) (k.apart seat id u v away at' at),
+    subst (λ r. Apart r u.role) (sym same) (k.apart id seat v u (λ e. away (sym e)) at at'),
+  )
+
+  -- so the numbers of all stay apart
   apart_set : (s : State Stored Known) (k : Rule s) (id : ℕ) (v w : Known) → get_elem? s.views id ≡ some v → w.role ≡ v.role →
       (seat other : ℕ) (u u' : Known) → seat ≢ other → get_elem? (set s.views id w) seat ≡ some u → get_elem? (set s.views id w) other ≡ some u' → Apart u.role u'.role
-  apart_set s k id v w at same = each_set (λ (u : Known) (u' : Known). Apart u.role u'.role) s.views id w k.apart
-      (λ seat u away at'. (
-        subst (λ r. Apart u.role r) (sym same) (k.apart seat id u v away at' at),
-        subst (λ r. Apart r u.role) (sym same) (k.apart id seat v u (λ e. away (sym e)) at at'),
-      ))
+  apart_set s k id v w at same = each_set (λ (u : Known) (u' : Known). Apart u.role u'.role) s.views id w k.apart (stays_apart s k id v w at same)
 
   -- what each seat knows is true where what the one that changes knows is
   fits_set : (s : State Stored Known) (k : Rule s) (id : ℕ) (w : Known) → Fits kinds k.history k.floor w →
@@ -99,18 +103,7 @@ module _ (kinds : Kinds) where
   -- one seat comes to know more, between calls
   quiet : (s : State Stored Known) (k : Rule s) (id : ℕ) (v w : Known) → get_elem? s.views id ≡ some v → v.held ≡ None → w.held ≡ None → w.role ≡ v.role →
       Fits kinds k.history k.floor w → Rule record { words = s.words; homes = s.homes; views = set s.views id w }
-  quiet s k id v w at none_v none_w same fit = record {
-    history = k.history;
-    turn = k.turn;
-    floor = k.floor;
-    marks = k.marks;
-    words = k.words;
-    whole = k.whole;
-    recorded = k.recorded;
-    fits = fits_set s k id w fit;
-    apart = apart_set s k id v w at same;
-    place = place_set k.history k.floor k.turn s.homes s.views id v w at none_v none_w k.place;
-  }
+  quiet s k id v w at none_v none_w same fit = turns s k id v w at none_v none_w (stays_apart s k id v w at same) fit
 
   -- ---- the turn
 

@@ -1,5 +1,5 @@
-use Rattle.std.proofs.Common.{◌≡◌, Some, sym, ap, ◌∙◌}
-use Rattle.command_words.specs.Commands.{run, replay, load}
+use Rattle.std.proofs.Common.{◌≡◌, Some, option_map, sym, ap, ◌∙◌}
+use Rattle.command_words.specs.Commands.{run, serve, replay, load}
 use Rattle.command_words.specs.Plain.{plain_command, plain_room}
 use Rattle.pequod.proofs.RoomLemmas.{command_within}
 use Rattle.pequod.proofs.top.pequod.Goals as goal
@@ -63,3 +63,28 @@ pub load-requires-clause-few_steps : goal.load-requires-clause-few_steps
 load-requires-clause-few_steps g c =
     let formed = sym c.in-Some-Load.ensures ∙ ap (λ command. Some (plain_command command)) c.in-Some-Load.field-0-is in
     (command_within _ (load (plain_room c.in-Some-Load.room) c.in-Some-Load.workers c.in-Some-Load.number c.in-Some-Load.steps c.in-Some-Load.users) formed).few_steps
+
+pub serve-requires-clause-some_cells : goal.serve-requires-clause-some_cells
+serve-requires-clause-some_cells g c κs within =
+    let formed = sym c.in-Some-Serve.ensures ∙ ap (λ command. Some (plain_command command)) c.in-Some-Serve.field-0-is in
+    (command_within _ (serve c.in-Some-Serve.address.now (plain_room c.in-Some-Serve.room) c.in-Some-Serve.workers c.in-Some-Serve.field-0-3 (option_map (λ text. text.now) c.in-Some-Serve.joins)) formed).keeps.some_cells
+
+pub serve-requires-clause-few_cells : goal.serve-requires-clause-few_cells
+serve-requires-clause-few_cells g c κs within =
+    let formed = sym c.in-Some-Serve.ensures ∙ ap (λ command. Some (plain_command command)) c.in-Some-Serve.field-0-is in
+    (command_within _ (serve c.in-Some-Serve.address.now (plain_room c.in-Some-Serve.room) c.in-Some-Serve.workers c.in-Some-Serve.field-0-3 (option_map (λ text. text.now) c.in-Some-Serve.joins)) formed).keeps.few_cells
+
+pub serve-requires-clause-some_rows : goal.serve-requires-clause-some_rows
+serve-requires-clause-some_rows g c κs within =
+    let formed = sym c.in-Some-Serve.ensures ∙ ap (λ command. Some (plain_command command)) c.in-Some-Serve.field-0-is in
+    (command_within _ (serve c.in-Some-Serve.address.now (plain_room c.in-Some-Serve.room) c.in-Some-Serve.workers c.in-Some-Serve.field-0-3 (option_map (λ text. text.now) c.in-Some-Serve.joins)) formed).keeps.some_rows
+
+pub serve-requires-clause-some_workers : goal.serve-requires-clause-some_workers
+serve-requires-clause-some_workers g c κs within =
+    let formed = sym c.in-Some-Serve.ensures ∙ ap (λ command. Some (plain_command command)) c.in-Some-Serve.field-0-is in
+    (command_within _ (serve c.in-Some-Serve.address.now (plain_room c.in-Some-Serve.room) c.in-Some-Serve.workers c.in-Some-Serve.field-0-3 (option_map (λ text. text.now) c.in-Some-Serve.joins)) formed).some_workers
+
+pub serve-requires-clause-few_workers : goal.serve-requires-clause-few_workers
+serve-requires-clause-few_workers g c κs within =
+    let formed = sym c.in-Some-Serve.ensures ∙ ap (λ command. Some (plain_command command)) c.in-Some-Serve.field-0-is in
+    (command_within _ (serve c.in-Some-Serve.address.now (plain_room c.in-Some-Serve.room) c.in-Some-Serve.workers c.in-Some-Serve.field-0-3 (option_map (λ text. text.now) c.in-Some-Serve.joins)) formed).few_workers

@@ -1,5 +1,5 @@
 -- Histories whose entries all entered: the empty one, and one entry more.
-use Rattle.std.proofs.Common.{◌≡◌, [], ◌∷◌, ◌++◌, length, false, Option, Some, None, option_map, is_some, true≢false, refl, sym, ap, ◌∙◌, ◌⊎◌, ⊎_elim, inl, inr, arith}
+use Rattle.std.proofs.Common.{◌≡◌, [], ◌∷◌, ◌++◌, length, None, refl, sym, ap, ◌∙◌, ◌⊎◌, ⊎_elim, inl, inr, arith}
 use Rattle.std.proofs.lemmas.List.{length-append}
 use Rattle.semantics.specs.Histories.{Entry, History}
 use Rattle.semantics.specs.Verdicts.{verdict, AllEntered}
@@ -23,8 +23,3 @@ AllEntered-nil before e after is = let n = simp length-append at (ap length is) 
 pub AllEntered-push : (h : History) (e : Entry) → AllEntered h → verdict e.write h ≡ None → AllEntered (h ++ e ∷ [])
 AllEntered-push h e entered free before f after is =
     ⊎_elim (λ p. (λ i. verdict (p.1 i).write (p.0 i)) ∙ free) (λ r. entered before f r.0 r.1) (entry_of_push h before after e f is)
-
--- an answer that a failing test shows to be none
-pub none_from_test : {X Y : Type 0} (f : X → Y) (found : Option X) (o : Option Y) → option_map f found ≡ o → is_some found ≡ false → o ≡ None
-none_from_test f None o e none = sym e
-none_from_test f (Some x) o e none = absurd (true≢false none)

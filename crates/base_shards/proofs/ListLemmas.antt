@@ -1,0 +1,63 @@
+-- Beginnings of histories, and how long a history is.
+use Rattle.std.proofs.Common.{◌≡◌, ℕ, zero, suc, ◌+◌, ◌-◌, ◌^◌, ◌<◌, ◌≤◌, List, [], ◌∷◌, ◌++◌, length, take, drop, filter, flat_map, nat_le, Some, None, if◌then◌else◌, leb-false, refl, sym, ap, ◌∙◌, arith}
+use Rattle.std.proofs.lemmas.List.{length-append, length-drop, length-take, drop-append-le, take-append-drop, take-append-le}
+use Rattle.semantics.specs.Histories.{Write, Entry, History, IsPrefix}
+use Rattle.semantics.specs.Verdicts.{full, first_cause, write_cause, verdict, AllEntered}
+use Rattle.semantics.proofs.JoinSets.{first_cause-None, test-from_None}
+use Rattle.growing_history.specs.Entered.{HasEntered}
+use Rattle.growing_history.specs.Changes.{entries_between, in_order, written, changed_keys}
+use Rattle.semantics.specs.Texts.{Range, within}
+use Rattle.growing_history.proofs.PrefixLemmas.{take_prefix}
+
+take_nothing : {A : Type 0} (n : ℕ) → take {A = A} n [] ≡ []
+take_nothing zero = refl
+take_nothing (suc n) = refl
+
+-- the first elements, and the first of those that follow
+pub take_then : {A : Type 0} (n k : ℕ) (xs : List A) → take n xs ++ take k (drop n xs) ≡ take (n + k) xs
+take_then zero k xs = ap (λ m. take m xs) (let e : k ≡ 0 + k = omega arith in e)
+take_then (suc n) k [] = take_nothing k ∙ sym (take_nothing (suc n + k))
+take_then (suc n) k (x ∷ xs) = ap (λ ys. x ∷ ys) (take_then n k xs) ∙ ap (λ m. take m (x ∷ xs)) (let e : suc (n + k) ≡ suc n + k = omega arith in e)
+
+-- a history begins with its first entries
+pub take_is_prefix : (n : ℕ) (h : History) → IsPrefix (take n h) h
+take_is_prefix n h = (drop n h, sym (take-append-drop n h))
+
+-- the first of the first entries
+pub take_of_take : (p n : ℕ) (h : History) → p ≤ n → n ≤ length h → take p (take n h) ≡ take p h
+take_of_take p n h less inside =
+    let long : p ≤ length (take n h) = omega (arith, length-take n h) in
+    sym (take_prefix p (take n h) h long (take_is_prefix n h))
+
+-- without a cause against a write there is room for it
+room_before : (write : Write) (h : History) → verdict write h ≡ None → length h < 2 ^ 48 - 1
+unfolding verdict
+room_before write h free =
+    let room = first_cause-None (if nat_le (2 ^ 48 - 1) (length h) then Some full else None) (write_cause write h ∷ []) free in
+    leb-false (2 ^ 48 - 1) (length h) (test-from_None (nat_le (2 ^ 48 - 1) (length h)) full room.0)
+
+-- there is a last element, or none
+last_of : {A : Type 0} (x : A) (xs : List A) → (before : List A) × (last : A) × (x ∷ xs ≡ before ++ last ∷ [])
+last_of x [] = ([], x, refl)
+last_of x (y ∷ ys) = let rest = last_of y ys in (x ∷ rest.0, rest.1, ap (λ l. x ∷ l) rest.2)
+
+-- a history has fewer than 2^48 entries
+pub few_entries : (h : History) → HasEntered h → length h < 2 ^ 48
+few_entries [] entered = omega arith
+few_entries (e ∷ es) entered =
+    let last = last_of e es in
+    let room : length last.0 < 2 ^ 48 - 1 = room_before last.1.write last.0 (entered.entered last.0 last.1 [] last.2) in
+    let long = ap length last.2 ∙ length-append last.0 (last.1 ∷ []) in
+    omega (arith, room, long)
+
+-- of a longer history the entries between two positions are the same
+pub between_prefix : (q p : ℕ) (h more : History) → q ≤ p → p ≤ length h → IsPrefix h more → entries_between q p more ≡ entries_between q p h
+between_prefix q p h more order inside prefix =
+    let fits : p - q ≤ length (drop q h) = omega (arith, length-drop q h) in
+    ap (λ es. take (p - q) (drop q es)) prefix.1 ∙ ap (take (p - q)) (drop-append-le q h prefix.0 (omega arith)) ∙ take-append-le (p - q) (drop q h) prefix.0 fits
+
+-- and so are the changed keys of a range
+pub changed_prefix : (q p : ℕ) (range : Range) (h more : History) → q ≤ p → p ≤ length h → IsPrefix h more → changed_keys q p range more ≡ changed_keys q p range h
+unfolding changed_keys
+changed_prefix q p range h more order inside prefix =
+    ap (λ es. in_order (filter (within range) (flat_map (λ e. written e.write) es))) (between_prefix q p h more order inside prefix)

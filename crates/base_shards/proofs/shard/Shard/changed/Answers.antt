@@ -1,0 +1,19 @@
+use Rattle.std.proofs.Common.{◌≡◌, ◌≤◌, sym, ap, ◌∙◌, subst}
+use Rattle.std.proofs.lemmas.Result.{IfOk-weaker}
+use Rattle.semantics.specs.Texts.{table_of}
+use Rattle.growing_history.specs.Changes.{changed_keys}
+use Rattle.base_versions.specs.Kept.{shard_of}
+use Rattle.base_shards.specs.Shards.{ShardView}
+use Rattle.base_shards.proofs.ShardLemmas.{own_part, changed_of_view}
+use Rattle.base_shards.proofs.shard.Shard.changed.Goals as goal
+
+pub changed-requires-clause-own : goal.changed-requires-clause-own
+changed-requires-clause-own g c =
+    own_part c.self.inside.base (table_of c.args.range.now.low) c.self.invariant.1.shards (subst (λ (s : ShardView). shard_of 16 (table_of c.args.range.now.low) ≡ s.base.shard) (sym c.self.view_is) c.requires.part)
+
+pub returns-clause-exact : goal.returns-clause-exact
+returns-clause-exact g c =
+    let inside = subst (λ (s : ShardView). c.args.p ≤ s.base.position) (sym c.self.view_is) c.requires.within in
+    IfOk-weaker c.changed.result _ _ (λ keys exact.
+    changed_of_view g.N.Naming.history c.self.inside.base c.self.inside.pass c.args.q c.args.p c.args.range.now keys.items c.self.invariant.1 c.requires.order inside exact
+    ∙ ap (λ (s : ShardView). changed_keys c.args.q c.args.p c.args.range.now s.pass.view) c.self.view_is) c.changed.ensures.exact

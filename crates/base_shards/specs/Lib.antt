@@ -1,0 +1,4 @@
+pub mod Shards
+pub mod Reading
+pub mod Changed
+pub mod Laws

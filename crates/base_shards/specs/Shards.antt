@@ -1,0 +1,23 @@
+-- A shard as contracts see it, and what is true of it whenever its lock is free.
+use Rattle.std.specs.Prelude.{◌≡◌, ℕ, ◌≤◌, [], length, take, slice_set}
+use Rattle.atomic_table.specs.Seated.{TableId}
+use Rattle.base_versions.specs.Kept.{Kept, StandsFor}
+use Rattle.updater_index.specs.Registered.{Index, without_mark}
+use Rattle.write_history.specs.Passes.{PassView}
+
+-- the base pairs of its tables, the ranges and marks of the ids, and its pass
+pub record ShardView : Type 0 where
+  pub base : Kept
+  pub index : Index
+  pub pass : PassView
+
+-- what is kept of the base is that of one of 16 parts of the tables, after a beginning of what the pass has seen
+pub record KeepsBeginning (history : TableId) (base : Kept) (pass : PassView) : Type 0 where
+  pub same_history : pass.history ≡ history
+  pub shards : base.shards ≡ 16
+  pub reaches : base.position ≤ length pass.view
+  pub stands : StandsFor 0 base (take base.position pass.view)
+
+-- the ranges and marks without those of an id
+abbrev pub without_id : ℕ → Index → Index
+without_id id index = record { held = slice_set index.held id []; marked = without_mark id index.marked }

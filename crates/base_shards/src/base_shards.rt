@@ -1,0 +1,227 @@
+// The base pairs of all tables, in 16 parts with a lock each.
+ghost use Rattle.std.specs.Prelude.{◌≡◌, ◌+◌, ◌<◌, ◌≤◌, IfOk, All, length, take, vec_len};
+ghost use Rattle.std.specs.Arc.{arc_value};
+ghost use Rattle.semantics.specs.Texts.{pairs_within};
+ghost use Rattle.semantics.specs.Histories.{base_of};
+ghost use Rattle.growing_history.specs.Changes.{changed_keys};
+ghost use Rattle.base_shards.specs.Reading.{ReadsOn};
+ghost use Rattle.base_shards.specs.Changed.{changed_in_all, steps_of_all};
+
+use crate::key_set::{add_keys, listed};
+use crate::naming::Naming;
+use crate::shard::{SHARDS, Shard};
+use base_versions::shard_of;
+use join_types::Pair;
+use key_space::{Key, Range};
+use out_of_memory::OutOfMemory;
+use std::alloc::Global;
+use std::collections::BTreeSet;
+use std::sync::ledger::Ledger;
+use std::sync::{Arc, Mutex, Wait};
+use steps::Steps;
+use write_history::{History, Pass};
+
+/// The base pairs of all tables at every position of a history, which threads share. The tables are in 16 parts, each
+/// behind a lock of its own: a table is of the part whose number is the sum of its name's bytes modulo 16. What is read is
+/// read at a position that the caller's pass has seen, whatever the parts have come to meanwhile.
+///
+/// No call takes a second lock while it has one. Under the lock of a part the history's turn may be taken.
+#[derive(Drop)]
+pub struct BaseShards<N: Naming> {
+    alloc: Global,
+    history: Arc<History>,
+    shards: Vec<Mutex<Shard<N>>>,
+    ghost named: { arc_value history ≡ N.history },
+    ghost all: { vec_len shards ≡ 16 },
+}
+
+/// A part for each of the passes, with the numbers from 0 up.
+fn make_shards<N: Naming>(
+    alloc: Global,
+    passes: Vec<Pass>,
+    ids: u32,
+) -> Result<Vec<Mutex<Shard<N>>>, OutOfMemory>
+    requires count { length passes.items ≡ 16 }
+    requires same_history { All (λ pass. pass.history ≡ N.history) passes.items }
+    ensures { IfOk result (λ shards. vec_len shards ≡ 16) }
+{
+    let mut shards = Vec::with_capacity(alloc, passes.len())?;
+    let mut number = 0;
+    for pass in passes {
+        shards.push(Mutex::new(Shard::new(alloc, number, pass, ids)?))?;
+        number += 1;
+    }
+    Ok(shards)
+}
+
+impl<N: Naming> BaseShards<N> {
+    /// The base pairs of the history after no entries, with a pass of it for each part. What is read later and what the
+    /// parts grow by is allocated by this allocator. No id has ranges, and none is marked; room is reserved for the marks
+    /// of all ids below a number. Linear in that number.
+    pub fn new(
+        alloc: Global,
+        history: Arc<History>,
+        passes: Vec<Pass>,
+        ids: u32,
+    ) -> Result<BaseShards<N>, OutOfMemory>
+        requires named { arc_value history ≡ N.history }
+        requires count { length passes.items ≡ 16 }
+        requires same_history { All (λ pass. pass.history ≡ N.history) passes.items }
+    {
+        let shards = make_shards(alloc, passes, ids)?;
+        Ok(BaseShards {
+            alloc,
+            history,
+            shards,
+        })
+    }
+
+    /// The lock of the part with a number.
+    fn shard(&self, number: u8) -> &Mutex<Shard<N>>
+        requires { number < 16 }
+    {
+        &self.shards[usize::from(number)]
+    }
+
+    /// The base pairs of the range after the first p entries that the pass has seen, in the order of their keys. Where the
+    /// part of its table has not come to p, it is brought there. While another thread has the part, this one sleeps.
+    ///
+    /// It costs a look-up for each entry up to p that is new to the part, then the search for the range, and for each of
+    /// its keys that was ever put or removed the search for its version. The steps are as many as the pairs, and one. On
+    /// `OutOfMemory` they are not counted, and the part may have come nearer to p.
+    pub fn pairs_at<L: Ledger, R: Wait>(
+        &self,
+        rt: &R,
+        pass: &mut Pass,
+        p: u64,
+        range: &Range,
+        steps: &mut Steps<L>,
+    ) -> Result<Vec<Pair>, OutOfMemory>
+        requires same_history { pass.old.history ≡ N.history }
+        requires within { p ≤ length pass.old.view }
+        ensures reads_on { ReadsOn pass.old pass.new }
+        ensures exact { IfOk result (λ pairs. pairs.items ≡ pairs_within range.now (base_of (take p pass.old.view))) }
+        ensures cost { IfOk result (λ pairs. steps.new ≡ steps.old + 1 + length pairs.items) }
+        ensures spent { steps.old ≤ steps.new }
+    {
+        let number = shard_of(range.table(), SHARDS);
+        let mut shard = self.shard(number).lock(rt);
+        shard.bring(rt, &self.history, pass, number, p)?;
+        shard.pairs_at(p, range, steps)
+    }
+
+    /// The keys of one range that are put or removed by the entries after the first q that the pass has seen, up to the
+    /// p-th.
+    fn changed_within<L: Ledger, R: Wait>(
+        &self,
+        rt: &R,
+        pass: &mut Pass,
+        q: u64,
+        p: u64,
+        range: &Range,
+        steps: &mut Steps<L>,
+    ) -> Result<Vec<Key>, OutOfMemory>
+        requires same_history { pass.old.history ≡ N.history }
+        requires order { q ≤ p }
+        requires within { p ≤ length pass.old.view }
+        ensures reads_on { ReadsOn pass.old pass.new }
+        ensures exact { IfOk result (λ keys. keys.items ≡ changed_keys q p range.now pass.old.view) }
+        ensures cost { IfOk result (λ keys. steps.new ≡ steps.old + 1 + length keys.items) }
+        ensures spent { steps.old ≤ steps.new }
+    {
+        let number = shard_of(range.table(), SHARDS);
+        let mut shard = self.shard(number).lock(rt);
+        shard.bring(rt, &self.history, pass, number, p)?;
+        shard.changed(q, p, range, steps)
+    }
+
+    /// The keys of all the ranges that are put or removed by the entries after the first q that the pass has seen, up to
+    /// the p-th: in order, each once. The parts of their tables are brought to p, one after another. While another thread
+    /// has one, this one sleeps.
+    ///
+    /// It costs what `BaseVersions::changed` does for each range, and a look-up for each entry up to p that is new to a
+    /// part; of several ranges the keys are sorted. The steps are for each range as many as its keys, and one. On
+    /// `OutOfMemory` some of them may be counted, and the parts may have come nearer to p.
+    pub fn changed<L: Ledger, R: Wait>(
+        &self,
+        rt: &R,
+        pass: &mut Pass,
+        q: u64,
+        p: u64,
+        ranges: &[Range],
+        steps: &mut Steps<L>,
+    ) -> Result<Vec<Key>, OutOfMemory>
+        requires same_history { pass.old.history ≡ N.history }
+        requires order { q ≤ p }
+        requires within { p ≤ length pass.old.view }
+        ensures reads_on { ReadsOn pass.old pass.new }
+        ensures exact { IfOk result (λ keys. keys.items ≡ changed_in_all q p ranges.now pass.old.view) }
+        ensures cost { IfOk result (λ keys. steps.new ≡ steps.old + steps_of_all q p ranges.now pass.old.view) }
+        ensures spent { steps.old ≤ steps.new }
+    {
+        if let [range] = ranges {
+            return self.changed_within(rt, pass, q, p, range, steps);
+        }
+        let mut found = BTreeSet::new(self.alloc);
+        for range in ranges {
+            let keys = self.changed_within(rt, pass, q, p, range, steps)?;
+            add_keys(&mut found, keys)?;
+        }
+        listed(self.alloc, found)
+    }
+
+    /// Brings a part to a position that the pass has seen, if it is not there yet. While another thread has the part, this
+    /// one sleeps. It costs a look-up for each entry that is new to the part.
+    ///
+    /// On `OutOfMemory` the part may have come nearer to the position.
+    pub fn catch_up<R: Wait>(
+        &self,
+        rt: &R,
+        pass: &mut Pass,
+        shard: u8,
+        p: u64,
+    ) -> Result<(), OutOfMemory>
+        requires shard { shard < 16 }
+        requires same_history { pass.old.history ≡ N.history }
+        requires within { p ≤ length pass.old.view }
+        ensures { ReadsOn pass.old pass.new }
+    {
+        self.shard(shard)
+            .lock(rt)
+            .bring(rt, &self.history, pass, shard, p)
+    }
+
+    /// Follows the ranges for the id, so that it is marked once a key of theirs is written. So far nothing is followed: no
+    /// id has ranges, and none is marked.
+    pub fn follow<R: Wait>(
+        &self,
+        _rt: &R,
+        _pass: &mut Pass,
+        _id: u32,
+        _ranges: &[Range],
+    ) -> Result<(), OutOfMemory>
+        ensures { _pass.new ≡ _pass.old }
+    {
+        Ok(())
+    }
+
+    /// Takes away the ranges and the mark of the id in each part, one after another. It takes no memory. While another
+    /// thread has a part, this one sleeps.
+    pub fn forget<R: Wait>(&self, rt: &R, id: u32) {
+        for shard in &self.shards {
+            shard.lock(rt).forget(id);
+        }
+    }
+
+    /// Takes out the id that was marked first in the first part that has one. None where no part had one when its lock was
+    /// taken. It takes no memory. While another thread has a part, this one sleeps.
+    pub fn next_marked<R: Wait>(&self, rt: &R) -> Option<u32> {
+        for shard in &self.shards {
+            let marked = shard.lock(rt).next_marked();
+            if marked.is_some() {
+                return marked;
+            }
+        }
+        None
+    }
+}

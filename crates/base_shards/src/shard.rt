@@ -1,0 +1,225 @@
+// What lies behind the lock of a shard.
+ghost use Rattle.std.specs.Prelude.{◌≡◌, ◌+◌, ◌^◌, ◌<◌, ◌≤◌, [], ◌∷◌, length, take, replicate, IfOk, OnOk, MatchOption};
+ghost use Rattle.semantics.specs.Texts.{pairs_within, table_of};
+ghost use Rattle.semantics.specs.Histories.{base_of};
+ghost use Rattle.growing_history.specs.Changes.{changed_keys};
+ghost use Rattle.growing_history.specs.Entered.{HasEntered};
+ghost use Rattle.base_versions.specs.Kept.{shard_of};
+ghost use Rattle.write_history.specs.Passes.{GoesOn, own};
+ghost use Rattle.base_shards.specs.Shards.{without_id};
+
+use crate::naming::Naming;
+use base_versions::BaseVersions;
+use join_types::Pair;
+use key_space::{Key, Range};
+use out_of_memory::OutOfMemory;
+use std::alloc::Global;
+use std::marker::{Model, PhantomData};
+use std::sync::Wait;
+use std::sync::ledger::Ledger;
+use steps::Steps;
+use updater_index::UpdaterIndex;
+use write_history::{History, Pass};
+
+/// The number of shards.
+pub const SHARDS: u8 = 16;
+
+/// The most entries that are copied out of the history at a time, and so while its turn is taken.
+const BATCH: u64 = 1_024;
+
+/// One part of the tables: its base pairs at every position up to its own, the ranges and marks of ids, and a pass. The
+/// base pairs are those after a beginning of what the pass has seen: that is true whenever the lock is free.
+#[derive(Drop)]
+pub struct Shard<N: Naming> {
+    alloc: Global,
+    number: u8,
+    base: BaseVersions,
+    index: UpdaterIndex,
+    pass: Pass,
+    of: PhantomData<N>,
+}
+
+impl<N: Naming> Model for Shard<N> {
+    ghost use Rattle.std.specs.Prelude.{◌≡◌};
+    ghost use Rattle.base_shards.specs.Shards.{ShardView, KeepsBeginning};
+
+    ghost Value = { ShardView };
+
+    ghost view = { λ s. record { base = s.base; index = s.index; pass = s.pass } };
+
+    ghost invariant = { λ s. (s.number ≡ s.base.shard) × KeepsBeginning N.history s.base s.pass };
+}
+
+impl<N: Naming> Shard<N> {
+    /// The part with a number, after no entries, with a pass of the history, and for ids below a number. Linear in the ids.
+    pub fn new(alloc: Global, number: u8, pass: Pass, ids: u32) -> Result<Shard<N>, OutOfMemory>
+        requires number { number < 16 }
+        requires same_history { pass.history ≡ N.history }
+        ensures number { IfOk result (λ shard. shard.base.shard ≡ number) }
+        ensures ids { IfOk result (λ shard. shard.index.held ≡ replicate ids []) }
+        ensures marked { IfOk result (λ shard. shard.index.marked ≡ []) }
+        ensures pass { IfOk result (λ shard. shard.pass ≡ pass) }
+    {
+        let index = UpdaterIndex::new(alloc, ids)?;
+        Ok(Shard {
+            alloc,
+            number,
+            base: BaseVersions::new(alloc, number, SHARDS),
+            index,
+            pass,
+            of: PhantomData,
+        })
+    }
+
+    /// The number of entries that the base pairs know, below 2^48.
+    fn position(&self) -> u64
+        ensures position { result ≡ self.now.base.position }
+        ensures room { result < 2 ^ 48 }
+    {
+        self.base.position()
+    }
+
+    /// The shard's pass and the other see what either has seen.
+    fn meet<R: Wait>(&mut self, rt: &R, history: &History, pass: &mut Pass)
+        requires history { history.now ≡ N.history }
+        requires same_history { pass.old.history ≡ N.history }
+        ensures goes_on { GoesOn pass.old pass.new }
+        ensures own { own pass.new ≡ own pass.old }
+        ensures met { self.new.pass.view ≡ pass.new.view }
+        ensures base { self.new.base ≡ self.old.base }
+        ensures index { self.new.index ≡ self.old.index }
+    {
+        history.meet(rt, &mut self.pass, pass);
+    }
+
+    /// Sees to it that the shard keeps the tables of the part with a number. It begins anew where it keeps others: a type
+    /// cannot say which of several locks a value lies behind, so that it is the right one is looked up here.
+    fn keep_part(&mut self, number: u8)
+        requires { number < 16 }
+        ensures number { self.new.base.shard ≡ number }
+        ensures same { self.old.base.shard ≡ number → self.new.base ≡ self.old.base }
+        ensures index { self.new.index ≡ self.old.index }
+        ensures pass { self.new.pass ≡ self.old.pass }
+    {
+        if self.number != number {
+            self.base = BaseVersions::new(self.alloc, number, SHARDS);
+            self.number = number;
+        }
+    }
+
+    /// Takes the next entries that the pass has seen, up to a position, and no more than are copied at a time.
+    ///
+    /// On `OutOfMemory` some first ones of them may have been taken.
+    fn take_next<R: Wait>(&mut self, rt: &R, history: &History, p: u64) -> Result<(), OutOfMemory>
+        requires history { history.now ≡ N.history }
+        requires entered { HasEntered self.old.pass.view }
+        requires before { self.old.base.position < p }
+        requires within { p ≤ length self.old.pass.view }
+        ensures nearer { OnOk result (self.old.base.position < self.new.base.position) }
+        ensures kept { self.old.base.position ≤ self.new.base.position }
+        ensures upto { self.new.base.position ≤ p }
+        ensures number { self.new.base.shard ≡ self.old.base.shard }
+        ensures index { self.new.index ≡ self.old.index }
+        ensures pass { self.new.pass ≡ self.old.pass }
+    {
+        let from = self.base.position();
+        let to = p.min(from + BATCH);
+        let entries = history.entries(rt, &mut self.pass, from, to)?;
+        self.base.advance(&entries)
+    }
+
+    /// Brings the base pairs of the part with a number to a position that the pass has seen, if they are not there yet. Both
+    /// passes see then what either has seen. It costs a look-up for each entry up to the position that is new to the shard,
+    /// and the history's turn once for each 1,024 of them.
+    ///
+    /// On `OutOfMemory` some first ones of these entries may have been taken.
+    pub fn bring<R: Wait>(
+        &mut self,
+        rt: &R,
+        history: &History,
+        pass: &mut Pass,
+        number: u8,
+        p: u64,
+    ) -> Result<(), OutOfMemory>
+        requires number { number < 16 }
+        requires history { history.now ≡ N.history }
+        requires same_history { pass.old.history ≡ N.history }
+        requires within { p ≤ length pass.old.view }
+        ensures goes_on { GoesOn pass.old pass.new }
+        ensures own { own pass.new ≡ own pass.old }
+        ensures met { self.new.pass.view ≡ pass.new.view }
+        ensures number { self.new.base.shard ≡ number }
+        ensures brought { OnOk result (p ≤ self.new.base.position) }
+        ensures kept { self.old.base.shard ≡ number → self.old.base.position ≤ self.new.base.position }
+        ensures index { self.new.index ≡ self.old.index }
+    {
+        self.meet(rt, history, pass);
+        self.keep_part(number);
+        while self.position() < p {
+            self.take_next(rt, history, p)?;
+        }
+        Ok(())
+    }
+
+    /// The base pairs of the range after the first p entries that the pass has seen, in the order of their keys. It costs
+    /// what `BaseVersions::pairs_at` does.
+    ///
+    /// The steps are as many as the pairs, and one. On `OutOfMemory` they are not counted.
+    pub fn pairs_at<L: Ledger>(
+        &self,
+        p: u64,
+        range: &Range,
+        steps: &mut Steps<L>,
+    ) -> Result<Vec<Pair>, OutOfMemory>
+        requires within { p ≤ self.now.base.position }
+        requires part { shard_of 16 (table_of range.now.low) ≡ self.now.base.shard }
+        ensures exact { IfOk result (λ pairs. pairs.items ≡ pairs_within range.now (base_of (take p self.now.pass.view))) }
+        ensures cost { IfOk result (λ pairs. steps.new ≡ steps.old + 1 + length pairs.items) }
+        ensures spent { steps.old ≤ steps.new }
+    {
+        self.base.pairs_at(p, range, steps)
+    }
+
+    /// The keys of the range that are put or removed by the entries after the first q that the pass has seen, up to the
+    /// p-th: in order, each once. It costs what `BaseVersions::changed` does.
+    ///
+    /// The steps are as many as the keys, and one. On `OutOfMemory` they are not counted.
+    pub fn changed<L: Ledger>(
+        &self,
+        q: u64,
+        p: u64,
+        range: &Range,
+        steps: &mut Steps<L>,
+    ) -> Result<Vec<Key>, OutOfMemory>
+        requires order { q ≤ p }
+        requires within { p ≤ self.now.base.position }
+        requires part { shard_of 16 (table_of range.now.low) ≡ self.now.base.shard }
+        ensures exact { IfOk result (λ keys. keys.items ≡ changed_keys q p range.now self.now.pass.view) }
+        ensures cost { IfOk result (λ keys. steps.new ≡ steps.old + 1 + length keys.items) }
+        ensures spent { steps.old ≤ steps.new }
+    {
+        self.base.changed(q, p, range, steps)
+    }
+
+    /// Takes away the ranges of the id, and its mark. An id that the index does not have has neither. It costs what
+    /// `UpdaterIndex::forget` does, and takes no memory.
+    pub fn forget(&mut self, id: u32)
+        ensures known { id < length self.old.index.held → self.new.index ≡ without_id id self.old.index }
+        ensures unknown { length self.old.index.held ≤ id → self.new.index ≡ self.old.index }
+        ensures base { self.new.base ≡ self.old.base }
+        ensures pass { self.new.pass ≡ self.old.pass }
+    {
+        if (id as usize) < self.index.ids() {
+            self.index.forget(id);
+        }
+    }
+
+    /// Takes out the id that was marked first; none exactly where none is marked. It takes constant time, and no memory.
+    pub fn next_marked(&mut self) -> Option<u32>
+        ensures next { MatchOption result ((self.old.index.marked ≡ []) × (self.new.index ≡ self.old.index)) (λ id. self.old.index ≡ record self.new.index { marked = id ∷ self.new.index.marked }) }
+        ensures base { self.new.base ≡ self.old.base }
+        ensures pass { self.new.pass ≡ self.old.pass }
+    {
+        self.index.next_marked()
+    }
+}

@@ -1,0 +1,58 @@
+-- A client between calls, and the passes of new ones.
+use Rattle.std.proofs.Common.{◌≡◌, ◌<◌, Option, Some, List, [], ◌∷◌, ◌++◌, length, refl, ap, sym, ◌∙◌, subst, arith}
+use Rattle.std.specs.Prelude.{slice_get}
+use Rattle.std.proofs.lemmas.List.{length-append}
+use Rattle.std.proofs.lemmas.Option.{same_Some}
+use Rattle.atomic_table.specs.Seated.{TableId}
+use Rattle.join_set.specs.Summaries.{Summary}
+use Rattle.write_history.specs.Passes.{PassView, GoesOn, new_pass}
+use Rattle.base_shards.specs.Reading.{ReadsOn}
+use Rattle.pequod_cache.specs.Clients.{KeepsJoins, IsClient}
+use Rattle.pequod_cache.specs.Sitting.{AreWriters}
+use Rattle.pequod_cache.proofs.JoinsLemmas.{keeps_longer}
+
+-- with a pass that has gone on
+pub client_goes_on : (history : TableId) (pass : Option PassView) (old new : PassView) (joins : Summary) → IsClient history pass joins → pass ≡ Some old → GoesOn old new → IsClient history (Some new) joins
+client_goes_on history pass old new joins client is goes =
+    let same : client.has ≡ old = same_Some client.has old (sym client.is ∙ is) in
+    record {
+      has = new;
+      is = refl;
+      same_history = goes.same_history ∙ sym (ap (λ (p : PassView). p.history) same) ∙ client.same_history;
+      writer = omega (arith, goes.same_number, goes.same_writers, client.writer, ap (λ (p : PassView). p.number) same, ap (λ (p : PassView). p.writers) same);
+      recorded = goes.recorded;
+      kept = keeps_longer joins old.view new.view goes.begins (subst (λ (p : PassView). KeepsJoins joins p.view) same client.kept);
+    }
+
+-- with a pass that looked and then read on, and with joins that were brought there
+pub client_reads_on : (history : TableId) (pass : Option PassView) (old looked brought new : PassView) (before joins : Summary) → IsClient history pass before → pass ≡ Some old →
+    GoesOn old looked → brought ≡ looked → KeepsJoins joins looked.view → ReadsOn brought new → IsClient history (Some new) joins
+client_reads_on history pass old looked brought new before joins client is goes stays kept reads =
+    let then = client_goes_on history pass old looked before client is goes in
+    let on : ReadsOn looked new = subst (λ (p : PassView). ReadsOn p new) stays reads in
+    record {
+      has = new;
+      is = refl;
+      same_history = on.same_history ∙ goes.same_history ∙ sym (ap (λ (p : PassView). p.history) (same_Some client.has old (sym client.is ∙ is))) ∙ client.same_history;
+      writer = omega (arith, on.same_number, on.same_writers, then.writer, ap (λ (p : PassView). p.number) (same_Some looked then.has then.is), ap (λ (p : PassView). p.writers) (same_Some looked then.has then.is));
+      recorded = on.recorded goes.recorded;
+      kept = keeps_longer joins looked.view new.view on.begins kept;
+    }
+
+-- an element of a list stands where those before it end
+at_seam : {A : Type 0} (before after : List A) (x : A) → slice_get (before ++ x ∷ after) (length before) ≡ Some x
+at_seam [] after x = refl
+at_seam (y ∷ before) after x = at_seam before after x
+
+within_seam : {A : Type 0} (before after : List A) (x : A) → length before < length (before ++ x ∷ after)
+within_seam before after x = omega (arith, length-append before (x ∷ after))
+
+-- each of the passes that are left is of the history, and may write
+pub next_writer : (history : TableId) (all done left after : List PassView) (pass : PassView) → AreWriters history (length all) all → done ++ left ≡ all → left ≡ pass ∷ after →
+    (pass.history ≡ history) × (pass.number < pass.writers)
+next_writer history all done left after pass are whole next =
+    let split : done ++ pass ∷ after ≡ all = ap (λ xs. done ++ xs) (sym next) ∙ whole in
+    let within : length done < length all = subst (λ (xs : List PassView). length done < length xs) split (within_seam done after pass) in
+    let is : pass ≡ new_pass history (length all) (length done) =
+    same_Some pass (new_pass history (length all) (length done)) (sym (at_seam done after pass) ∙ ap (λ xs. slice_get xs (length done)) split ∙ are.each (length done) within) in
+    (ap (λ (p : PassView). p.history) is, omega (arith, within, ap (λ (p : PassView). p.number) is, ap (λ (p : PassView). p.writers) is))

@@ -1,0 +1,4 @@
+pub mod ToldLemmas
+pub mod AnsweringLemmas
+pub mod JoinsLemmas
+pub mod ClientLemmas

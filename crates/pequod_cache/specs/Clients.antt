@@ -1,0 +1,36 @@
+-- A client as contracts see it, and what is true of it.
+use Rattle.std.specs.Prelude.{◌≡◌, ℕ, ◌<◌, ◌≤◌, length, take, Option, Some, None}
+use Rattle.atomic_table.specs.Seated.{TableId}
+use Rattle.semantics.specs.Texts.{Range, Table, pairs_within}
+use Rattle.semantics.specs.Histories.{History, IsPrefix}
+use Rattle.semantics.specs.States.{state}
+use Rattle.join_set.specs.Summaries.{Summary, StandsFor}
+use Rattle.write_history.specs.Entries.{IsRecorded}
+use Rattle.write_history.specs.Passes.{PassView, new_pass}
+
+-- the pass that a client has, while it lends it to none
+abbrev pub pass_of : TableId → Option PassView → PassView
+pass_of history (Some pass) = pass
+pass_of history None = new_pass history 0 0
+
+-- the joins are those after a beginning of what the pass has seen
+pub record KeepsJoins (joins : Summary) (view : History) : Type 0 where
+  pub reaches : joins.length ≤ length view
+  pub stands : StandsFor joins (take joins.length view)
+
+-- the client has a pass of the history, which may write and may have seen what it has, and the joins after a beginning of that
+pub record IsClient (history : TableId) (pass : Option PassView) (joins : Summary) : Type 0 where
+  pub has : PassView
+  pub is : pass ≡ Some has
+  pub same_history : has.history ≡ history
+  pub writer : has.number < has.writers
+  pub recorded : IsRecorded has.writers has.view
+  pub kept : KeepsJoins joins has.view
+
+-- a range was read after all entries that the client had seen, and those that it saw then: between what it has seen before and after, it has written nothing
+pub record IsFound (before after : PassView) (range : Range) (position : ℕ) (pairs : Table) : Type 0 where
+  pub seen : History
+  pub begins : IsPrefix before.view seen
+  pub goes_on : IsPrefix seen after.view
+  pub at : position ≡ length seen
+  pub is : pairs ≡ pairs_within range (state seen)

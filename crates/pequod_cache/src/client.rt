@@ -1,0 +1,227 @@
+// A client of the cache.
+ghost use Rattle.std.specs.Prelude.{◌≡◌, ◌<◌, ◌∷◌, [], IfOk};
+ghost use Rattle.semantics.specs.Histories.{put, remove, declare};
+ghost use Rattle.semantics.specs.Answers.{get, scan};
+ghost use Rattle.protocol.specs.Requests.{write, read};
+ghost use Rattle.protocol.specs.Told.{Told};
+ghost use Rattle.join_types.specs.Writes.{plain_write};
+ghost use Rattle.request_codec.specs.Plain.{plain_reply};
+ghost use Rattle.write_history.specs.Entries.{IsRecorded};
+ghost use Rattle.write_history.specs.Passes.{GoesOn, own};
+ghost use Rattle.pequod_cache.specs.Clients.{IsFound};
+
+use crate::cache::Cache;
+use crate::joins::bring_joins;
+use base_shards::Naming;
+use join_set::Standing;
+use join_types::{Join, Pair, Write};
+use key_space::{Key, Range, Value};
+use out_of_memory::OutOfMemory;
+use pq_io::Gate;
+use range_cells::Reading;
+use request_codec::Reply;
+use std::alloc::Global;
+use std::marker::{Brand, Model};
+use std::sync::ledger::{Blank, Ledger};
+use std::sync::{Arc, Wait};
+use steps::Steps;
+use write_history::{AppendFault, Pass};
+
+/// What a client reads of a range, and after how many entries.
+#[derive(Debug, Drop)]
+pub struct Found {
+    /// The number of entries.
+    pub position: u64,
+    /// The pairs, in key order.
+    pub pairs: Vec<Pair>,
+}
+
+/// One client of a cache: a pass of the write history, and the joins after a beginning of what it has seen. Contracts see it as
+/// its pass. Clients on different threads use one cache.
+#[derive(Drop)]
+pub struct Client<'g, N: Naming, G> {
+    alloc: Global,
+    cache: Arc<Cache<N>>,
+    gate: &'g G,
+    /// None while the pass is lent to a read.
+    pass: Option<Pass>,
+    joins: Standing,
+}
+
+impl<'g, N: Naming, G> Model for Client<'g, N, G> {
+    ghost use Rattle.write_history.specs.Passes.{PassView};
+    ghost use Rattle.pequod_cache.specs.Clients.{IsClient, pass_of};
+
+    ghost Value = { PassView };
+
+    ghost view = { λ c. pass_of N.history c.pass };
+
+    ghost invariant = { λ c. IsClient N.history c.pass c.joins };
+}
+
+impl<'g, N: Naming, G> Client<'g, N, G> {
+    /// A client with a pass that may write. What it keeps grows by this allocator; nothing is allocated yet.
+    pub(crate) fn new(
+        alloc: Global,
+        cache: Arc<Cache<N>>,
+        pass: Pass,
+        gate: &'g G,
+    ) -> Client<'g, N, G>
+        requires same_history { pass.history ≡ N.history }
+        requires writer { pass.number < pass.writers }
+        requires recorded { IsRecorded pass.writers pass.view }
+        ensures { result ≡ pass }
+    {
+        Client {
+            alloc,
+            cache,
+            gate,
+            pass: Some(pass),
+            joins: Standing::new(alloc),
+        }
+    }
+}
+
+impl<'g, N: Naming, G: Gate> Client<'g, N, G> {
+    /// Appends the write to the history, or says why it may not enter: `Done` with its position, `Refused` with the number of
+    /// entries after which this is the cause, or `Memory`, and then nothing entered. While another thread has the history's turn,
+    /// this one sleeps.
+    pub fn write<R: Wait>(&mut self, rt: &R, change: Write) -> Reply
+        ensures told { Told self.old.view self.new.view self.old.number (write (plain_write change) ∷ []) (plain_reply result ∷ []) }
+        ensures goes_on { GoesOn self.old self.new }
+    {
+        let Some(pass) = &mut self.pass else {
+            unreachable!()
+        };
+        match self.cache.history.append(rt, pass, change) {
+            Ok(position) => Reply::Done(position),
+            Err(AppendFault::Refused(position, cause)) => Reply::Refused(position, cause),
+            Err(AppendFault::OutOfMemory) => Reply::Memory,
+        }
+    }
+
+    /// Puts the value at the key. It answers as `write` does.
+    pub fn put<R: Wait>(&mut self, rt: &R, key: Key, value: Value) -> Reply
+        ensures told { Told self.old.view self.new.view self.old.number (write (put key value) ∷ []) (plain_reply result ∷ []) }
+        ensures goes_on { GoesOn self.old self.new }
+    {
+        self.write(rt, Write::Put(key, value))
+    }
+
+    /// Removes the key. It answers as `write` does.
+    pub fn remove<R: Wait>(&mut self, rt: &R, key: Key) -> Reply
+        ensures told { Told self.old.view self.new.view self.old.number (write (remove key) ∷ []) (plain_reply result ∷ []) }
+        ensures goes_on { GoesOn self.old self.new }
+    {
+        self.write(rt, Write::Remove(key))
+    }
+
+    /// Declares the join. It answers as `write` does.
+    pub fn declare<R: Wait>(&mut self, rt: &R, join: Join) -> Reply
+        ensures told { Told self.old.view self.new.view self.old.number (write (declare join) ∷ []) (plain_reply result ∷ []) }
+        ensures goes_on { GoesOn self.old self.new }
+    {
+        self.write(rt, Write::Declare(join))
+    }
+
+    /// The pairs of the range in the state after all entries that the history has now: it looks first, brings its joins there, and
+    /// reads there. While another thread has what it needs, this one sleeps.
+    ///
+    /// It may report that it found no memory.
+    pub fn read<R: Wait>(&mut self, rt: &R, range: &Range) -> Result<Found, OutOfMemory>
+        ensures found { IfOk result (λ found. IsFound self.old self.new range.now found.position found.pairs.items) }
+        ensures goes_on { GoesOn self.old self.new }
+        ensures own { own self.new ≡ own self.old }
+    {
+        self.read_counted::<Brand, R>(rt, range, Blank::new(1))
+    }
+
+    /// Reads the range, with a counter that nobody looks at.
+    fn read_counted<L: Ledger, R: Wait>(
+        &mut self,
+        rt: &R,
+        range: &Range,
+        blank: Blank,
+    ) -> Result<Found, OutOfMemory>
+        requires name { blank.name ≡ L.name }
+        requires parts { blank.parts ≡ L.parts }
+        requires some { 0 < blank.parts }
+        ensures found { IfOk result (λ found. IsFound self.old self.new range.now found.position found.pairs.items) }
+        ensures goes_on { GoesOn self.old self.new }
+        ensures own { own self.new ≡ own self.old }
+    {
+        let Some(mut pass) = self.pass.take() else {
+            unreachable!()
+        };
+        let history = &self.cache.history;
+        let position = history.look(rt, &mut pass);
+        let brought = bring_joins(rt, history, &mut pass, &mut self.joins, position);
+        if let Err(error) = brought {
+            self.pass = Some(pass);
+            return Err(error);
+        }
+        let mut steps: Steps<L> = Steps::open(blank);
+        let joins = self.joins.joins();
+        let cells = &self.cache.cells;
+        let reading = cells.read(rt, pass, joins, position, range, self.gate, &mut steps);
+        let Reading { pass, found } = reading;
+        self.pass = Some(pass);
+        Ok(Found {
+            position,
+            pairs: found?,
+        })
+    }
+
+    /// The pair at the key in the state after all entries that the history has now: `Found` or `Absent` with their number, or
+    /// `Memory`.
+    pub fn get<R: Wait>(&mut self, rt: &R, key: &Key) -> Reply
+        ensures told { Told self.old.view self.new.view self.old.number (read (get key.now) ∷ []) (plain_reply result ∷ []) }
+        ensures goes_on { GoesOn self.old self.new }
+    {
+        match self.try_get(rt, key) {
+            Ok(reply) => reply,
+            Err(OutOfMemory) => Reply::Memory,
+        }
+    }
+
+    /// The pair at the key, or no memory.
+    fn try_get<R: Wait>(&mut self, rt: &R, key: &Key) -> Result<Reply, OutOfMemory>
+        ensures told { IfOk result (λ reply. Told self.old.view self.new.view self.old.number (read (get key.now) ∷ []) (plain_reply reply ∷ [])) }
+        ensures goes_on { GoesOn self.old self.new }
+        ensures own { own self.new ≡ own self.old }
+    {
+        let range = Range::just(self.alloc, key)?;
+        let Found { position, pairs } = self.read(rt, &range)?;
+        match pairs.into_iter().next() {
+            Some(pair) => Ok(Reply::Found(position, pair.value)),
+            None => Ok(Reply::Absent(position)),
+        }
+    }
+
+    /// The pairs of the range in the state after all entries that the history has now: `Pairs` with their number, or `Memory`.
+    pub fn scan<R: Wait>(&mut self, rt: &R, range: &Range) -> Reply
+        ensures told { Told self.old.view self.new.view self.old.number (read (scan range.now) ∷ []) (plain_reply result ∷ []) }
+        ensures goes_on { GoesOn self.old self.new }
+    {
+        match self.read(rt, range) {
+            Ok(Found { position, pairs }) => Reply::Pairs(position, pairs),
+            Err(OutOfMemory) => Reply::Memory,
+        }
+    }
+
+    /// Both clients, of one cache, see what either has seen. It waits for nobody.
+    pub fn meet<R: Wait>(&mut self, rt: &R, other: &mut Client<'g, N, G>)
+        ensures first { GoesOn self.old self.new }
+        ensures second { GoesOn other.old other.new }
+        ensures same { self.new.view ≡ other.new.view }
+        ensures own { (own self.new ≡ own self.old) × (own other.new ≡ own other.old) }
+    {
+        let Some(one) = &mut self.pass else {
+            unreachable!()
+        };
+        let Some(two) = &mut other.pass else {
+            unreachable!()
+        };
+        self.cache.history.meet(rt, one, two);
+    }
+}

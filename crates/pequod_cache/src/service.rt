@@ -1,0 +1,35 @@
+// A client that answers the lines of links.
+ghost use Rattle.std.specs.Prelude.{◌≡◌};
+
+use crate::client::Client;
+use base_shards::Naming;
+use pq_io::Gate;
+use request_codec::{Reply, Request};
+use session::Service;
+use std::sync::Wait;
+
+/// A client of the cache with the runtime that it waits with: it answers the requests of links, one after another.
+#[derive(Drop)]
+pub struct ClientService<'a, 'g, R, N: Naming, G> {
+    /// With what it waits.
+    pub rt: &'a R,
+    /// The client.
+    pub client: Client<'g, N, G>,
+}
+
+impl<'a, 'g, R: Wait, N: Naming, G: Gate> Service for ClientService<'a, 'g, R, N, G> {
+    ghost number = { λ s. s.client.number };
+
+    ghost view = { λ s. s.client.view };
+
+    fn answer(&mut self, request: Request) -> Reply {
+        match request {
+            Request::Put(key, value) => self.client.put(self.rt, key, value),
+            Request::Remove(key) => self.client.remove(self.rt, key),
+            Request::Declare(join) => self.client.declare(self.rt, join),
+            Request::Get(key) => self.client.get(self.rt, &key),
+            Request::Scan(range) => self.client.scan(self.rt, &range),
+            Request::Quit => unreachable!(),
+        }
+    }
+}

@@ -1,0 +1,117 @@
+// The cells and base pairs that threads share, as one.
+ghost use Rattle.std.specs.Prelude.{◌≡◌, ◌≤◌, All, length, take, IfOk};
+ghost use Rattle.std.specs.Arc.{arc_value};
+ghost use Rattle.semantics.specs.Texts.{pairs_within};
+ghost use Rattle.semantics.specs.Histories.{joins_of};
+ghost use Rattle.semantics.specs.States.{state};
+ghost use Rattle.write_history.specs.Entries.{IsRecorded};
+ghost use Rattle.base_shards.specs.Reading.{ReadsOn};
+
+use crate::stack::Stack;
+use base_shards::{BaseShards, Naming};
+use join_set::JoinSet;
+use join_types::Pair;
+use key_space::Range;
+use out_of_memory::OutOfMemory;
+use pq_io::Gate;
+use shared_cells::SharedCells;
+use shared_layers::Room;
+use shared_reader::SharedReader;
+use std::alloc::Global;
+use std::sync::ledger::Ledger;
+use std::sync::{Arc, Wait};
+use steps::Steps;
+use write_history::{History, Pass};
+
+/// What a read gives back: the pass that it was given, and what it found.
+#[derive(Drop)]
+pub struct Reading {
+    /// The pass. It is the same, has written nothing, and may have seen more.
+    pub pass: Pass,
+    /// The pairs, in key order, or that no memory was found.
+    pub found: Result<Vec<Pair>, OutOfMemory>,
+}
+
+/// Reads the state of a history at any position that a pass has seen, and keeps ranges of the joins' outputs in cells. Threads
+/// share it.
+///
+/// Locks are taken in one order: the cell of a join, cells of joins of lower ranks, a part of the base pairs, the history's turn.
+/// The directory of the cells and the book of their use are locked alone.
+#[derive(Drop)]
+pub struct RangeCells<N: Naming> {
+    alloc: Global,
+    history: Arc<History>,
+    shards: Arc<BaseShards<N>>,
+    cells: SharedCells<N>,
+    ghost named: { arc_value history ≡ N.history },
+}
+
+impl<N: Naming> RangeCells<N> {
+    /// No cells, and as many as there are passes at most, whose rows and one more for each are at most the limit together. What
+    /// is read and kept is allocated by this allocator. Linear in the passes.
+    pub fn new(
+        alloc: Global,
+        history: Arc<History>,
+        shards: Arc<BaseShards<N>>,
+        passes: Vec<Pass>,
+        limit: u64,
+    ) -> Result<RangeCells<N>, OutOfMemory>
+        requires named { arc_value history ≡ N.history }
+        requires some { 1 ≤ length passes.items }
+        requires few { length passes.items ≤ 65536 }
+        requires limit { 1 ≤ limit }
+        requires same_history { All (λ pass. pass.history ≡ N.history) passes.items }
+    {
+        let cells = SharedCells::new(alloc, passes, limit)?;
+        Ok(RangeCells {
+            alloc,
+            history,
+            shards,
+            cells,
+        })
+    }
+
+    /// The pairs of the range in the state after the first p entries that the pass has seen, in key order. These are the joins
+    /// that stand then. Before a range of a join's output is filled or mended the gate is passed with the name of its table.
+    /// While another thread has a cell, or a part of the base pairs, that this one needs, this one sleeps.
+    ///
+    /// What cells keep is read, brought forward or mended; what they lack is evaluated and, for a push join, kept while a cell is
+    /// free. Then the least recently used cells are evicted, until what is kept is within the limit.
+    pub fn read<W: Wait, G: Gate, L: Ledger>(
+        &self,
+        rt: &W,
+        pass: Pass,
+        joins: &JoinSet,
+        p: u64,
+        range: &Range,
+        gate: &G,
+        steps: &mut Steps<L>,
+    ) -> Reading
+        requires same_history { pass.history ≡ N.history }
+        requires recorded { IsRecorded pass.writers pass.view }
+        requires within { p ≤ length pass.view }
+        requires joins { joins.now ≡ joins_of (take p pass.view) }
+        ensures exact { IfOk result.found (λ pairs. pairs.items ≡ pairs_within range.now (state (take p pass.view))) }
+        ensures reads_on { ReadsOn pass result.pass }
+        ensures counted { steps.old ≤ steps.new }
+    {
+        let room = Room {
+            alloc: self.alloc,
+            rt,
+            gate,
+            cells: &self.cells,
+        };
+        let lowest = SharedReader::new(self.alloc, rt, &self.history, &self.shards, joins, p, pass);
+        let mut stack = Stack::new(&room, lowest);
+        let found = stack.read(p, range, steps);
+        let (pass, used) = stack.into_parts();
+        self.cells.settle(rt, used.as_slice());
+        Reading { pass, found }
+    }
+
+    /// Evicts the cell with a number, if there is one: what it keeps is let go. While another thread has it, this one sleeps. It
+    /// takes no memory.
+    pub fn evict<W: Wait>(&self, rt: &W, id: u32) {
+        self.cells.evict(rt, id);
+    }
+}

@@ -1,0 +1,150 @@
+// The reader of all ranks, where threads share the history.
+ghost use Rattle.std.specs.Prelude.{◌≡◌, ◌≤◌, length, take, IfOk};
+ghost use Rattle.semantics.specs.Texts.{pairs_within};
+ghost use Rattle.semantics.specs.States.{state};
+ghost use Rattle.base_shards.specs.Reading.{ReadsOn};
+
+use base_shards::Naming;
+use join_eval::Reader;
+use join_types::Pair;
+use key_space::Range;
+use out_of_memory::OutOfMemory;
+use pq_io::Gate;
+use shared_layers::layer::{Four, Two};
+use shared_layers::{Layer, Room, Tower};
+use shared_reader::{SharedReader, Stacked, Use};
+use std::marker::Model;
+use std::sync::Wait;
+use std::sync::ledger::Ledger;
+use steps::Steps;
+use write_history::Pass;
+
+/// Reads what a pass has seen with the joins of all ranks, and keeps what they give in cells that threads share. Contracts
+/// see it as the pass.
+#[derive(Drop)]
+pub struct Stack<'a, N: Naming, W, G> {
+    tower: Tower<'a, N, W, G, SharedReader<'a, N, W>>,
+}
+
+impl<'a, N: Naming, W, G> Model for Stack<'a, N, W, G> {
+    ghost use Rattle.write_history.specs.Passes.{PassView};
+
+    ghost Value = { PassView };
+
+    ghost view = { λ s. s.tower.inner.inner.inner.inner.inner.inner.inner.inner };
+}
+
+/// Two layers over a reader.
+fn two<'a, N: Naming, W, G, R>(
+    room: &'a Room<'a, N, W, G>,
+    inner: R,
+) -> Layer<'a, N, W, G, Layer<'a, N, W, G, R>>
+    ensures { result.inner.inner ≡ inner }
+{
+    Layer {
+        room,
+        inner: Layer { room, inner },
+    }
+}
+
+/// Four layers over a reader.
+fn four<'a, N: Naming, W, G, R>(
+    room: &'a Room<'a, N, W, G>,
+    inner: R,
+) -> Layer<'a, N, W, G, Layer<'a, N, W, G, Layer<'a, N, W, G, Layer<'a, N, W, G, R>>>>
+    ensures { result.inner.inner.inner.inner ≡ inner }
+{
+    two(room, two(room, inner))
+}
+
+/// The pairs of a range in the state after the first p entries, by four layers over a reader of the first four ranks.
+fn read_upper<'a, N: Naming, W: Wait, G: Gate, R: Stacked<N>, L: Ledger>(
+    four: &mut Four<'a, N, W, G, R>,
+    p: u64,
+    range: &Range,
+    steps: &mut Steps<L>,
+) -> Result<Vec<Pair>, OutOfMemory>
+    requires top { R.top ≡ 4 }
+    requires within { p ≤ length (R.list four.old.inner.inner.inner.inner) }
+    ensures exact { IfOk result (λ pairs. pairs.items ≡ pairs_within range.now (state (take p (R.list four.old.inner.inner.inner.inner)))) }
+    ensures went { R.went four.old.inner.inner.inner.inner four.new.inner.inner.inner.inner }
+    ensures counted { steps.old ≤ steps.new }
+{
+    four.pairs(p, range, 8, steps)
+}
+
+/// The pairs of a range in the state after the first p entries, by six layers over a reader of the first two ranks.
+fn read_middle<'a, N: Naming, W: Wait, G: Gate, R: Stacked<N>, L: Ledger>(
+    six: &mut Four<'a, N, W, G, Two<'a, N, W, G, R>>,
+    p: u64,
+    range: &Range,
+    steps: &mut Steps<L>,
+) -> Result<Vec<Pair>, OutOfMemory>
+    requires top { R.top ≡ 2 }
+    requires within { p ≤ length (R.list six.old.inner.inner.inner.inner.inner.inner) }
+    ensures exact { IfOk result (λ pairs. pairs.items ≡ pairs_within range.now (state (take p (R.list six.old.inner.inner.inner.inner.inner.inner)))) }
+    ensures went { R.went six.old.inner.inner.inner.inner.inner.inner six.new.inner.inner.inner.inner.inner.inner }
+    ensures counted { steps.old ≤ steps.new }
+{
+    read_upper(six, p, range, steps)
+}
+
+/// The pairs of a range in the state after the first p entries, by eight layers over a reader of no rank.
+fn read_lower<'a, N: Naming, W: Wait, G: Gate, R: Stacked<N>, L: Ledger>(
+    tower: &mut Tower<'a, N, W, G, R>,
+    p: u64,
+    range: &Range,
+    steps: &mut Steps<L>,
+) -> Result<Vec<Pair>, OutOfMemory>
+    requires top { R.top ≡ 0 }
+    requires within { p ≤ length (R.list tower.old.inner.inner.inner.inner.inner.inner.inner.inner) }
+    ensures exact { IfOk result (λ pairs. pairs.items ≡ pairs_within range.now (state (take p (R.list tower.old.inner.inner.inner.inner.inner.inner.inner.inner)))) }
+    ensures went { R.went tower.old.inner.inner.inner.inner.inner.inner.inner.inner tower.new.inner.inner.inner.inner.inner.inner.inner.inner }
+    ensures counted { steps.old ≤ steps.new }
+{
+    read_middle(tower, p, range, steps)
+}
+
+impl<'a, N: Naming, W, G> Stack<'a, N, W, G> {
+    /// The reader over a lowest one.
+    pub fn new(room: &'a Room<'a, N, W, G>, lowest: SharedReader<'a, N, W>) -> Stack<'a, N, W, G>
+        ensures { result ≡ lowest.entry }
+    {
+        Stack {
+            tower: four(room, four(room, lowest)),
+        }
+    }
+
+    /// The pass, and which cells were used, in order.
+    pub fn into_parts(self) -> (Pass, Vec<Use>)
+        ensures { result.0 ≡ self.entry }
+    {
+        self.tower
+            .inner
+            .inner
+            .inner
+            .inner
+            .inner
+            .inner
+            .inner
+            .inner
+            .into_parts()
+    }
+}
+
+impl<'a, N: Naming, W: Wait, G: Gate> Stack<'a, N, W, G> {
+    /// The pairs of a range in the state after the first p entries that the pass has seen.
+    pub fn read<L: Ledger>(
+        &mut self,
+        p: u64,
+        range: &Range,
+        steps: &mut Steps<L>,
+    ) -> Result<Vec<Pair>, OutOfMemory>
+        requires { p ≤ length self.old.view }
+        ensures exact { IfOk result (λ pairs. pairs.items ≡ pairs_within range.now (state (take p self.old.view))) }
+        ensures reads_on { ReadsOn self.old self.new }
+        ensures counted { steps.old ≤ steps.new }
+    {
+        read_lower(&mut self.tower, p, range, steps)
+    }
+}

@@ -1,0 +1,143 @@
+// What one thread writes, evicts and reads, and how often each read passes the gate.
+
+/// How many cells there may be, how much may be kept, lines, and what those that read add: how often the gate was passed, and
+/// the pairs.
+#[derive(Drop)]
+pub struct Row {
+    /// The cells.
+    pub cells: u32,
+    /// How many rows they may keep together, with one more for each range.
+    pub limit: u64,
+    /// The lines.
+    pub lines: &'static str,
+    /// What is wanted.
+    pub wanted: &'static str,
+}
+
+/// A range that is kept is read again from its cell.
+const KEPT: Row = Row {
+    cells: 4,
+    limit: 100,
+    lines: "write t|<user>|<time>|<poster> = check s|<user>|<poster> copy p|<poster>|<time>
+write s|ann|bob=1
+write p|bob|100=Hi
+read 3 t|ann| t|ann}
+read 3 t|ann| t|ann}
+",
+    wanted: "1: t|ann|100|bob=Hi
+0: t|ann|100|bob=Hi
+",
+};
+
+/// A range of one row weighs two: it goes at once, and is evaluated each time.
+const TOO_HEAVY: Row = Row {
+    cells: 4,
+    limit: 1,
+    lines: "write t|<user>|<time>|<poster> = check s|<user>|<poster> copy p|<poster>|<time>
+write s|ann|bob=1
+write p|bob|100=Hi
+read 3 t|ann| t|ann}
+read 3 t|ann| t|ann}
+",
+    wanted: "1: t|ann|100|bob=Hi
+1: t|ann|100|bob=Hi
+",
+};
+
+/// A pull join is not kept, and is evaluated each time.
+const PULLED: Row = Row {
+    cells: 4,
+    limit: 100,
+    lines: "write t|<user>|<time>|<poster> = pull check s|<user>|<poster> copy p|<poster>|<time>
+write s|ann|bob=1
+write p|bob|100=Hi
+read 3 t|ann| t|ann}
+read 3 t|ann| t|ann}
+",
+    wanted: "1: t|ann|100|bob=Hi
+1: t|ann|100|bob=Hi
+",
+};
+
+/// A cell that stands past the position of a read is left alone, and is read later. It is brought forward over a post without
+/// a mend, and is mended where a subscription came.
+const EARLIER: Row = Row {
+    cells: 4,
+    limit: 100,
+    lines: "write t|<user>|<time>|<poster> = check s|<user>|<poster> copy p|<poster>|<time>
+write s|ann|bob=1
+write p|bob|100=Hi
+write p|bob|120=Yo
+read 4 t|ann| t|ann}
+read 3 t|ann| t|ann}
+read 4 t|ann| t|ann}
+write p|bob|130=Ho
+read 5 t|ann| t|ann}
+write p|cat|110=Ha
+write s|ann|cat=1
+read 7 t|ann| t|ann}
+read 0 t|ann| t|ann}
+",
+    wanted: "1: t|ann|100|bob=Hi t|ann|120|bob=Yo
+1: t|ann|100|bob=Hi
+0: t|ann|100|bob=Hi t|ann|120|bob=Yo
+0: t|ann|100|bob=Hi t|ann|120|bob=Yo t|ann|130|bob=Ho
+1: t|ann|100|bob=Hi t|ann|110|cat=Ha t|ann|120|bob=Yo t|ann|130|bob=Ho
+0:
+",
+};
+
+/// A join over the output of another: what is read of that one is kept too.
+const ONE_OVER_ANOTHER: Row = Row {
+    cells: 4,
+    limit: 100,
+    lines: "write t|<user>|<time>|<poster> = check s|<user>|<poster> copy p|<poster>|<time>
+write n|<user> = count t|<user>|<time>|<poster>
+write s|ann|bob=1
+write p|bob|100=Hi
+read 4 n| n}
+read 4 n| n}
+read 4 t|ann| t|ann}
+write p|bob|120=Yo
+read 5 n| n}
+read 4 n| n}
+",
+    wanted: "2: n|ann=1
+0: n|ann=1
+0: t|ann|100|bob=Hi
+0: n|ann=2
+2: n|ann=1
+",
+};
+
+/// Where there is one cell, one range is kept, until it is evicted. A cell that is not there is not evicted.
+const ONE_CELL: Row = Row {
+    cells: 1,
+    limit: 100,
+    lines: "write b|<x>|<y> = copy a|<x>|<y>
+write a|1|1=A
+write a|2|1=B
+read 3 b|1| b|1}
+read 3 b|2| b|2}
+read 3 b|2| b|2}
+read 3 b|1| b|1}
+evict 0
+read 3 b|2| b|2}
+evict 7
+read 3 b|2| b|2}
+read 3 b|1| b|1}
+read 3 b| b}
+",
+    wanted: "1: b|1|1=A
+1: b|2|1=B
+1: b|2|1=B
+0: b|1|1=A
+1: b|2|1=B
+0: b|2|1=B
+1: b|1|1=A
+2: b|1|1=A b|2|1=B
+",
+};
+
+/// All of them.
+pub const ROWS: [Row; 6] = [KEPT, TOO_HEAVY, PULLED, EARLIER, ONE_OVER_ANOTHER, ONE_CELL];

@@ -1,0 +1,118 @@
+// A cache that is served at an address.
+ghost use Rattle.std.specs.Prelude.{◌≡◌, ◌≢◌, ◌≤◌, length, IfOk};
+ghost use Rattle.pequod_cache.specs.Sitting.{AreOf, AreWriters};
+ghost use Rattle.pq_io.specs.Faults.{Rose};
+ghost use Rattle.server.specs.Doors.{HoldNone};
+ghost use Rattle.server.specs.Staffs.{AreDeclarable};
+
+use crate::serving::{Ended, serve_doors};
+use crate::staffing::staff;
+use base_shards::Naming;
+use join_types::Join;
+use out_of_memory::OutOfMemory;
+use pequod_cache::Seats;
+use pq_io::{Doors, Gate};
+use std::alloc::Global;
+use std::marker::Brand;
+use std::sync::Wait;
+use std::thread::Threads;
+
+/// How much a cache keeps, and how many serve it.
+#[derive(Clone, Copy, Debug)]
+pub struct Size {
+    /// In how many cells, 1 to 65,536.
+    pub cells: u32,
+    /// How many rows.
+    pub rows: u64,
+    /// How many workers there are, 1 to 64: each serves one link at a time.
+    pub workers: u32,
+}
+
+/// Where the doors are opened. A `&str` in the signature would keep a call from naming the history that was just made.
+#[derive(Clone, Copy)]
+struct Address<'a> {
+    text: &'a str,
+}
+
+/// A history with passes for so many workers, for the client that declares the joins, and for so many cells.
+fn make_seats(alloc: Global, workers: u32, cells: u32) -> Result<Seats, OutOfMemory>
+    requires some_workers { 1 ≤ workers }
+    requires few_workers { workers ≤ 64 }
+    requires few_cells { cells ≤ 65536 }
+    ensures clients { IfOk result (λ seats. AreWriters seats.history (length seats.clients.items) seats.clients.items) }
+    ensures two { IfOk result (λ seats. 2 ≤ length seats.clients.items) }
+    ensures shards { IfOk result (λ seats. AreOf seats.history 16 seats.shards.items) }
+    ensures cells { IfOk result (λ seats. AreOf seats.history (length seats.cells.items) seats.cells.items) }
+    ensures count { IfOk result (λ seats. length seats.cells.items ≡ cells) }
+{
+    Seats::make(alloc, workers + 1, cells)
+}
+
+/// Serves the links of the doors, once they are open at the address, with the clients of a cache of these passes.
+fn serve_seats<N: Naming + Send + Sync, R: Threads + Wait + Sync, D: Doors, G: Gate + Sync>(
+    rt: &R,
+    alloc: Global,
+    seats: Seats,
+    limit: u64,
+    joins: Vec<Join>,
+    address: Address<'_>,
+    doors: &mut D,
+    gate: &G,
+) -> Ended
+    requires named { seats.history ≡ N.history }
+    requires clients { AreWriters N.history (length seats.clients.items) seats.clients.items }
+    requires two { 2 ≤ length seats.clients.items }
+    requires shards { AreOf N.history 16 seats.shards.items }
+    requires cells { AreOf N.history (length seats.cells.items) seats.cells.items }
+    requires some_cells { 1 ≤ length seats.cells.items }
+    requires few_cells { length seats.cells.items ≤ 65536 }
+    requires limit { 1 ≤ limit }
+    requires joins { AreDeclarable joins.items }
+    ensures closed { result ≡ Ended.Closed → HoldNone (D.held doors.new) }
+    ensures failed { result ≡ Ended.Failed → Rose (D.faults doors.old) (D.faults doors.new) }
+    ensures kept { result ≢ Ended.Failed → D.faults doors.new ≡ D.faults doors.old }
+    ensures later { D.faults doors.old ≤ D.faults doors.new }
+    ensures memory { result ≡ Ended.OutOfMemory → D.held doors.new ≡ D.held doors.old }
+{
+    let Ok(clients) = staff::<N, G, R>(rt, alloc, seats, limit, joins, gate) else {
+        return Ended::OutOfMemory;
+    };
+    if doors.open_at(address.text).is_err() {
+        return Ended::Failed;
+    }
+    serve_doors(rt, alloc, doors, clients)
+}
+
+/// Makes a cache, declares the joins, opens the doors at the address, and serves each link that they give until they close.
+/// Before a range of a join's output is filled or mended the gate is passed.
+pub fn serve<R, D, G>(
+    rt: &R,
+    alloc: Global,
+    size: Size,
+    joins: Vec<Join>,
+    address: &str,
+    doors: &mut D,
+    gate: &G,
+) -> Ended
+where
+    R: Threads + Wait + Sync,
+    D: Doors,
+    G: Gate + Sync,
+    requires some_cells { 1 ≤ size.cells }
+    requires few_cells { size.cells ≤ 65536 }
+    requires some_rows { 1 ≤ size.rows }
+    requires some_workers { 1 ≤ size.workers }
+    requires few_workers { size.workers ≤ 64 }
+    requires joins { AreDeclarable joins.items }
+    ensures closed { result ≡ Ended.Closed → HoldNone (D.held doors.new) }
+    ensures failed { result ≡ Ended.Failed → Rose (D.faults doors.old) (D.faults doors.new) }
+    ensures kept { result ≢ Ended.Failed → D.faults doors.new ≡ D.faults doors.old }
+    ensures later { D.faults doors.old ≤ D.faults doors.new }
+    ensures memory { result ≡ Ended.OutOfMemory → D.held doors.new ≡ D.held doors.old }
+{
+    let Ok(seats) = make_seats(alloc, size.workers, size.cells) else {
+        return Ended::OutOfMemory;
+    };
+    let address = Address { text: address };
+    serve_seats::<Brand, _, _, _>(rt, alloc, seats, size.rows, joins, address, doors, gate)
+}

@@ -1,0 +1,192 @@
+// What is written to links that two workers serve, or one alone, and how serving ends, with ample memory.
+ghost use Rattle.std.specs.Prelude.{◌≡◌, ◌≤◌, IfOk, Some, length};
+ghost use Rattle.pequod_cache.specs.Sitting.{AreOf, AreWriters};
+ghost use Rattle.server.specs.Staffs.{AreDeclarable};
+
+use super::*;
+use base_shards::Naming;
+use join_lang::parse;
+use join_set::Standing;
+use join_types::{Join, Write};
+use out_of_memory::OutOfMemory;
+use pequod_cache::Seats;
+use pq_io::{Failed, Link, MemDoors, MemLink, MemSink, MemSource, OpenGate};
+use std::alloc::Global;
+use std::marker::Brand;
+use std::process::Abort;
+use std::sync::{Arc, Mutex, Wait};
+use std::test::Fail;
+use std::thread::Threads;
+
+/// The bytes that a link took, which are read when the link is gone.
+type Taken = Arc<Mutex<Vec<u8>>>;
+
+/// A link in memory that copies what it takes to a list.
+#[derive(Drop)]
+struct Copying<'a, R> {
+    rt: &'a R,
+    link: MemLink,
+    taken: Taken,
+}
+
+impl<'a, R: Wait> Link for Copying<'a, R> {
+    ghost left = { λ l. Some l.link.source.left };
+
+    ghost taken = { λ l. Some l.link.sink.taken };
+
+    ghost read_faults = { λ l. l.link.source.log.faults };
+
+    ghost write_faults = { λ l. l.link.sink.log.faults };
+
+    fn read(&mut self, into: &mut [u8]) -> Result<usize, Failed> {
+        self.link.read(into)
+    }
+
+    fn write(&mut self, bytes: &[u8]) -> Result<usize, Failed> {
+        let count = self.link.write(bytes)?;
+        let mut taken = self.taken.lock(self.rt);
+        let _ = taken.extend_from_slice(&bytes[..count]);
+        Ok(count)
+    }
+}
+
+/// A link that gives the lines, and the list of what it takes.
+fn link_of<'a, R: Wait>(
+    rt: &'a R,
+    alloc: Global,
+    lines: &str,
+) -> Result<(Copying<'a, R>, Taken), Fail> {
+    let bytes = lines.as_bytes().to_vec(alloc)?;
+    let source = MemSource::new(bytes, Vec::new(alloc), Vec::new(alloc));
+    let link = MemLink::new(source, MemSink::new(alloc, Vec::new(alloc)));
+    let kept = Arc::new(alloc, Mutex::new(Vec::new(alloc)))?;
+    let taken = Arc::try_clone(&kept)?;
+    Ok((Copying { rt, link, taken }, kept))
+}
+
+/// The join that the text is, alone in a list.
+fn one_join(rt: &impl Abort, alloc: Global, text: &str) -> Vec<Join>
+    ensures { AreDeclarable result.items }
+{
+    let write = Write::Declare(parse(alloc, text).expect(rt, "a join"));
+    let cause = Standing::new(alloc).judge(&write).expect(rt, "memory");
+    assert!(rt; cause.is_none());
+    let mut joins = Vec::new(alloc);
+    match write {
+        Write::Declare(join) => joins.push(join).expect(rt, "memory"),
+        Write::Put(_key, _value) => {}
+        Write::Remove(_key) => {}
+    }
+    joins
+}
+
+/// The seats of so many clients, and of four cells.
+fn make_seats(alloc: Global, clients: u32) -> Result<Seats, OutOfMemory>
+    requires some { 2 ≤ clients }
+    requires few { clients ≤ 65 }
+    ensures clients { IfOk result (λ seats. AreWriters seats.history (length seats.clients.items) seats.clients.items) }
+    ensures two { IfOk result (λ seats. 2 ≤ length seats.clients.items) }
+    ensures shards { IfOk result (λ seats. AreOf seats.history 16 seats.shards.items) }
+    ensures cells { IfOk result (λ seats. AreOf seats.history (length seats.cells.items) seats.cells.items) }
+    ensures count { IfOk result (λ seats. length seats.cells.items ≡ 4) }
+{
+    Seats::make(alloc, clients, 4)
+}
+
+/// Serves doors that give the links and fail at these calls, by all clients but the first, which declares a join.
+fn serve<N: Naming + Send + Sync, R: Threads + Wait + Abort + Sync>(
+    rt: &R,
+    alloc: Global,
+    seats: Seats,
+    links: Vec<Copying<'_, R>>,
+    fails: Vec<usize>,
+) -> Result<Ended, Fail>
+    requires named { seats.history ≡ N.history }
+    requires clients { AreWriters N.history (length seats.clients.items) seats.clients.items }
+    requires two { 2 ≤ length seats.clients.items }
+    requires shards { AreOf N.history 16 seats.shards.items }
+    requires cells { AreOf N.history (length seats.cells.items) seats.cells.items }
+    requires count { length seats.cells.items ≡ 4 }
+{
+    let joins = one_join(rt, alloc, "b|<x> = copy a|<x>");
+    let workers = staff::<N, _, _>(rt, alloc, seats, 1_000, joins, &OpenGate)?;
+    let mut doors = MemDoors::new(links, fails);
+    Ok(serve_doors(rt, alloc, &mut doors, workers))
+}
+
+/// Puts a pair, and reads the join's output.
+const OF_A_WRITER: &str = "[\"put\",\"a|1\",\"Hi\"]\n[\"scan\",\"b|\",\"b}\"]\n";
+
+/// What that is answered.
+const TO_A_WRITER: &str = "[\"ok\",2]\n[\"pairs\",2,[[\"b|1\",\"Hi\"]]]\n";
+
+/// Reads the join's output, and takes leave.
+const OF_A_READER: &str = "[\"get\",\"b|1\"]\n[\"quit\"]\n";
+
+#[test]
+fn two_workers_serve_two_links(rt: HostRuntime) -> Result<(), Fail> {
+    let alloc: Global = rt.alloc();
+    let (writer, to_writer) = link_of(&rt, alloc, OF_A_WRITER)?;
+    let (reader, to_reader) = link_of(&rt, alloc, OF_A_READER)?;
+    let mut links = Vec::new(alloc);
+    links.push(writer)?;
+    links.push(reader)?;
+    let seats = make_seats(alloc, 3)?;
+    let ended = serve::<Brand, _>(&rt, alloc, seats, links, Vec::new(alloc))?;
+    assert_eq!(rt; ended, Ended::Closed);
+    assert_eq!(rt; to_writer.lock(&rt).as_slice(), TO_A_WRITER.as_bytes());
+    // The reader may come before the writer or after.
+    let before = "[\"none\",1]\n[\"bye\"]\n".as_bytes();
+    let after = "[\"value\",2,\"Hi\"]\n[\"bye\"]\n".as_bytes();
+    let told = to_reader.lock(&rt);
+    assert!(rt; told.as_slice() == before || told.as_slice() == after);
+    Ok(())
+}
+
+#[test]
+fn one_client_serves_links_in_order(rt: HostRuntime) -> Result<(), Fail> {
+    let alloc: Global = rt.alloc();
+    let (writer, to_writer) = link_of(&rt, alloc, OF_A_WRITER)?;
+    let (reader, to_reader) = link_of(&rt, alloc, OF_A_READER)?;
+    let mut links = Vec::new(alloc);
+    links.push(writer)?;
+    links.push(reader)?;
+    let seats = make_seats(alloc, 2)?;
+    let ended = serve::<Brand, _>(&rt, alloc, seats, links, Vec::new(alloc))?;
+    assert_eq!(rt; ended, Ended::Closed);
+    assert_eq!(rt; to_writer.lock(&rt).as_slice(), TO_A_WRITER.as_bytes());
+    let wanted = "[\"value\",2,\"Hi\"]\n[\"bye\"]\n".as_bytes();
+    assert_eq!(rt; to_reader.lock(&rt).as_slice(), wanted);
+    Ok(())
+}
+
+#[test]
+fn closed_doors_end_it(rt: HostRuntime) -> Result<(), Fail> {
+    let alloc: Global = rt.alloc();
+    for clients in [2, 3] {
+        let seats = make_seats(alloc, clients)?;
+        let ended = serve::<Brand, _>(&rt, alloc, seats, Vec::new(alloc), Vec::new(alloc))?;
+        assert_eq!(rt; ended, Ended::Closed);
+    }
+    Ok(())
+}
+
+#[test]
+fn links_before_a_failure_are_served(rt: HostRuntime) -> Result<(), Fail> {
+    let alloc: Global = rt.alloc();
+    for (clients, call, told) in [
+        (2, 1, ""),
+        (2, 2, TO_A_WRITER),
+        (3, 1, ""),
+        (3, 2, TO_A_WRITER),
+    ] {
+        let (writer, to_writer) = link_of(&rt, alloc, OF_A_WRITER)?;
+        let mut links = Vec::new(alloc);
+        links.push(writer)?;
+        let seats = make_seats(alloc, clients)?;
+        let ended = serve::<Brand, _>(&rt, alloc, seats, links, vec![in alloc; call; 1]?)?;
+        assert_eq!(rt; ended, Ended::Failed);
+        assert_eq!(rt; to_writer.lock(&rt).as_slice(), told.as_bytes());
+    }
+    Ok(())
+}

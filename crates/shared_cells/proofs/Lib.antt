@@ -1,0 +1,4 @@
+pub mod ListingLemmas
+pub mod PartLemmas
+pub mod TestLemmas
+pub mod CellLemmas

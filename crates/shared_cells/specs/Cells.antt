@@ -1,0 +1,57 @@
+-- A cell as contracts see it, and what is true of it whenever its lock is free.
+use Rattle.std.specs.Prelude.{◌≡◌, ℕ, Option, IfSome, Some, take}
+use Rattle.atomic_table.specs.Seated.{TableId}
+use Rattle.semantics.specs.Texts.{Table, Range, pairs_within}
+use Rattle.semantics.specs.Joins.{Join}
+use Rattle.semantics.specs.Histories.{History}
+use Rattle.semantics.specs.Outputs.{out}
+use Rattle.semantics.specs.States.{below}
+use Rattle.layering.specs.Parts.{IsWithin}
+use Rattle.write_history.specs.Passes.{PassView}
+use Rattle.kept_ranges.specs.Sound.{KeptRange}
+use Rattle.range_state.specs.Ready.{IsReady}
+use Rattle.range_serving.specs.Serving.{IsPast}
+use Rattle.cell_slots.specs.Slots.{IsRightFor, StandsAs}
+
+-- the position of the join's declaration, the range that the cell is for, what is kept of it, and the cell's pass
+pub record CellView : Type 0 where
+  pub at : ℕ
+  pub range : Range
+  pub held : Option KeptRange
+  pub pass : PassView
+
+-- what a cell holds is of the join that was declared at the position, of just the cell's range, and right for what the pass has seen
+pub record IsRightIn (at : ℕ) (range : Range) (pass : PassView) (s : KeptRange) : Type 0 where
+  pub right : IsRightFor pass.view at s
+  pub just : s.range ≡ range
+
+-- the pass is of the history, and what is kept is right
+pub record IsCell (history : TableId) (at : ℕ) (range : Range) (held : Option KeptRange) (pass : PassView) : Type 0 where
+  pub same_history : pass.history ≡ history
+  pub right : IfSome held (IsRightIn at range pass)
+
+-- the cell is for the range of the join that it was for
+pub record HasSamePlace (old new : CellView) : Type 0 where
+  pub at : new.at ≡ old.at
+  pub range : new.range ≡ old.range
+
+-- the output of the join that was declared at a position in a range, after the first p entries
+abbrev pub IsOutput : History → ℕ → ℕ → ℕ → Range → Table → Type 0
+IsOutput h p at rank range pairs = (j : Join) → StandsAs h p at rank j → pairs ≡ pairs_within range (out j (below (take p h) rank))
+
+-- what is taken out of a cell can be read over a part of its range, for the join that was declared at a position, with this rank: it is right, and does not stand past a position
+pub record IsLentFor (cell : CellView) (at rank p : ℕ) (part : Range) (s : KeptRange) : Type 0 where
+  pub is_of : cell.at ≡ at
+  pub right : IsRightIn cell.at cell.range cell.pass s
+  pub ranked : s.rank ≡ rank
+  pub upto : IsPast p s → ⊥
+  pub whole : IsWithin part cell.range
+
+-- the cell can be read over a part at a position: it holds a kept range of the join with this rank, which is ready there and has the whole part
+pub record IsReadyCell (cell : CellView) (at rank p : ℕ) (part : Range) : Type 0 where
+  pub state : KeptRange
+  pub holds : cell.held ≡ Some state
+  pub is_of : cell.at ≡ at
+  pub ranked : state.rank ≡ rank
+  pub ready : IsReady p part state
+  pub whole : IsWithin part cell.range

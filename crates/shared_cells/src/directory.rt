@@ -1,0 +1,299 @@
+// Which ranges have a cell, behind a lock.
+ghost use Rattle.std.specs.Prelude.{◌≡◌, ◌≤◌, All, length, map, true, string_bytes, IfOk};
+ghost use Rattle.key_ranges.specs.Ranges.{is_open};
+ghost use Rattle.layering.specs.Parts.{JoinTo};
+ghost use Rattle.range_set.specs.Held.{are_of_table};
+ghost use Rattle.range_set.specs.Joined.{JoinTo as JoinPieces};
+ghost use Rattle.range_set.specs.Pieces.{range_of, ranges_of};
+
+use crate::cell::Cell;
+use crate::idle::IdlePass;
+use base_shards::Naming;
+use key_space::Range;
+use out_of_memory::OutOfMemory;
+use range_set::{Piece, RangeSet};
+use std::alloc::Global;
+use std::collections::BTreeMap;
+use std::mem;
+use std::sync::{Arc, Mutex};
+use write_history::Pass;
+
+/// A cell, which threads share; none once it is evicted.
+pub type SharedCell<N> = Arc<Mutex<Option<Cell<N>>>>;
+
+/// A part of a range that was asked for, and the cell that has it with its number, if one does.
+#[derive(Drop)]
+pub struct Part<N: Naming> {
+    /// The part.
+    pub range: Range,
+    /// The cell's number, and the cell.
+    pub cell: Option<(u32, SharedCell<N>)>,
+}
+
+/// The ranges of one join that have a cell, each with the cell's number, and the table that they are of.
+#[derive(Drop)]
+struct Listing {
+    table: String,
+    ranges: RangeSet<u32>,
+    ghost of_table: { are_of_table ranges (string_bytes table) ≡ true },
+}
+
+/// What stands at a cell's number.
+#[derive(Drop)]
+enum Spot<N: Naming> {
+    /// No cell. Its pass, and the next number that has none.
+    Free(IdlePass<N>, Option<u32>),
+    /// A cell: the position of its join's declaration, and its range.
+    Taken(u64, Range, SharedCell<N>),
+    /// A cell that is being evicted, whose pass is on its way back.
+    Leaving,
+}
+
+/// The ranges that have a cell, by the position of their join's declaration, and what stands at each cell's number.
+#[derive(Drop)]
+pub struct Directory<N: Naming> {
+    alloc: Global,
+    listings: BTreeMap<u64, Listing>,
+    spots: Vec<Spot<N>>,
+    free: Option<u32>,
+}
+
+/// A range in more parts than this is read as one: to evaluate it once takes less than to evaluate so many gaps.
+const MOST_PARTS: usize = 64;
+
+impl Listing {
+    /// No ranges, of the table of this one.
+    fn new(alloc: Global, range: &Range) -> Result<Listing, OutOfMemory> {
+        let table = String::from_str(alloc, range.table())?;
+        Ok(Listing {
+            table,
+            ranges: RangeSet::new(alloc),
+        })
+    }
+
+    /// Gives the range the cell with this number, and says whether it did: it does not where the range is empty or has
+    /// something in common with one that has a cell.
+    ///
+    /// On `OutOfMemory` the ranges are those that were.
+    fn insert(&mut self, range: &Range, id: u32) -> Result<bool, OutOfMemory> {
+        if range.table() != self.table.as_str() {
+            return Ok(false);
+        }
+        let mut pieces = self.ranges.cover(range)?;
+        if pieces.len() != 1 {
+            return Ok(false);
+        }
+        match pieces.pop() {
+            Some(Piece::Gap(gap)) => {
+                self.ranges.insert(gap, id)?;
+                Ok(true)
+            }
+            _ => Ok(false),
+        }
+    }
+
+    /// Takes out the range that has these bounds, if it is there. It takes no memory.
+    fn remove(&mut self, range: &Range) {
+        self.ranges.remove(range);
+    }
+}
+
+/// The range as one part that no cell has.
+fn whole<N: Naming>(alloc: Global, range: &Range) -> Result<Vec<Part<N>>, OutOfMemory>
+    requires { is_open range.now ≡ true }
+    ensures { IfOk result (λ parts. JoinTo range.now (map (λ part. part.range) parts.items)) }
+{
+    let mut parts = Vec::with_capacity(alloc, 1)?;
+    parts.push(Part {
+        range: range.copy()?,
+        cell: None,
+    })?;
+    Ok(parts)
+}
+
+impl<N: Naming> Directory<N> {
+    /// A number for each pass, from 0 up, none of which has a cell. Linear in the passes.
+    pub fn new(alloc: Global, passes: Vec<Pass>) -> Result<Directory<N>, OutOfMemory>
+        requires few { length passes.items ≤ 65536 }
+        requires same_history { All (λ pass. pass.history ≡ N.history) passes.items }
+    {
+        let mut spots = Vec::with_capacity(alloc, passes.len())?;
+        let mut free = None;
+        for pass in passes {
+            let number = spots.len() as u32;
+            spots.push(Spot::Free(IdlePass::new(pass), free))?;
+            free = Some(number);
+        }
+        Ok(Directory {
+            alloc,
+            listings: BTreeMap::new(alloc),
+            spots,
+            free,
+        })
+    }
+
+    /// The pieces of a range, in order: what it has in common with ranges of the join that have a cell, and the gaps.
+    fn pieces(&self, at: u64, range: &Range) -> Result<Vec<Piece<u32>>, OutOfMemory>
+        ensures { IfOk result (λ pieces. JoinPieces range.now (ranges_of pieces.items)) }
+    {
+        match self.listings.get(&at) {
+            Some(listing) => listing.ranges.cover(range),
+            None => {
+                let none: RangeSet<u32> = RangeSet::new(self.alloc);
+                none.cover(range)
+            }
+        }
+    }
+
+    /// The range in parts, in order, each with the cell of the join that has it, where one does. To be kept, each gap between
+    /// them is given a cell, while there is a number without one. A range in very many parts is one part without a cell.
+    ///
+    /// It takes two searches, and for each part that is given a cell a few more. On `OutOfMemory` some gaps may have been given
+    /// cells.
+    pub fn cover(&mut self, at: u64, range: &Range, keep: bool) -> Result<Vec<Part<N>>, OutOfMemory>
+        ensures { IfOk result (λ parts. JoinTo range.now (map (λ part. part.range) parts.items)) }
+    {
+        let pieces = self.pieces(at, range)?;
+        if range.lo() < range.hi() && pieces.len() > MOST_PARTS {
+            return whole(self.alloc, range);
+        }
+        let mut parts = Vec::with_capacity(self.alloc, pieces.len())?;
+        for piece in pieces {
+            parts.push(self.part(at, piece, keep)?)?;
+        }
+        Ok(parts)
+    }
+
+    /// A piece as a part. A gap that is to be kept is given a cell, if there is a number without one.
+    fn part(&mut self, at: u64, piece: Piece<u32>, keep: bool) -> Result<Part<N>, OutOfMemory>
+        ensures { IfOk result (λ part. part.range ≡ range_of piece) }
+    {
+        match piece {
+            Piece::Kept(range, id) => {
+                let cell = self.cell(id)?;
+                Ok(Part { range, cell })
+            }
+            Piece::Gap(range) => {
+                let cell = if keep {
+                    self.give_cell(at, &range)?
+                } else {
+                    None
+                };
+                Ok(Part { range, cell })
+            }
+        }
+    }
+
+    /// The cell with a number, with this number, if there is one.
+    fn cell(&self, id: u32) -> Result<Option<(u32, SharedCell<N>)>, OutOfMemory> {
+        match self.spots.get(id as usize) {
+            Some(Spot::Taken(_, _, cell)) => Ok(Some((id, Arc::try_clone(cell)?))),
+            _ => Ok(None),
+        }
+    }
+
+    /// Gives a range of the join a cell, if there is a number without one and no other cell has some of it.
+    ///
+    /// On `OutOfMemory` the range may have been given the cell.
+    fn give_cell(
+        &mut self,
+        at: u64,
+        range: &Range,
+    ) -> Result<Option<(u32, SharedCell<N>)>, OutOfMemory> {
+        let Some(id) = self.free else {
+            return Ok(None);
+        };
+        let place = range.copy()?;
+        let own = range.copy()?;
+        let shared: SharedCell<N> = Arc::new(self.alloc, Mutex::new(None))?;
+        if !self.list(at, range, id)? {
+            return Ok(None);
+        }
+        if !self.put_cell(id, at, place, own, shared) {
+            self.unlist(at, range);
+            return Ok(None);
+        }
+        self.cell(id)
+    }
+
+    /// Puts a cell for a range of the join at a number that has none, with the pass that waits there, and says whether it did:
+    /// it does not where the number has a cell, or where another thread has seen the lock, behind which the cell is to lie.
+    /// Then nothing changes.
+    fn put_cell(
+        &mut self,
+        id: u32,
+        at: u64,
+        place: Range,
+        own: Range,
+        mut shared: SharedCell<N>,
+    ) -> bool {
+        let Some(spot) = self.spots.get_mut(id as usize) else {
+            return false;
+        };
+        let Some(lock) = Arc::get_mut(&mut shared) else {
+            return false;
+        };
+        match mem::replace(spot, Spot::Leaving) {
+            Spot::Free(idle, next) => {
+                *lock.get_mut() = Some(Cell::new(at, own, idle.pass));
+                *spot = Spot::Taken(at, place, shared);
+                self.free = next;
+                true
+            }
+            other => {
+                *spot = other;
+                false
+            }
+        }
+    }
+
+    /// Takes the range of the join off the list, if it is there. It takes two searches, and no memory.
+    fn unlist(&mut self, at: u64, range: &Range) {
+        if let Some(listing) = self.listings.get_mut(&at) {
+            listing.remove(range);
+        }
+    }
+
+    /// Lists the range of the join with the number of its cell, and says whether it did.
+    ///
+    /// On `OutOfMemory` the ranges are those that were.
+    fn list(&mut self, at: u64, range: &Range, id: u32) -> Result<bool, OutOfMemory> {
+        match self.listings.get_mut(&at) {
+            Some(listing) => listing.insert(range, id),
+            None => {
+                let mut listing = Listing::new(self.alloc, range)?;
+                let is_listed = listing.insert(range, id)?;
+                self.listings.insert(at, listing)?;
+                Ok(is_listed)
+            }
+        }
+    }
+
+    /// Takes the cell with a number out, if there is one: its range has no cell then, and the number waits for its pass. It
+    /// takes a few searches, and no memory.
+    pub fn take_out(&mut self, id: u32) -> Option<SharedCell<N>> {
+        let spot = self.spots.get_mut(id as usize)?;
+        if !matches!(spot, Spot::Taken(_, _, _)) {
+            return None;
+        }
+        let Spot::Taken(at, range, cell) = mem::replace(spot, Spot::Leaving) else {
+            unreachable!()
+        };
+        self.unlist(at, &range);
+        Some(cell)
+    }
+
+    /// Gives a number that waits for it back the pass of the cell that was evicted: it can have another cell. It takes constant
+    /// time, and no memory.
+    pub fn give_back(&mut self, id: u32, pass: Pass)
+        requires { pass.history ≡ N.history }
+    {
+        let next = self.free;
+        if let Some(spot) = self.spots.get_mut(id as usize)
+            && matches!(spot, Spot::Leaving)
+        {
+            *spot = Spot::Free(IdlePass::new(pass), next);
+            self.free = Some(id);
+        }
+    }
+}

@@ -1,0 +1,99 @@
+// The cells that threads share.
+ghost use Rattle.std.specs.Prelude.{◌≡◌, ◌≤◌, All, length, map, IfOk};
+ghost use Rattle.layering.specs.Parts.{JoinTo};
+
+use crate::book::CellBook;
+use crate::directory::{Directory, Part};
+use base_shards::Naming;
+use key_space::Range;
+use out_of_memory::OutOfMemory;
+use shared_reader::Use;
+use std::alloc::Global;
+use std::sync::{Mutex, Wait};
+use write_history::Pass;
+
+/// Cells that keep ranges of the outputs of joins, which threads share. A join is named by the position of its declaration.
+///
+/// A cell is made for one range of one join and is for no other as long as there is the cell: who has looked it up and waits
+/// for its lock finds this range or none. The directory and the book are locked alone, one after the other.
+#[derive(Drop)]
+pub struct SharedCells<N: Naming> {
+    directory: Mutex<Directory<N>>,
+    book: Mutex<CellBook>,
+}
+
+impl<N: Naming> SharedCells<N> {
+    /// No cells, and as many as there are passes at most, which may weigh so much together: a cell weighs its rows and one
+    /// more. Linear in the passes.
+    pub fn new(alloc: Global, passes: Vec<Pass>, limit: u64) -> Result<SharedCells<N>, OutOfMemory>
+        requires some { 1 ≤ length passes.items }
+        requires few { length passes.items ≤ 65536 }
+        requires limit { 1 ≤ limit }
+        requires same_history { All (λ pass. pass.history ≡ N.history) passes.items }
+    {
+        let cells = passes.len() as u32;
+        let directory = Directory::new(alloc, passes)?;
+        let book = CellBook::new(alloc, cells, limit)?;
+        Ok(SharedCells {
+            directory: Mutex::new(directory),
+            book: Mutex::new(book),
+        })
+    }
+
+    /// The range in parts, in order, each with the cell of the join that has it, where one does. To be kept, each gap between
+    /// them is given a cell, while there are fewer than there may be. A range in very many parts is one part without a cell.
+    /// While another thread has the directory, this one sleeps.
+    ///
+    /// It takes two searches, and for each part that is given a cell a few more. On `OutOfMemory` some gaps may have been given
+    /// cells.
+    pub fn cover<W: Wait>(
+        &self,
+        rt: &W,
+        at: u64,
+        range: &Range,
+        keep: bool,
+    ) -> Result<Vec<Part<N>>, OutOfMemory>
+        ensures { IfOk result (λ parts. JoinTo range.now (map (λ part. part.range) parts.items)) }
+    {
+        self.directory.lock(rt).cover(at, range, keep)
+    }
+
+    /// Tells the book of the cells that were used, in order, and evicts those that have to go. Of a use for which there is no
+    /// memory it is not told. No lock of a cell may be held, as that of each victim is taken. While another thread has the
+    /// directory, the book or a victim, this one sleeps.
+    pub fn settle<W: Wait>(&self, rt: &W, used: &[Use]) {
+        for one in used {
+            let victims = self.book.lock(rt).touch(one.id, one.rows);
+            if let Ok(victims) = victims {
+                self.free_all(rt, victims.as_slice());
+            }
+        }
+    }
+
+    /// Evicts the cells with these numbers.
+    fn free_all<W: Wait>(&self, rt: &W, ids: &[u32]) {
+        for id in ids {
+            self.free(rt, *id);
+        }
+    }
+
+    /// Evicts the cell with a number, if there is one. No lock of a cell may be held. It takes a few searches, and no memory.
+    /// While another thread has the directory, the book or the cell, this one sleeps.
+    pub fn evict<W: Wait>(&self, rt: &W, id: u32) {
+        self.book.lock(rt).gone(id);
+        self.free(rt, id);
+    }
+
+    /// Takes a cell out of the directory, then what it keeps out of the cell, and gives its number back the pass.
+    fn free<W: Wait>(&self, rt: &W, id: u32) {
+        let taken = self.directory.lock(rt).take_out(id);
+        let Some(shared) = taken else {
+            return;
+        };
+        let cell = shared.lock(rt).take();
+        if let Some(cell) = cell {
+            let pass = cell.into_pass();
+            self.directory.lock(rt).give_back(id, pass);
+        }
+    }
+}

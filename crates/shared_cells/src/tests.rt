@@ -1,0 +1,202 @@
+// Cells that are given, found and evicted, and each call once, with ample memory.
+ghost use Rattle.std.specs.Prelude.{◌≡◌, ◌<◌, ◌≤◌, All, length, IfOk};
+
+use super::*;
+use crate::directory::Directory;
+use base_shards::Naming;
+use key_space::Range;
+use out_of_memory::OutOfMemory;
+use shared_reader::Use;
+use std::alloc::Global;
+use std::marker::Brand;
+use std::process::Abort;
+use std::sync::Wait;
+use std::test::Fail;
+use write_history::{History, Pass};
+
+/// A history, and so many passes of it.
+fn make_passes(alloc: Global, count: u32) -> Result<(History, Vec<Pass>), OutOfMemory>
+    requires { 0 < count }
+    ensures count { IfOk result (λ made. length made.1.items ≡ count) }
+    ensures each { IfOk result (λ made. All (λ pass. pass.history ≡ made.0) made.1.items) }
+{
+    History::new(alloc, count)
+}
+
+/// The range between two bounds.
+fn range_of(rt: &impl Abort, alloc: Global, low: &str, high: &str) -> Range {
+    Range::read(alloc, low, high).expect(rt, "a range")
+}
+
+/// The parts as text: of each the bounds, and the number of its cell, if it has one.
+fn shown<N: Naming>(alloc: Global, parts: &[Part<N>]) -> Result<String, Fail> {
+    let mut text = String::new(alloc);
+    for part in parts {
+        let (low, high) = (part.range.lo(), part.range.hi());
+        let line = match &part.cell {
+            Some((id, _)) => format!(in alloc; "{low} {high} {id}, ")?,
+            None => format!(in alloc; "{low} {high} -, ")?,
+        };
+        text.push_str(line.as_str())?;
+    }
+    Ok(text)
+}
+
+/// Covers a range of the join that was declared at a position, and compares the parts.
+fn cover<N: Naming>(
+    rt: &impl Abort,
+    alloc: Global,
+    directory: &mut Directory<N>,
+    at: u64,
+    bounds: (&str, &str),
+    keep: bool,
+    wanted: &str,
+) -> Result<(), Fail> {
+    let range = range_of(rt, alloc, bounds.0, bounds.1);
+    let parts = directory.cover(at, &range, keep)?;
+    assert_eq!(rt; shown(alloc, parts.as_slice())?.as_str(), wanted);
+    Ok(())
+}
+
+/// Takes out the cell with a number, and gives what lies behind its lock.
+fn take_out<N: Naming, R: Wait + Abort>(rt: &R, directory: &mut Directory<N>, id: u32) -> Cell<N> {
+    let shared = directory.take_out(id).expect(rt, "a cell");
+    let cell = shared.lock(rt).take();
+    cell.expect(rt, "what the cell keeps")
+}
+
+/// Two cells are given and found, and are evicted.
+fn give_two<N: Naming, R: Wait + Abort>(
+    rt: &R,
+    alloc: Global,
+    history: &History,
+    passes: Vec<Pass>,
+) -> Result<(), Fail>
+    requires named { history.now ≡ N.history }
+    requires few { length passes.items ≤ 65536 }
+    requires same_history { All (λ pass. pass.history ≡ N.history) passes.items }
+{
+    let mut cells: Directory<N> = Directory::new(alloc, passes)?;
+    let rows = [
+        (1, "t|b", "t|c", false, "t|b t|c -, "),
+        (1, "t|b", "t|c", true, "t|b t|c 1, "),
+        (1, "t|b", "t|c", false, "t|b t|c 1, "),
+        (2, "t|b", "t|c", false, "t|b t|c -, "),
+        (1, "t|a", "t|d", true, "t|a t|b 0, t|b t|c 1, t|c t|d -, "),
+        (2, "t|b", "t|c", true, "t|b t|c -, "),
+        (1, "t|ab", "t|bb", true, "t|ab t|b 0, t|b t|bb 1, "),
+        (1, "t|a", "t|a", true, ""),
+    ];
+    for (at, low, high, keep, wanted) in rows {
+        cover(rt, alloc, &mut cells, at, (low, high), keep, wanted)?;
+    }
+    evict_two(rt, alloc, &mut cells)
+}
+
+/// The two cells are evicted, and their numbers and ranges are given again.
+fn evict_two<N: Naming, R: Wait + Abort>(
+    rt: &R,
+    alloc: Global,
+    cells: &mut Directory<N>,
+) -> Result<(), Fail> {
+    let cell = take_out(rt, cells, 1);
+    assert!(rt; cells.take_out(1).is_none());
+    assert!(rt; cells.take_out(2).is_none());
+    cover(rt, alloc, cells, 1, ("t|b", "t|c"), true, "t|b t|c -, ")?;
+    cells.give_back(1, cell.into_pass());
+    cover(rt, alloc, cells, 2, ("t|b", "t|c"), true, "t|b t|c 1, ")?;
+    let cell = take_out(rt, cells, 0);
+    cells.give_back(0, cell.into_pass());
+    cover(rt, alloc, cells, 1, ("t|", "t}"), true, "t| t} 0, ")
+}
+
+#[test]
+fn cells_are_given_up_to_the_passes(rt: HostRuntime) -> Result<(), Fail> {
+    let alloc = rt.alloc();
+    let (history, passes) = make_passes(alloc, 2)?;
+    give_two::<Brand, _>(&rt, alloc, &history, passes)
+}
+
+/// Of a table 32 ranges have a cell. They are read with 32 gaps as 64 parts, and with one gap more as one part.
+fn give_many<N: Naming, R: Abort>(
+    rt: &R,
+    alloc: Global,
+    history: &History,
+    passes: Vec<Pass>,
+) -> Result<(), Fail>
+    requires named { history.now ≡ N.history }
+    requires few { length passes.items ≤ 65536 }
+    requires same_history { All (λ pass. pass.history ≡ N.history) passes.items }
+{
+    let mut cells: Directory<N> = Directory::new(alloc, passes)?;
+    for number in 10..42u32 {
+        let low = format!(in alloc; "t|{number}a")?;
+        let high = format!(in alloc; "t|{number}b")?;
+        let parts = cells.cover(1, &range_of(rt, alloc, &low, &high), true)?;
+        assert_eq!(rt; parts.len(), 1);
+    }
+    let parts = cells.cover(1, &range_of(rt, alloc, "t|", "t|41b"), false)?;
+    assert_eq!(rt; parts.len(), 64);
+    let bounds = ("t|", "t|41c");
+    cover(rt, alloc, &mut cells, 1, bounds, true, "t| t|41c -, ")?;
+    let bounds = ("t|41b", "t|41c");
+    cover(rt, alloc, &mut cells, 1, bounds, false, "t|41b t|41c -, ")
+}
+
+#[test]
+fn many_parts_are_one(rt: HostRuntime) -> Result<(), Fail> {
+    let alloc = rt.alloc();
+    let (history, passes) = make_passes(alloc, 33)?;
+    give_many::<Brand, _>(&rt, alloc, &history, passes)
+}
+
+/// That threads may share a value.
+fn share<T: Sync>(_value: &T) {}
+
+/// The calls of what threads share: the cell that was used least recently goes where two weigh too much together.
+fn settle_two<N: Naming + Send + Sync, R: Wait + Abort>(
+    rt: &R,
+    alloc: Global,
+    history: &History,
+    passes: Vec<Pass>,
+) -> Result<(), Fail>
+    requires named { history.now ≡ N.history }
+    requires some { 1 ≤ length passes.items }
+    requires few { length passes.items ≤ 65536 }
+    requires same_history { All (λ pass. pass.history ≡ N.history) passes.items }
+{
+    let cells: SharedCells<N> = SharedCells::new(alloc, passes, 6)?;
+    share(&cells);
+    let range = range_of(rt, alloc, "t|a", "t|c");
+    for (low, high) in [("t|a", "t|b"), ("t|b", "t|c")] {
+        cells.cover(rt, 1, &range_of(rt, alloc, low, high), true)?;
+    }
+    let parts = cells.cover(rt, 1, &range, false)?;
+    assert_eq!(rt;
+        shown(alloc, parts.as_slice())?.as_str(),
+        "t|a t|b 1, t|b t|c 0, "
+    );
+    let used = [
+        Use { id: 1, rows: 2 },
+        Use { id: 7, rows: 9 },
+        Use { id: 0, rows: 3 },
+    ];
+    cells.settle(rt, &used);
+    let parts = cells.cover(rt, 1, &range, false)?;
+    assert_eq!(rt;
+        shown(alloc, parts.as_slice())?.as_str(),
+        "t|a t|b -, t|b t|c 0, "
+    );
+    cells.evict(rt, 0);
+    cells.evict(rt, 7);
+    let parts = cells.cover(rt, 1, &range, true)?;
+    assert_eq!(rt; shown(alloc, parts.as_slice())?.as_str(), "t|a t|c 0, ");
+    Ok(())
+}
+
+#[test]
+fn the_least_recently_used_goes(rt: HostRuntime) -> Result<(), Fail> {
+    let alloc = rt.alloc();
+    let (history, passes) = make_passes(alloc, 2)?;
+    settle_two::<Brand, _>(&rt, alloc, &history, passes)
+}

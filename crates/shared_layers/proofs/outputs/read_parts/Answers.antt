@@ -1,0 +1,63 @@
+use Rattle.std.proofs.Common.{◌++◌, flat_map, length, take, sym, ap, ◌∙◌, arith}
+use Rattle.std.proofs.lemmas.List.{length-append, take_all}
+use Rattle.growing_history.proofs.PrefixLemmas.{prefix_length}
+use Rattle.semantics.specs.Texts.{pairs_within}
+use Rattle.semantics.specs.Outputs.{out}
+use Rattle.semantics.specs.States.{below}
+use Rattle.join_eval.proofs.MovesLemmas.{moves_refl, moves_trans}
+use Rattle.rank_layers.proofs.PartLemmas.{stands_over, flat_map_more}
+use Rattle.shared_layers.proofs.LayerLemmas.{output_over}
+use Rattle.shared_layers.proofs.outputs.read_parts.Goals as goal
+
+pub loop-part-init : goal.loop-part-init
+loop-part-init g c = record {
+  output = λ j stands. c.new-pairs.ensures.items;
+  moves = moves_refl g.R.Reader.list g.R.Reader.floor g.R.Reader.went c.args.reader.now (g.met.R.Reader.went_refl c.args.reader.now);
+  entered = c.requires.entered;
+  cost = let none = ap length c.new-pairs.ensures.items in omega (arith, none);
+}
+
+pub read_part-requires-clause-within : goal.read_part-requires-clause-within
+read_part-requires-clause-within g c = omega (arith, c.requires.within, prefix_length (g.R.Reader.list c.args.reader.now) (g.R.Reader.list c.loop-part.reader) c.loop-part.invariant.moves.kept)
+
+pub read_part-requires-clause-entered : goal.read_part-requires-clause-entered
+read_part-requires-clause-entered g c = c.loop-part.invariant.entered
+
+pub read_part-requires-clause-stands : goal.read_part-requires-clause-stands
+read_part-requires-clause-stands g c =
+    (c.requires.stands.0, stands_over (g.R.Reader.list c.args.reader.now) (g.R.Reader.list c.loop-part.reader) c.args.asked.p c.args.asked.at c.args.asked.rank c.requires.stands.0 c.requires.within c.loop-part.invariant.moves.kept c.requires.stands.1)
+
+pub loop-part-preserved : goal.loop-part-preserved
+loop-part-preserved g c =
+    let list = g.R.Reader.list in
+    let before = c.loop-part.invariant in
+    record {
+      output = λ j stands.
+          c.in_ok-pairs.ensures
+          ∙ (λ i. before.output j stands i
+          ++ output_over (list c.args.reader.now) (list c.loop-part.reader) c.args.asked.p c.args.asked.at c.args.asked.rank c.part-item.result.range c.in_ok-more.more.items c.requires.within before.moves.kept c.in_ok-more.ensures.output j stands i)
+          ∙ sym (flat_map_more (λ part. pairs_within part.range (out j (below (take c.args.asked.p (list c.args.reader.now)) c.args.asked.rank))) c.args.parts.now c.loop-part.part-index c.part-item.result c.loop-part-test.true c.part-item.is);
+      moves = moves_trans list g.R.Reader.floor g.R.Reader.went c.args.reader.now c.loop-part.reader c.read_part.new.reader
+          (g.met.R.Reader.went_trans c.args.reader.now c.loop-part.reader c.read_part.new.reader) before.moves c.read_part.ensures.moves;
+      entered = c.read_part.ensures.moves.entered before.entered;
+      cost =
+          let had = before.cost in
+          let more = c.in_ok-more.ensures.cost in
+          let all = ap length c.in_ok-pairs.ensures ∙ length-append c.loop-part.pairs.items c.in_ok-more.more.items in
+          omega (arith, had, more, all);
+    }
+
+pub returns-in_err-more-clause-moves : goal.returns-in_err-more-clause-moves
+returns-in_err-more-clause-moves g c =
+    moves_trans g.R.Reader.list g.R.Reader.floor g.R.Reader.went c.args.reader.now c.loop-part.reader c.read_part.new.reader
+    (g.met.R.Reader.went_trans c.args.reader.now c.loop-part.reader c.read_part.new.reader) c.loop-part.invariant.moves c.read_part.ensures.moves
+
+pub returns-in_err-pairs-clause-moves : goal.returns-in_err-pairs-clause-moves
+returns-in_err-pairs-clause-moves g c =
+    moves_trans g.R.Reader.list g.R.Reader.floor g.R.Reader.went c.args.reader.now c.loop-part.reader c.read_part.new.reader
+    (g.met.R.Reader.went_trans c.args.reader.now c.loop-part.reader c.read_part.new.reader) c.loop-part.invariant.moves c.read_part.ensures.moves
+
+pub returns-clause-output : goal.returns-clause-output
+returns-clause-output g c = λ j stands.
+    c.loop-part.invariant.output j stands
+    ∙ ap (flat_map (λ part. pairs_within part.range (out j (below (take c.args.asked.p (g.R.Reader.list c.args.reader.now)) c.args.asked.rank)))) (take_all c.loop-part.part-index c.args.parts.now c.loop-part-test.false)

@@ -1,0 +1,115 @@
+// Reading one rank more than a stacked reader does.
+ghost use Rattle.std.specs.Prelude.{◌≡◌, ◌+◌, ◌≤◌, length, take, true, IfOk};
+ghost use Rattle.semantics.specs.Texts.{is_range, pairs_within};
+ghost use Rattle.semantics.specs.States.{below};
+ghost use Rattle.key_ranges.specs.Ranges.{is_open};
+ghost use Rattle.growing_history.specs.Changes.{changed_keys};
+ghost use Rattle.growing_history.specs.Entered.{HasEntered};
+ghost use Rattle.join_eval.specs.Answers.{AnswersChanges, IsBareAt, IsBareThroughout, ListsExactly, CostsOne};
+ghost use Rattle.join_eval.specs.Moves.{Moves};
+
+use crate::layer::Room;
+use crate::outputs::add_outputs;
+use crate::telling::add_changes;
+use base_shards::Naming;
+use join_eval::Changed;
+use join_types::Pair;
+use key_space::Range;
+use out_of_memory::OutOfMemory;
+use pq_io::Gate;
+use shared_reader::Stacked;
+use std::sync::Wait;
+use std::sync::ledger::Ledger;
+use steps::Steps;
+
+/// Looks at the range, and so knows that its bounds are those of a range.
+fn look_at(range: &Range)
+    ensures { is_range range.now.low range.now.high ≡ true }
+{
+    let _low = range.lo();
+}
+
+/// Whether the range is not empty.
+fn is_open(range: &Range) -> bool
+    ensures { result ≡ is_open range.now }
+{
+    range.lo() < range.hi()
+}
+
+/// The pairs of the range after the first p entries, with the joins up to the reader's own top rank.
+pub fn pairs_above<N: Naming, W: Wait, G: Gate, R: Stacked<N>, L: Ledger>(
+    room: &Room<'_, N, W, G>,
+    rank: u8,
+    p: u64,
+    range: &Range,
+    reader: &mut R,
+    steps: &mut Steps<L>,
+) -> Result<Vec<Pair>, OutOfMemory>
+    requires within { p ≤ length (R.list reader.old) }
+    requires next { R.top ≡ rank }
+    ensures exact { IfOk result (λ pairs. pairs.items ≡ pairs_within range.now (below (take p (R.list reader.old)) (rank + 1))) }
+    ensures moves { Moves R.list R.floor R.went reader.old reader.new }
+    ensures entered { HasEntered (R.list reader.new) }
+    ensures counted { steps.old ≤ steps.new }
+    ensures cost { IfOk result (λ pairs. steps.old + 1 + length pairs.items ≤ steps.new) }
+    ensures bare { IsBareAt (R.list reader.old) p range.now → IfOk result (λ pairs. steps.new ≡ steps.old + 1 + length pairs.items) }
+{
+    look_at(range);
+    let pairs = reader.pairs(p, range, rank, steps)?;
+    let ats = reader.reached(p, range, rank)?;
+    add_outputs(room, ats.as_slice(), rank, p, range, pairs, reader, steps)
+}
+
+/// What may have changed in the range between the first q and the first p entries, with the joins up to the reader's own
+/// top rank: what the reader says of the ranks below, and what the cells keep of the outputs of the joins of this rank that
+/// the range reaches.
+///
+/// Before the last declaration up to p nothing stands below any rank, so the cells are asked from there on, or from q on
+/// where that is later. It is not known which keys where the reader does not know it of the ranks below, where no cell has
+/// some part of the range for such a join, and where what the cell keeps does not know it: it keeps nothing, its notes start
+/// later, or slots meet the part that are pending or were noted since.
+pub fn changed_above<N: Naming, W: Wait, G: Gate, R: Stacked<N>, L: Ledger>(
+    room: &Room<'_, N, W, G>,
+    rank: u8,
+    q: u64,
+    p: u64,
+    range: &Range,
+    reader: &mut R,
+    steps: &mut Steps<L>,
+) -> Result<Changed, OutOfMemory>
+    requires order { q ≤ p }
+    requires within { p ≤ length (R.list reader.old) }
+    requires next { R.top ≡ rank }
+    ensures exact { IfOk result (AnswersChanges (R.list reader.old) q p (rank + 1) range.now) }
+    ensures moves { Moves R.list R.floor R.went reader.old reader.new }
+    ensures entered { HasEntered (R.list reader.new) }
+    ensures counted { steps.old ≤ steps.new }
+    ensures cost { IfOk result (CostsOne steps.old steps.new) }
+    ensures bare { IsBareThroughout (R.list reader.old) q p range.now → IfOk result (ListsExactly (changed_keys q p range.now (R.list reader.old))) }
+    ensures bare_cost { IsBareThroughout (R.list reader.old) q p range.now → IfOk result (λ _. steps.new ≡ steps.old + 1 + length (changed_keys q p range.now (R.list reader.old))) }
+{
+    look_at(range);
+    let told = reader.changed(q, p, range, rank, steps)?;
+    let ats = reader.reached(p, range, rank)?;
+    if ats.is_empty() {
+        return Ok(told);
+    }
+    if !is_open(range) {
+        return Ok(told);
+    }
+    let Changed::Keys(keys) = told else {
+        return Ok(Changed::All);
+    };
+    let since = q.max(reader.last_declared(p)?);
+    add_changes(
+        room,
+        ats.as_slice(),
+        rank,
+        since,
+        p,
+        range,
+        keys,
+        reader,
+        steps,
+    )
+}

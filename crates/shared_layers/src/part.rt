@@ -1,0 +1,100 @@
+// One part of a range, from the cell that has it or from a kept range of its own.
+ghost use Rattle.std.specs.Prelude.{◌≡◌, ◌+◌, ◌≤◌, length, IfOk, IfSome};
+ghost use Rattle.semantics.specs.Joins.{Join as PlainJoin};
+ghost use Rattle.growing_history.specs.Entered.{HasEntered};
+ghost use Rattle.join_eval.specs.Moves.{Moves};
+ghost use Rattle.cell_slots.specs.Slots.{StandsAs};
+ghost use Rattle.shared_cells.specs.Cells.{IsOutput};
+
+use crate::layer::Room;
+use base_shards::Naming;
+use join_types::Pair;
+use key_space::Range;
+use out_of_memory::OutOfMemory;
+use pq_io::Gate;
+use range_serving::serve_alone;
+use shared_cells::{Asked, Part};
+use shared_reader::{Stacked, Use};
+use std::sync::Wait;
+use std::sync::ledger::Ledger;
+use steps::Steps;
+
+/// What the join gives in the part, from a kept range of its own that is let go. The gate is passed before it is filled.
+fn read_alone<N: Naming, W, G: Gate, R: Stacked<N>, L: Ledger>(
+    room: &Room<'_, N, W, G>,
+    asked: Asked,
+    part: &Range,
+    reader: &mut R,
+    steps: &mut Steps<L>,
+) -> Result<Vec<Pair>, OutOfMemory>
+    requires within { asked.p ≤ length (R.list reader.old) }
+    requires entered { HasEntered (R.list reader.old) }
+    requires stands { (j : PlainJoin) × StandsAs (R.list reader.old) asked.p asked.at asked.rank j }
+    requires next { R.top ≡ asked.rank }
+    ensures output { IfOk result (λ pairs. IsOutput (R.list reader.old) asked.p asked.at asked.rank part.now pairs.items) }
+    ensures moves { Moves R.list R.floor R.went reader.old reader.new }
+    ensures counted { steps.old ≤ steps.new }
+    ensures cost { IfOk result (λ pairs. steps.old + 1 + length pairs.items ≤ steps.new) }
+{
+    let join = reader.join_at(asked.at)?;
+    let range = part.copy()?;
+    room.gate.pass(part.table());
+    serve_alone(asked.alloc, join, asked.rank, asked.p, range, reader, steps)
+}
+
+/// What the join gives in the part, from the cell that has it. None where no cell has it any more, where the cell is for another
+/// join or has not the whole part, and where what it keeps stands past the position. The reader takes note that the cell was
+/// used. While another thread has it, this one sleeps.
+fn read_cell<N: Naming, W: Wait, G: Gate, R: Stacked<N>, L: Ledger>(
+    room: &Room<'_, N, W, G>,
+    asked: Asked,
+    part: &Part<N>,
+    reader: &mut R,
+    steps: &mut Steps<L>,
+) -> Result<Option<Vec<Pair>>, OutOfMemory>
+    requires within { asked.p ≤ length (R.list reader.old) }
+    requires stands { (j : PlainJoin) × StandsAs (R.list reader.old) asked.p asked.at asked.rank j }
+    requires next { R.top ≡ asked.rank }
+    ensures output { IfOk result (λ found. IfSome found (λ pairs. IsOutput (R.list reader.old) asked.p asked.at asked.rank part.now.range pairs.items)) }
+    ensures moves { Moves R.list R.floor R.went reader.old reader.new }
+    ensures counted { steps.old ≤ steps.new }
+    ensures cost { IfOk result (λ found. IfSome found (λ pairs. steps.old + 1 + length pairs.items ≤ steps.new)) }
+{
+    let Some((id, cell)) = &part.cell else {
+        return Ok(None);
+    };
+    let mut guard = cell.lock(room.rt);
+    let Some(own) = &mut *guard else {
+        return Ok(None);
+    };
+    let found = own.serve(asked, &part.range, room.gate, reader, steps);
+    reader.note_use(Use {
+        id: *id,
+        rows: own.rows(),
+    });
+    found
+}
+
+/// What the join gives in the part: from the cell that has it, while there is the cell and what it keeps does not stand past the
+/// position, and otherwise from a kept range of its own.
+pub fn read_part<N: Naming, W: Wait, G: Gate, R: Stacked<N>, L: Ledger>(
+    room: &Room<'_, N, W, G>,
+    asked: Asked,
+    part: &Part<N>,
+    reader: &mut R,
+    steps: &mut Steps<L>,
+) -> Result<Vec<Pair>, OutOfMemory>
+    requires within { asked.p ≤ length (R.list reader.old) }
+    requires entered { HasEntered (R.list reader.old) }
+    requires stands { (j : PlainJoin) × StandsAs (R.list reader.old) asked.p asked.at asked.rank j }
+    requires next { R.top ≡ asked.rank }
+    ensures output { IfOk result (λ pairs. IsOutput (R.list reader.old) asked.p asked.at asked.rank part.now.range pairs.items) }
+    ensures moves { Moves R.list R.floor R.went reader.old reader.new }
+    ensures counted { steps.old ≤ steps.new }
+    ensures cost { IfOk result (λ pairs. steps.old + 1 + length pairs.items ≤ steps.new) }
+{
+    if let Some(pairs) = read_cell(room, asked, part, reader, steps)? {
+        return Ok(pairs);
+    }
+    read_alone(room, asked, &part.range, reader, steps)
+}

@@ -1,0 +1,13 @@
+// The lowest reader of a history that threads share, and what a layer asks of the reader that it stands on.
+//
+// It stands on `out_of_memory`, `key_space`, `join_types`, `join_set`, `base_versions`, `write_history`, `base_shards`,
+// `base_reader`, `join_eval`, `steps` and, for its definitions and laws, on `semantics`, `key_ranges`, `growing_history`,
+// `layering` and `cell_slots`. The layers above may use `SharedReader`, which contracts see as the pass that it reads with,
+// and the trait `Stacked`: a reader whose list is what a pass has seen.
+#![tactic(auto)]
+
+pub mod reader;
+pub mod stacked;
+
+pub use reader::SharedReader;
+pub use stacked::{Stacked, Use};

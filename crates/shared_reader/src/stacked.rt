@@ -1,0 +1,69 @@
+// What a layer asks of the reader that it stands on, where threads share the history.
+ghost use Rattle.std.specs.Prelude.{◌≡◌, ℕ, ◌≤◌, length, map, take, IfOk};
+ghost use Rattle.semantics.specs.Joins.{Join as PlainJoin};
+ghost use Rattle.semantics.specs.Histories.{joins_of};
+ghost use Rattle.growing_history.specs.Entered.{HasEntered};
+ghost use Rattle.layering.specs.Reached.{reached};
+ghost use Rattle.layering.specs.Standing.{last_declared};
+ghost use Rattle.write_history.specs.Passes.{GoesOn, own};
+ghost use Rattle.join_eval.specs.Moves.{Moves};
+ghost use Rattle.cell_slots.specs.Slots.{IsDeclared};
+
+use base_shards::Naming;
+use join_eval::Reader;
+use join_types::Join;
+use key_space::Range;
+use out_of_memory::OutOfMemory;
+use write_history::Pass;
+
+/// That a cell was used, and how many rows it holds then.
+#[derive(Clone, Copy, Debug)]
+pub struct Use {
+    /// The cell's number.
+    pub id: u32,
+    /// The rows.
+    pub rows: u64,
+}
+
+/// A reader whose list is what a pass of a history has seen. Every position of it can be read.
+///
+/// A join is named by the position of its declaration.
+pub trait Stacked<N: Naming>: Reader {
+    /// The reader and the pass see what either has seen.
+    fn meet(&mut self, pass: &mut Pass)
+        requires same_history { pass.old.history ≡ N.history }
+        ensures goes_on { GoesOn pass.old pass.new }
+        ensures own { own pass.new ≡ own pass.old }
+        ensures met { pass.new.view ≡ Self.list self.new }
+        ensures entered { HasEntered (Self.list self.new) }
+        ensures moves { Moves Self.list Self.floor Self.went self.old self.new };
+
+    /// The joins of a rank whose outputs the range reaches, after the first p entries, in order of position.
+    fn reached(&mut self, p: u64, range: &Range, rank: u8) -> Result<Vec<u64>, OutOfMemory>
+        requires { p ≤ length (Self.list self.old) }
+        ensures reached { IfOk result (λ ats. ats.items ≡ map (λ s. s.position) (reached range.now rank (joins_of (take p (Self.list self.old))))) }
+        ensures moves { Moves Self.list Self.floor Self.went self.old self.new };
+
+    /// The position of the last declaration among the first p entries, 0 where there is none.
+    fn last_declared(&mut self, p: u64) -> Result<u64, OutOfMemory>
+        requires { p ≤ length (Self.list self.old) }
+        ensures last { IfOk result (λ at. at ≡ last_declared (joins_of (take p (Self.list self.old)))) }
+        ensures moves { Moves Self.list Self.floor Self.went self.old self.new };
+
+    /// A copy of the join that was declared at a position.
+    fn join_at(&mut self, at: u64) -> Result<Join, OutOfMemory>
+        requires { (j : PlainJoin) × IsDeclared (Self.list self.old) at j }
+        ensures declared { IfOk result (IsDeclared (Self.list self.old) at) }
+        ensures moves { Moves Self.list Self.floor Self.went self.old self.new };
+
+    /// Whether what the join gives is to be kept: it is one of the joins that stand where the reader was asked to read, and is
+    /// pushed. What is read does not rest on it.
+    fn is_kept(&self, at: u64) -> bool;
+
+    /// Takes note that a cell was used, so that the book is told of it. A use for which there is no room is not told.
+    fn note_use(&mut self, used: Use)
+        ensures { Moves Self.list Self.floor Self.went self.old self.new };
+
+    /// Every position can be read.
+    ghost no_floor: { (a : Self) → Self.floor a ≡ 0 };
+}

@@ -3,6 +3,8 @@ ghost use Rattle.std.specs.Prelude.{◌≡◌, ◌≤◌, IfOk, Some, length};
 ghost use Rattle.pequod_cache.specs.Sitting.{AreOf, AreWriters};
 ghost use Rattle.server.specs.Staffs.{AreDeclarable};
 
+mod held;
+
 use super::*;
 use base_shards::Naming;
 use join_lang::parse;
@@ -10,7 +12,7 @@ use join_set::Standing;
 use join_types::{Join, Write};
 use out_of_memory::OutOfMemory;
 use pequod_cache::Seats;
-use pq_io::{Failed, Link, MemDoors, MemLink, MemSink, MemSource, OpenGate};
+use pq_io::{Failed, Gate, Link, MemDoors, MemLink, MemSink, MemSource, OpenGate};
 use std::alloc::Global;
 use std::marker::Brand;
 use std::process::Abort;
@@ -93,26 +95,36 @@ fn make_seats(alloc: Global, clients: u32) -> Result<Seats, OutOfMemory>
     Seats::make(alloc, clients, 4)
 }
 
-/// Serves doors that give the links and fail at these calls, by all clients but the first, which declares a join.
-fn serve<N: Naming + Send + Sync, R: Threads + Wait + Abort + Sync>(
+/// Serves doors that give the links and fail at these calls, by all clients but the first, which declares the joins.
+fn serve<N, R, G, K>(
     rt: &R,
     alloc: Global,
     seats: Seats,
-    links: Vec<Copying<'_, R>>,
+    joins: Vec<Join>,
+    gate: &G,
+    links: Vec<K>,
     fails: Vec<usize>,
 ) -> Result<Ended, Fail>
+where
+    N: Naming + Send + Sync,
+    R: Threads + Wait + Abort + Sync,
+    G: Gate + Sync,
+    K: Link + Send + Drop,
     requires named { seats.history ≡ N.history }
     requires clients { AreWriters N.history (length seats.clients.items) seats.clients.items }
     requires two { 2 ≤ length seats.clients.items }
     requires shards { AreOf N.history 16 seats.shards.items }
     requires cells { AreOf N.history (length seats.cells.items) seats.cells.items }
     requires count { length seats.cells.items ≡ 4 }
+    requires joins { AreDeclarable joins.items }
 {
-    let joins = one_join(rt, alloc, "b|<x> = copy a|<x>");
-    let workers = staff::<N, _, _>(rt, alloc, seats, 1_000, joins, &OpenGate)?;
+    let workers = staff::<N, _, _>(rt, alloc, seats, 1_000, joins, gate)?;
     let mut doors = MemDoors::new(links, fails);
     Ok(serve_doors(rt, alloc, &mut doors, workers))
 }
+
+/// A join whose output has what its source has.
+const COPIES: &str = "b|<x> = copy a|<x>";
 
 /// Puts a pair, and reads the join's output.
 const OF_A_WRITER: &str = "[\"put\",\"a|1\",\"Hi\"]\n[\"scan\",\"b|\",\"b}\"]\n";
@@ -123,17 +135,32 @@ const TO_A_WRITER: &str = "[\"ok\",2]\n[\"pairs\",2,[[\"b|1\",\"Hi\"]]]\n";
 /// Reads the join's output, and takes leave.
 const OF_A_READER: &str = "[\"get\",\"b|1\"]\n[\"quit\"]\n";
 
-#[test]
-fn two_workers_serve_two_links(rt: HostRuntime) -> Result<(), Fail> {
-    let alloc: Global = rt.alloc();
-    let (writer, to_writer) = link_of(&rt, alloc, OF_A_WRITER)?;
-    let (reader, to_reader) = link_of(&rt, alloc, OF_A_READER)?;
+/// Serves a writer and then a reader by workers with clients of their own, one fewer than so many clients, and gives what the
+/// two links took.
+fn serve_both<R: Threads + Wait + Abort + Sync>(
+    rt: &R,
+    alloc: Global,
+    clients: u32,
+) -> Result<(Taken, Taken), Fail>
+    requires some { 2 ≤ clients }
+    requires few { clients ≤ 65 }
+{
+    let (writer, to_writer) = link_of(rt, alloc, OF_A_WRITER)?;
+    let (reader, to_reader) = link_of(rt, alloc, OF_A_READER)?;
     let mut links = Vec::new(alloc);
     links.push(writer)?;
     links.push(reader)?;
-    let seats = make_seats(alloc, 3)?;
-    let ended = serve::<Brand, _>(&rt, alloc, seats, links, Vec::new(alloc))?;
+    let joins = one_join(rt, alloc, COPIES);
+    let seats = make_seats(alloc, clients)?;
+    let fails = Vec::new(alloc);
+    let ended = serve::<Brand, _, _, _>(rt, alloc, seats, joins, &OpenGate, links, fails)?;
     assert_eq!(rt; ended, Ended::Closed);
+    Ok((to_writer, to_reader))
+}
+
+#[test]
+fn two_workers_serve_two_links(rt: HostRuntime) -> Result<(), Fail> {
+    let (to_writer, to_reader) = serve_both(&rt, rt.alloc(), 3)?;
     assert_eq!(rt; to_writer.lock(&rt).as_slice(), TO_A_WRITER.as_bytes());
     // The reader may come before the writer or after.
     let before = "[\"none\",1]\n[\"bye\"]\n".as_bytes();
@@ -145,15 +172,7 @@ fn two_workers_serve_two_links(rt: HostRuntime) -> Result<(), Fail> {
 
 #[test]
 fn one_client_serves_links_in_order(rt: HostRuntime) -> Result<(), Fail> {
-    let alloc: Global = rt.alloc();
-    let (writer, to_writer) = link_of(&rt, alloc, OF_A_WRITER)?;
-    let (reader, to_reader) = link_of(&rt, alloc, OF_A_READER)?;
-    let mut links = Vec::new(alloc);
-    links.push(writer)?;
-    links.push(reader)?;
-    let seats = make_seats(alloc, 2)?;
-    let ended = serve::<Brand, _>(&rt, alloc, seats, links, Vec::new(alloc))?;
-    assert_eq!(rt; ended, Ended::Closed);
+    let (to_writer, to_reader) = serve_both(&rt, rt.alloc(), 2)?;
     assert_eq!(rt; to_writer.lock(&rt).as_slice(), TO_A_WRITER.as_bytes());
     let wanted = "[\"value\",2,\"Hi\"]\n[\"bye\"]\n".as_bytes();
     assert_eq!(rt; to_reader.lock(&rt).as_slice(), wanted);
@@ -165,7 +184,10 @@ fn closed_doors_end_it(rt: HostRuntime) -> Result<(), Fail> {
     let alloc: Global = rt.alloc();
     for clients in [2, 3] {
         let seats = make_seats(alloc, clients)?;
-        let ended = serve::<Brand, _>(&rt, alloc, seats, Vec::new(alloc), Vec::new(alloc))?;
+        let joins = one_join(&rt, alloc, COPIES);
+        let links: Vec<MemLink> = Vec::new(alloc);
+        let fails = Vec::new(alloc);
+        let ended = serve::<Brand, _, _, _>(&rt, alloc, seats, joins, &OpenGate, links, fails)?;
         assert_eq!(rt; ended, Ended::Closed);
     }
     Ok(())
@@ -184,7 +206,9 @@ fn links_before_a_failure_are_served(rt: HostRuntime) -> Result<(), Fail> {
         let mut links = Vec::new(alloc);
         links.push(writer)?;
         let seats = make_seats(alloc, clients)?;
-        let ended = serve::<Brand, _>(&rt, alloc, seats, links, vec![in alloc; call; 1]?)?;
+        let joins = one_join(&rt, alloc, COPIES);
+        let fails = vec![in alloc; call; 1]?;
+        let ended = serve::<Brand, _, _, _>(&rt, alloc, seats, joins, &OpenGate, links, fails)?;
         assert_eq!(rt; ended, Ended::Failed);
         assert_eq!(rt; to_writer.lock(&rt).as_slice(), told.as_bytes());
     }

@@ -70,6 +70,9 @@ attempt "a load of no act" 0 "$folder/wanted" load --steps 0
 echo '["load",1506,195,783,214,1519,90,58245]' > "$folder/wanted"
 attempt "a load of 2,000 acts" 0 "$folder/wanted" load --number 7 --steps 2000
 attempt "a load of 2,000 acts with one row kept" 0 "$folder/wanted" load --number 7 --steps 2000 --rows 1
+attempt "a load of 2,000 acts by 4 workers" 0 "$folder/wanted" load --number 7 --steps 2000 --workers 4
+attempt "a load of 2,000 acts by 4 workers with one row kept" 0 "$folder/wanted" load --number 7 --steps 2000 --workers 4 --rows 1
+attempt "a load of 2,000 acts by 64 workers" 0 "$folder/wanted" load --number 7 --steps 2000 --workers 64
 attempt "a script that is not there" 9 /dev/null replay none
 attempt "a file that is not there" 9 /dev/null check none
 attempt "a server's joins file that is refused" 7 clash.written serve 127.0.0.1:0 --joins clash.joins

@@ -3,4 +3,5 @@ pub mod OrderLemmas
 pub mod ReadingLemmas
 pub mod ChangedLemmas
 pub mod ShardLemmas
+pub mod MarkLemmas
 pub mod TestLemmas

@@ -105,7 +105,7 @@ next_upto view position p from to es next = omega (arith, next.ends)
 pub next_entries : (view : History) (position p from to : ℕ) (es : History) → TakesNext view position p from to es → es ≡ take (to - position) (drop position view)
 next_entries view position p from to es next = next.entries ∙ ap (λ n. take (to - n) (drop n view)) next.starts
 
-next_length : (view : History) (position p from to : ℕ) (es : History) → TakesNext view position p from to es → length es ≡ to - position
+pub next_length : (view : History) (position p from to : ℕ) (es : History) → TakesNext view position p from to es → length es ≡ to - position
 next_length view position p from to es next =
     let after = next_after view position p from to es next in
     let upto = next_upto view position p from to es next in

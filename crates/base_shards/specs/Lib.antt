@@ -1,4 +1,5 @@
 pub mod Shards
+pub mod Marks
 pub mod Reading
 pub mod Changed
 pub mod Laws

@@ -1,8 +1,9 @@
 -- A shard as contracts see it, and what is true of it whenever its lock is free.
-use Rattle.std.specs.Prelude.{◌≡◌, ℕ, ◌≤◌, [], length, take, slice_set}
+use Rattle.std.specs.Prelude.{◌≡◌, ℕ, ◌≤◌, List, [], length, take, slice_set}
 use Rattle.atomic_table.specs.Seated.{TableId}
+use Rattle.semantics.specs.Texts.{Range}
 use Rattle.base_versions.specs.Kept.{Kept, StandsFor}
-use Rattle.updater_index.specs.Registered.{Index, without_mark}
+use Rattle.updater_index.specs.Registered.{Index, ranges_of, with_ranges, without_mark}
 use Rattle.write_history.specs.Passes.{PassView}
 
 -- the base pairs of its tables, the ranges and marks of the ids, and its pass
@@ -21,3 +22,7 @@ pub record KeepsBeginning (history : TableId) (base : Kept) (pass : PassView) : 
 -- the ranges and marks without those of an id
 abbrev pub without_id : ℕ → Index → Index
 without_id id index = record { held = slice_set index.held id []; marked = without_mark id index.marked }
+
+-- the ranges and marks, once an id has these ranges too
+abbrev pub with_ranges_of : ℕ → List Range → Index → Index
+with_ranges_of id ranges index = record { held = slice_set index.held id (with_ranges (ranges_of id index.held) ranges); marked = index.marked }

@@ -16,6 +16,7 @@ use key_space::{Key, Range};
 use out_of_memory::OutOfMemory;
 use std::alloc::Global;
 use std::collections::BTreeSet;
+use std::mem;
 use std::sync::ledger::Ledger;
 use std::sync::{Arc, Mutex, Wait};
 use steps::Steps;
@@ -33,6 +34,13 @@ pub struct BaseShards<N: Naming> {
     shards: Vec<Mutex<Shard<N>>>,
     ghost named: { arc_value history ≡ N.history },
     ghost all: { vec_len shards ≡ 16 },
+}
+
+/// The number of the part that the range's table is of.
+fn part_of(range: &Range) -> u8
+    ensures { result < 16 }
+{
+    shard_of(range.table(), SHARDS)
 }
 
 /// A part for each of the passes, with the numbers from 0 up.
@@ -170,10 +178,13 @@ impl<N: Naming> BaseShards<N> {
         listed(self.alloc, found)
     }
 
-    /// Brings a part to a position that the pass has seen, if it is not there yet. While another thread has the part, this
-    /// one sleeps. It costs a look-up for each entry that is new to the part.
+    /// Brings a part to a position that the pass has seen, if it is not there yet. In this and every other call that brings
+    /// a part forward, the ids that follow a range with an entry's key are marked before the part takes the entry. While
+    /// another thread has the part, this one sleeps. It costs a look-up for each entry that is new to the part, and for each
+    /// of its tables the search for these ids.
     ///
-    /// On `OutOfMemory` the part may have come nearer to the position.
+    /// On `OutOfMemory` the part may have come nearer to the position, and ids may be marked for an entry that it has not
+    /// taken.
     pub fn catch_up<R: Wait>(
         &self,
         rt: &R,
@@ -191,18 +202,49 @@ impl<N: Naming> BaseShards<N> {
             .bring(rt, &self.history, pass, shard, p)
     }
 
-    /// Follows the ranges for the id, so that it is marked once a key of theirs is written. So far nothing is followed: no
-    /// id has ranges, and none is marked.
+    /// Registers ranges of the part with a number under the id. Where there are none it takes no lock.
+    fn follow_in<R: Wait>(
+        &self,
+        rt: &R,
+        number: u8,
+        id: u32,
+        ranges: Vec<Range>,
+    ) -> Result<(), OutOfMemory>
+        requires { number < 16 }
+    {
+        if ranges.is_empty() {
+            return Ok(());
+        }
+        self.shard(number).lock(rt).follow(id, ranges)
+    }
+
+    /// Follows the ranges for the id: from now on it is marked before a part takes an entry that puts or removes a key of
+    /// theirs. One that it follows already is not followed twice, and an id that is not below the number given to `new`
+    /// follows none. While another thread has a part, this one sleeps; a lock is taken for each ranges of one part that
+    /// stand behind one another.
+    ///
+    /// It costs what `UpdaterIndex::register` does. On `OutOfMemory` some of the ranges may be followed.
     pub fn follow<R: Wait>(
         &self,
-        _rt: &R,
+        rt: &R,
         _pass: &mut Pass,
-        _id: u32,
-        _ranges: &[Range],
+        id: u32,
+        ranges: &[Range],
     ) -> Result<(), OutOfMemory>
         ensures { _pass.new ≡ _pass.old }
     {
-        Ok(())
+        let mut number = 0;
+        let mut run = Vec::new(self.alloc);
+        for range in ranges {
+            let next = part_of(range);
+            if next != number {
+                let before = mem::replace(&mut run, Vec::new(self.alloc));
+                self.follow_in(rt, number, id, before)?;
+            }
+            number = next;
+            run.push(range.copy()?)?;
+        }
+        self.follow_in(rt, number, id, run)
     }
 
     /// Takes away the ranges and the mark of the id in each part, one after another. It takes no memory. While another

@@ -9,6 +9,7 @@
 pub mod base_shards;
 mod key_set;
 pub mod laws;
+mod marking;
 pub mod naming;
 pub mod shard;
 

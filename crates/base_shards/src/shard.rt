@@ -1,13 +1,15 @@
 // What lies behind the lock of a shard.
-ghost use Rattle.std.specs.Prelude.{◌≡◌, ◌+◌, ◌^◌, ◌<◌, ◌≤◌, [], ◌∷◌, length, take, replicate, IfOk, OnOk, MatchOption};
+ghost use Rattle.std.specs.Prelude.{◌≡◌, ◌+◌, ◌^◌, ◌<◌, ◌≤◌, [], ◌∷◌, length, take, replicate, IfOk, OnOk, OnErr, MatchOption};
 ghost use Rattle.semantics.specs.Texts.{pairs_within, table_of};
 ghost use Rattle.semantics.specs.Histories.{base_of};
-ghost use Rattle.growing_history.specs.Changes.{changed_keys};
+ghost use Rattle.growing_history.specs.Changes.{changed_keys, entries_between};
 ghost use Rattle.growing_history.specs.Entered.{HasEntered};
 ghost use Rattle.base_versions.specs.Kept.{shard_of};
 ghost use Rattle.write_history.specs.Passes.{GoesOn, own};
-ghost use Rattle.base_shards.specs.Shards.{without_id};
+ghost use Rattle.base_shards.specs.Marks.{MarksAtLeast, marked_by, starts_from, taken};
+ghost use Rattle.base_shards.specs.Shards.{with_ranges_of, without_id};
 
+use crate::marking::mark_written;
 use crate::naming::Naming;
 use base_versions::BaseVersions;
 use join_types::Pair;
@@ -98,6 +100,7 @@ impl<N: Naming> Shard<N> {
         requires { number < 16 }
         ensures number { self.new.base.shard ≡ number }
         ensures same { self.old.base.shard ≡ number → self.new.base ≡ self.old.base }
+        ensures from { self.new.base.position ≡ starts_from number self.old.base }
         ensures index { self.new.index ≡ self.old.index }
         ensures pass { self.new.pass ≡ self.old.pass }
     {
@@ -107,9 +110,10 @@ impl<N: Naming> Shard<N> {
         }
     }
 
-    /// Takes the next entries that the pass has seen, up to a position, and no more than are copied at a time.
+    /// Takes the next entries that the pass has seen, up to a position, and no more than are copied at a time. Before they
+    /// are taken each id is marked that has a range with a key which they put or remove in the part's tables.
     ///
-    /// On `OutOfMemory` some first ones of them may have been taken.
+    /// On `OutOfMemory` some first ones of them may have been taken, and ids may be marked for others too.
     fn take_next<R: Wait>(&mut self, rt: &R, history: &History, p: u64) -> Result<(), OutOfMemory>
         requires history { history.now ≡ N.history }
         requires entered { HasEntered self.old.pass.view }
@@ -119,20 +123,46 @@ impl<N: Naming> Shard<N> {
         ensures kept { self.old.base.position ≤ self.new.base.position }
         ensures upto { self.new.base.position ≤ p }
         ensures number { self.new.base.shard ≡ self.old.base.shard }
-        ensures index { self.new.index ≡ self.old.index }
+        ensures marked { OnOk result (self.new.index ≡ marked_by self.old.base.shard (entries_between self.old.base.position self.new.base.position self.old.pass.view) self.old.index) }
+        ensures in_part { OnErr result (MarksAtLeast self.old.base.shard (entries_between self.old.base.position self.new.base.position self.old.pass.view) self.old.index self.new.index) }
         ensures pass { self.new.pass ≡ self.old.pass }
     {
         let from = self.base.position();
         let to = p.min(from + BATCH);
-        let entries = history.entries(rt, &mut self.pass, from, to)?;
-        self.base.advance(&entries)
+        let copies = history.entries(rt, &mut self.pass, from, to)?;
+        let entries = copies.as_slice();
+        mark_written(&mut self.index, self.number, entries)?;
+        self.base.advance(entries)
+    }
+
+    /// Takes the entries that the pass has seen, up to a position, those first that come first.
+    ///
+    /// On `OutOfMemory` some first ones of them may have been taken, and ids may be marked for others too.
+    fn take_all<R: Wait>(&mut self, rt: &R, history: &History, p: u64) -> Result<(), OutOfMemory>
+        requires history { history.now ≡ N.history }
+        requires entered { HasEntered self.old.pass.view }
+        requires within { p ≤ length self.old.pass.view }
+        ensures brought { OnOk result (p ≤ self.new.base.position) }
+        ensures kept { self.old.base.position ≤ self.new.base.position }
+        ensures number { self.new.base.shard ≡ self.old.base.shard }
+        ensures marked { OnOk result (self.new.index ≡ marked_by self.old.base.shard (entries_between self.old.base.position self.new.base.position self.old.pass.view) self.old.index) }
+        ensures in_part { OnErr result (MarksAtLeast self.old.base.shard (entries_between self.old.base.position self.new.base.position self.old.pass.view) self.old.index self.new.index) }
+        ensures pass { self.new.pass ≡ self.old.pass }
+    {
+        while self.position() < p {
+            self.take_next(rt, history, p)?;
+        }
+        Ok(())
     }
 
     /// Brings the base pairs of the part with a number to a position that the pass has seen, if they are not there yet. Both
-    /// passes see then what either has seen. It costs a look-up for each entry up to the position that is new to the shard,
-    /// and the history's turn once for each 1,024 of them.
+    /// passes see then what either has seen. Before an entry is taken, each id is marked that has a range with the key which
+    /// it puts or removes, where the key's table is of the part.
     ///
-    /// On `OutOfMemory` some first ones of these entries may have been taken.
+    /// It costs a look-up for each entry up to the position that is new to the shard, for each of them that is of the part
+    /// what `UpdaterIndex::mark_stabbed` does, and the history's turn once for each 1,024 of them.
+    ///
+    /// On `OutOfMemory` some first ones of these entries may have been taken, and ids may be marked for others too.
     pub fn bring<R: Wait>(
         &mut self,
         rt: &R,
@@ -151,14 +181,12 @@ impl<N: Naming> Shard<N> {
         ensures number { self.new.base.shard ≡ number }
         ensures brought { OnOk result (p ≤ self.new.base.position) }
         ensures kept { self.old.base.shard ≡ number → self.old.base.position ≤ self.new.base.position }
-        ensures index { self.new.index ≡ self.old.index }
+        ensures marked { OnOk result (self.new.index ≡ marked_by number (taken number self.old.base self.new.base self.new.pass.view) self.old.index) }
+        ensures in_part { OnErr result (MarksAtLeast number (taken number self.old.base self.new.base self.new.pass.view) self.old.index self.new.index) }
     {
         self.meet(rt, history, pass);
         self.keep_part(number);
-        while self.position() < p {
-            self.take_next(rt, history, p)?;
-        }
-        Ok(())
+        self.take_all(rt, history, p)
     }
 
     /// The base pairs of the range after the first p entries that the pass has seen, in the order of their keys. It costs
@@ -199,6 +227,23 @@ impl<N: Naming> Shard<N> {
         ensures spent { steps.old ≤ steps.new }
     {
         self.base.changed(q, p, range, steps)
+    }
+
+    /// Adds the ranges to those of the id, in order; one that the id has already is not added again. An id that the index
+    /// does not have is given none. It costs what `UpdaterIndex::register` does.
+    ///
+    /// On `OutOfMemory` none of them is added.
+    pub fn follow(&mut self, id: u32, ranges: Vec<Range>) -> Result<(), OutOfMemory>
+        ensures known { id < length self.old.index.held → OnOk result (self.new.index ≡ with_ranges_of id ranges.items self.old.index) }
+        ensures unknown { length self.old.index.held ≤ id → self.new.index ≡ self.old.index }
+        ensures err { OnErr result (self.new.index ≡ self.old.index) }
+        ensures base { self.new.base ≡ self.old.base }
+        ensures pass { self.new.pass ≡ self.old.pass }
+    {
+        if (id as usize) < self.index.ids() {
+            return self.index.register(id, ranges);
+        }
+        Ok(())
     }
 
     /// Takes away the ranges of the id, and its mark. An id that the index does not have has neither. It costs what

@@ -314,3 +314,108 @@ fn two_threads_put_and_read(rt: HostRuntime) -> Result<(), Fail> {
     let first = pop_pass(&rt, &history, &mut passes);
     two_put_and_read::<Brand, _>(&rt, alloc, Arc::new(alloc, history)?, passes, first, second)
 }
+
+/// Follows the ranges between these bounds for an id.
+fn follow<N: Naming, R: Wait + Abort>(
+    rt: &R,
+    alloc: Global,
+    shards: &BaseShards<N>,
+    pass: &mut Pass,
+    id: u32,
+    bounds: &[(&str, &str)],
+) -> Result<(), Fail>
+    ensures { pass.new ≡ pass.old }
+{
+    let mut ranges = Vec::new(alloc);
+    for (low, high) in bounds {
+        ranges.push(range_of(rt, alloc, low, high))?;
+    }
+    shards.follow(rt, pass, id, &ranges)?;
+    Ok(())
+}
+
+/// Brings all parts to a position.
+fn catch_all<N: Naming, R: Wait>(
+    rt: &R,
+    shards: &BaseShards<N>,
+    pass: &mut Pass,
+    p: u64,
+) -> Result<(), OutOfMemory>
+    requires { HasSeen N.history pass.old p }
+    ensures { MayAppend N.history pass.old → MayAppend N.history pass.new }
+{
+    for number in 0..SHARDS {
+        shards.catch_up(rt, pass, number, p)?;
+    }
+    Ok(())
+}
+
+/// The ids that are marked, in order, with a space behind each. They are not marked any more.
+fn take_marked<N: Naming, R: Wait>(
+    rt: &R,
+    alloc: Global,
+    shards: &BaseShards<N>,
+) -> Result<String, Fail> {
+    let mut text = String::new(alloc);
+    for _ in 0..8 {
+        let Some(id) = shards.next_marked(rt) else {
+            return Ok(text);
+        };
+        text.push_str(format!(in alloc; "{id} ")?.as_str())?;
+    }
+    Ok(text)
+}
+
+/// Two ids follow ranges of two parts. They are marked by the entries that put or remove a key of theirs, each once, in order,
+/// and not once they are forgotten.
+fn mark_rows<N: Naming, R: Wait + Abort>(
+    rt: &R,
+    alloc: Global,
+    history: Arc<History>,
+    passes: Vec<Pass>,
+    mut pass: Pass,
+) -> Result<(), Fail>
+    requires named { arc_value history ≡ N.history }
+    requires count { length passes.items ≡ 16 }
+    requires each { All (λ p. MayAppend N.history p) passes.items }
+    requires writer { MayAppend N.history pass }
+{
+    let shards: BaseShards<N> = BaseShards::new(alloc, Arc::try_clone(&history)?, passes, 4)?;
+    let both = [("k|", "k}"), ("j|a", "j|b")];
+    follow(rt, alloc, &shards, &mut pass, 2, &both)?;
+    follow(rt, alloc, &shards, &mut pass, 0, &[("k|b", "k|c")])?;
+    follow(rt, alloc, &shards, &mut pass, 4, &both)?;
+    let rows = [
+        ("k|b", Some("1"), "0 2 "),
+        ("k|a", Some("2"), "2 "),
+        ("j|ab", Some("3"), "2 "),
+        ("j|z", Some("4"), ""),
+        ("i|a", Some("5"), ""),
+        ("k|b", None, "0 2 "),
+    ];
+    for (key, value, wanted) in rows {
+        let p = write(rt, alloc, &history, &mut pass, key, value);
+        catch_all(rt, &shards, &mut pass, p)?;
+        assert_eq!(rt; take_marked(rt, alloc, &shards)?.as_str(), wanted);
+    }
+    write(rt, alloc, &history, &mut pass, "k|a", None);
+    let p = write(rt, alloc, &history, &mut pass, "k|b", Some("6"));
+    catch_all(rt, &shards, &mut pass, p)?;
+    assert_eq!(rt; take_marked(rt, alloc, &shards)?.as_str(), "2 0 ");
+    let p = write(rt, alloc, &history, &mut pass, "k|b", Some("7"));
+    catch_all(rt, &shards, &mut pass, p)?;
+    shards.forget(rt, 2);
+    assert_eq!(rt; take_marked(rt, alloc, &shards)?.as_str(), "0 ");
+    let p = write(rt, alloc, &history, &mut pass, "k|a", Some("8"));
+    catch_all(rt, &shards, &mut pass, p)?;
+    assert_eq!(rt; take_marked(rt, alloc, &shards)?.as_str(), "");
+    Ok(())
+}
+
+#[test]
+fn ids_are_marked_by_what_is_written(rt: HostRuntime) -> Result<(), Fail> {
+    let alloc = rt.alloc();
+    let (history, mut passes) = make_history(alloc, 17)?;
+    let pass = pop_pass(&rt, &history, &mut passes);
+    mark_rows::<Brand, _>(&rt, alloc, Arc::new(alloc, history)?, passes, pass)
+}

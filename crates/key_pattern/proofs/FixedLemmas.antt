@@ -10,7 +10,7 @@ use Rattle.semantics.specs.Texts.{Text, bar, Range, within}
 use Rattle.semantics.specs.Patterns.{Segment, literal, slot, Pattern, Slots, is_pattern, bind, short}
 use Rattle.semantics.proofs.PatternLemmas.{bind_some, segments_of_pattern}
 use Rattle.key_ranges.specs.Ranges.{just, prefix_range}
-use Rattle.key_ranges.specs.Containing.{fixed_texts, pattern_range, containing}
+use Rattle.key_ranges.specs.Containing.{fixed_texts, pattern_range}
 use Rattle.key_ranges.specs.ContainingLaws.{HoldsFitting}
 use Rattle.key_ranges.proofs.ContainingLemmas.{pattern_range_holds}
 use Rattle.key_pattern.specs.Fixed.{fixed_text, AddsFixed}
@@ -111,10 +111,3 @@ pub fitting_from_exact : {E : Type 0} (p : Pattern) (given : Slots) (r : Result 
 fitting_from_exact p given r ok long h =
     IfOk-weaker r (λ found. (more : Slots) (key : Text) → HoldsFitting p given found more key) (λ found. (key : Text) → length key ≤ 512 → is_some (bind p key given) ≡ true → IsSomeAnd found (λ r. within r key ≡ true))
     (λ found all key small some. bound_by p given key found (bind p key given) ok long (λ more. all more key) small refl some) (holds_from_exact p given r ok h)
-
--- ---- the containing range
-
--- an answer that is the prefix range is the containing range
-pub containing_from_exact : {E : Type 0} (p : Pattern) (given : Slots) (output : Pattern) (range : Range) (r : Result (Option Range) E) → IfOk r (λ found. found ≡ pattern_range p given) → IfOk r (λ found. found ≡ containing p given output range)
-unfolding containing
-containing_from_exact p given output range r h = h

@@ -5,3 +5,6 @@ pub mod JoinedTexts
 pub mod PlaceLemmas
 pub mod SharedLemmas
 pub mod WalkLemmas
+pub mod RestLemmas
+pub mod NarrowingLemmas
+pub mod NarrowedLemmas

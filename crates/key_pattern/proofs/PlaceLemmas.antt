@@ -1,5 +1,5 @@
 -- Slots after a text was given to a place, and slots that are copied one by one.
-use Rattle.std.proofs.Common.{◌≡◌, ℕ, ◌+◌, ◌<◌, ◌≤◌, true, false, List, [], ◌∷◌, ◌++◌, length, map, take, get_or, nat_le, Option, None, Some, is_some, option_map, slice_get, slice_set, String, subst, sym, ap, ◌∙◌, arith, ⊎_elim}
+use Rattle.std.proofs.Common.{◌≡◌, ℕ, ◌+◌, ◌<◌, ◌≤◌, true, false, List, [], ◌∷◌, ◌++◌, length, map, take, get_or, nat_le, Option, Some, is_some, option_map, slice_set, String, subst, sym, ap, ◌∙◌, arith, ⊎_elim}
 use Rattle.std.specs.Borrow.{Bor}
 use Rattle.std.specs.Option.{option_copied, option_flatten}
 use Rattle.std.specs.String.{string_bytes}

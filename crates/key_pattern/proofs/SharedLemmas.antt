@@ -14,11 +14,7 @@ use Rattle.key_ranges.proofs.PrefixLemmas.{rest_of, without_last_push, closed_pu
 use Rattle.key_ranges.proofs.BeginningLemmas.{barred_from-append, shared_is_beginning, holds_bounds_is}
 use Rattle.key_space.specs.Parts.{ends_table}
 use Rattle.key_space.proofs.NameLemmas.{ends_after, ends_without}
-use Rattle.key_pattern.specs.Shared.{closed_segments, shared_segments}
-
--- two texts as bounds
-abbrev bounds : Text → Text → Range
-bounds low high = record { low = low; high = high }
+use Rattle.key_pattern.specs.Shared.{bounds, closed_segments, shared_segments}
 
 -- ---- the beginnings of a text behind its first segment
 

@@ -3,3 +3,4 @@ pub mod Places
 pub mod Pieces
 pub mod Shared
 pub mod Fixed
+pub mod Narrowing

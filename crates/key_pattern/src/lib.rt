@@ -7,6 +7,7 @@
 #![tactic(auto)]
 
 mod matching;
+mod narrowing;
 pub mod pattern;
 mod ranging;
 pub mod segment;

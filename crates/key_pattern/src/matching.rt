@@ -1,8 +1,10 @@
 // How a segment takes and gives a text, and how a key's text is cut into segments and joined of them.
 ghost use Rattle.std.specs.Prelude.{◌≡◌, IfOk, IsSome, true, false};
+ghost use Rattle.std.specs.Option.{option_copied};
 ghost use Rattle.std.specs.String.{string_bytes};
 ghost use Rattle.semantics.specs.Texts.{has_bar};
 ghost use Rattle.semantics.specs.Patterns.{is_segment, taken, takes_width, segment_text};
+ghost use Rattle.key_ranges.specs.Containing.{is_text, has_text};
 ghost use Rattle.key_pattern.specs.Plain.{plain_segment, plain_segments};
 ghost use Rattle.key_pattern.specs.Places.{CanFill};
 ghost use Rattle.key_pattern.specs.Pieces.{CutsFirst, AddsSegment, Joins};
@@ -27,6 +29,28 @@ fn takes_width(width: u8, text: &str) -> bool
     ensures { result ≡ takes_width width text.now }
 {
     1 <= text.len() && (width == 0 || text.len() == usize::from(width))
+}
+
+/// Whether the text there, if there is one, is this one.
+fn is_text(there: Option<&str>, text: &str) -> bool
+    ensures { result ≡ is_text (option_copied there.entry) text.now }
+{
+    match there {
+        None => false,
+        Some(there) => there == text,
+    }
+}
+
+/// Whether the segment has this text under the slots: a literal its own, and a slot that of its place, where it takes it.
+pub fn has_text(segment: &Segment, text: &str, slots: &Slots<'_>) -> bool
+    ensures { result ≡ has_text (plain_segment segment.now) text.now slots.now }
+{
+    match segment {
+        Segment::Literal(literal) => literal.as_str() == text,
+        Segment::Slot { place, width } => {
+            takes_width(*width, text) && is_text(slots.at(*place), text)
+        }
+    }
 }
 
 /// The slots after the segment has taken the text; none where it does not take it.

@@ -10,10 +10,11 @@ ghost use Rattle.key_ranges.specs.Ranges.{just, prefix_range};
 ghost use Rattle.key_ranges.specs.Containing.{bind_range, pattern_range, containing};
 ghost use Rattle.key_ranges.specs.ContainingLaws.{HoldsFitting, HoldsTogether};
 ghost use Rattle.key_pattern.specs.Plain.{plain_segment, plain_segments};
-ghost use Rattle.key_pattern.specs.Shared.{Shares};
+ghost use Rattle.key_pattern.specs.Shared.{AscendBehind, Shares};
 ghost use Rattle.key_pattern.specs.Fixed.{fixed_text, AddsFixed, JoinsFixed};
 
 use crate::matching::take;
+use crate::narrowing::{narrow, narrowed_range};
 use crate::pattern::Pattern;
 use crate::segment::Segment;
 use crate::slots::Slots;
@@ -22,29 +23,35 @@ use key_space::{Key, KeyFault, Range};
 use out_of_memory::OutOfMemory;
 use std::alloc::Global;
 
-/// A segment that two bounds share, and what is left of each behind it.
+/// A segment that two bounds share, and what is left of each behind it; of the last bound nothing is left where it ends with
+/// `}` behind the segment.
 #[derive(Clone, Copy)]
-struct SharedSegment<'a> {
-    text: &'a str,
-    low: &'a str,
-    high: &'a str,
+pub struct SharedSegment<'a> {
+    pub text: &'a str,
+    pub low: &'a str,
+    pub high: Option<&'a str>,
 }
 
-/// The first segment of two bounds, where both have `|` behind it; or where the last bound has `}` behind it and ends,
-/// which leaves nothing. Linear in the segment.
-fn shared_segment<'a>(low: &'a str, high: &'a str) -> Option<SharedSegment<'a>>
-    requires ascend { is_le (text_cmp low.now high.now) ≡ true }
-    ensures { Shares low.now high.now result }
+/// The first segment of two bounds, where both have `|` behind it, or the last one `}` and ends. None too where nothing is
+/// left of the last bound. Linear in the segment.
+pub fn shared_segment<'a>(low: &'a str, high: Option<&'a str>) -> Option<SharedSegment<'a>>
+    requires ascend { AscendBehind low.now high }
+    ensures { Shares low.now high.entry result }
 {
+    let high = high?;
     let (text, low) = low.split_once('|')?;
     let rest = high.strip_prefix(text)?;
     match rest.strip_prefix('|') {
-        Some(high) => Some(SharedSegment { text, low, high }),
+        Some(high) => Some(SharedSegment {
+            text,
+            low,
+            high: Some(high),
+        }),
         None => if rest == "}" {
             Some(SharedSegment {
                 text,
-                low: "",
-                high: "",
+                low,
+                high: None,
             })
         } else {
             None
@@ -144,7 +151,7 @@ impl Pattern {
         ensures is_pattern { is_pattern self.now ≡ true }
     {
         let mut low = range.lo();
-        let mut high = range.hi();
+        let mut high = Some(range.hi());
         let mut found = Slots::none();
         for segment in self.segments() {
             match shared_segment(low, high) {
@@ -180,9 +187,11 @@ impl Pattern {
     }
 
     /// The range that holds every key which fits the pattern together with an output key of the range, under the slots or
-    /// under more. None only where there is no such key of at most 512 bytes. Linear in the texts.
+    /// under more. None only where there is no such key of at most 512 bytes. Linear in the bounds.
     ///
-    /// It is the pattern's prefix range: the range of the output does not narrow it yet.
+    /// It is the pattern's prefix range, narrowed where the pattern's first segment that is open under the slots is a slot
+    /// with a width which also follows, in the output, what the bounds of its range share. Keys are in the order of the
+    /// texts of such a slot, so the bounds of the output's range bound them.
     pub fn containing(
         &self,
         alloc: Global,
@@ -193,6 +202,12 @@ impl Pattern {
         ensures exact { IfOk result (λ found. found ≡ containing self.now slots.now out.now range.now) }
         ensures holds { IfOk result (λ found. (more : plain.Slots) (key output : Text) → HoldsTogether self.now slots.now out.now range.now found more key output) }
     {
-        self.prefix_range(alloc, slots)
+        match narrow(self.segments(), slots, out.segments(), range) {
+            None => self.prefix_range(alloc, slots),
+            Some(ends) => {
+                let fixed = join_fixed(alloc, self.segments(), slots)?;
+                narrowed_range(alloc, fixed.text, ends)
+            }
+        }
     }
 }

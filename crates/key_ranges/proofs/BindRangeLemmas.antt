@@ -11,8 +11,8 @@ use Rattle.semantics.proofs.PieceLemmas.{Lacks, HasParts, parts_of, pieces_lacki
 use Rattle.semantics.proofs.PatternLemmas.{length-no_slots, no_slots_part, IsLeastTake, TakesNone, taken_least, IsWhole, take_all_least}
 use Rattle.semantics.proofs.BindLemmas.{texts-no_slots, texts_bind, length-taken}
 use Rattle.key_ranges.specs.Ranges.{without_last}
-use Rattle.key_ranges.specs.Containing.{shared_beginning, take_first, bind_range}
-use Rattle.key_ranges.specs.ContainingLaws.{shared_texts, HasNoFirst, IsLeastFirst, BindRangeIsLeast, BindRangeIsShared, BindRangeGivesSlots}
+use Rattle.key_ranges.specs.Containing.{shared_beginning, shared_texts, take_first, bind_range}
+use Rattle.key_ranges.specs.ContainingLaws.{HasNoFirst, IsLeastFirst, BindRangeIsLeast, BindRangeIsShared, BindRangeGivesSlots}
 use Rattle.key_ranges.proofs.PrefixLemmas.{rest_of, without_last_push}
 use Rattle.key_ranges.proofs.BeginningLemmas.{shared_is_beginning, within_shared}
 

@@ -1,5 +1,5 @@
--- The prefix range of a pattern, and the containing range of a source.
-use Rattle.std.proofs.Common.{◌≡◌, ◌⊎◌, ℕ, suc, ◌<◌, ◌≤◌, ◌==◌, Bool, true, false, cond, nat_eq, nat_le, List, [], ◌∷◌, ◌++◌, length, Option, Some, None, option_map, MatchOption, refl, sym, ap, ◌∙◌, subst, inl, inr, arith, append_assoc, append-nil, length-append, eqb-true, eq-eqb, leb-true, le-leb}
+-- The prefix range of a pattern.
+use Rattle.std.proofs.Common.{◌≡◌, ◌⊎◌, ℕ, suc, ◌<◌, ◌≤◌, ◌==◌, Bool, true, false, cond, nat_eq, nat_le, List, [], ◌∷◌, ◌++◌, length, Option, Some, None, option_map, refl, sym, ap, ◌∙◌, subst, inl, inr, arith, append_assoc, append-nil, length-append, eqb-true, eq-eqb, leb-true, le-leb}
 use Rattle.std.specs.List.{list_all, join_with_byte, starts_with}
 use Rattle.std.specs.Option.{IsSomeAnd, IfSome}
 use Rattle.std.proofs.lemmas.Bool.{and_parts, and_from, ne_eqb, false≢true}
@@ -10,8 +10,8 @@ use Rattle.semantics.proofs.PieceLemmas.{Lacks, same_itself, join-pieces}
 use Rattle.semantics.proofs.BindLemmas.{texts-no_slots}
 use Rattle.semantics.proofs.PatternLemmas.{text_lacks, segments_of_pattern, two_of_pattern}
 use Rattle.key_ranges.specs.Ranges.{prefix_range, just}
-use Rattle.key_ranges.specs.Containing.{fixed_texts, fixed_range, pattern_range, containing}
-use Rattle.key_ranges.specs.ContainingLaws.{PatternRangeHolds, PatternRangeIsRange, PatternRangeBeginsWithKey, ContainingHolds, ContainingIsRange, LiesIn, ContainingLiesInPrefix}
+use Rattle.key_ranges.specs.Containing.{fixed_texts, fixed_range, pattern_range}
+use Rattle.key_ranges.specs.ContainingLaws.{PatternRangeHolds, PatternRangeIsRange, PatternRangeBeginsWithKey}
 use Rattle.key_ranges.proofs.PrefixLemmas.{begins_with, within-prefix_range, within-just, table_of-append, has_bar-append}
 use Rattle.key_ranges.proofs.RangeLemmas.{prefix_range_is_range, just_is_range}
 
@@ -232,25 +232,3 @@ pattern_range_is_range pattern given ok = less_said IsRange (λ r. is_range r.lo
 pub pattern_range_begins_with_key : PatternRangeBeginsWithKey
 pattern_range_begins_with_key pattern given ok =
     less_said IsRange (λ r. (is_key r.low ≡ true) × (within r r.low ≡ true)) (pattern_range pattern given) (λ r h. (h.1, h.2)) (range_of_pattern pattern given ok)
-
--- ---- the containing range
-
--- every key that fits a source together with an output key of the range lies in the containing range
-pub containing_holds : ContainingHolds
-unfolding containing
-containing_holds source given more output range key out ok output_ok range_ok small fit part inside together = pattern_range_holds source given more key ok small fit part
-
--- a containing range is a range
-pub containing_is_range : ContainingIsRange
-unfolding containing
-containing_is_range source given output range ok output_ok range_ok = pattern_range_is_range source given ok
-
--- a range lies in itself
-lies_in_itself : (o : Option Range) → MatchOption o (o ≡ None) (λ r. LiesIn r o)
-lies_in_itself None = refl
-lies_in_itself (Some r) = λ key h. h
-
--- a containing range lies in the prefix range of the source
-pub containing_lies_in_prefix : ContainingLiesInPrefix
-unfolding containing
-containing_lies_in_prefix source given output range ok output_ok range_ok = lies_in_itself (pattern_range source given)

@@ -6,4 +6,8 @@ pub mod LongestLemmas
 pub mod BindRangeLemmas
 pub mod ContainingLemmas
 pub mod ExactLemmas
+pub mod OpenLemmas
+pub mod CutOrderLemmas
+pub mod NarrowedLemmas
 pub mod OnlyLemmas
+pub mod Computes

@@ -45,15 +45,15 @@ ends_with_push t b = (ends_is Decides-eqb (t ++ b ∷ []) (b ∷ []) _ refl).1 t
 -- ---- ranges by recursion on the key
 
 -- the order of a byte and a greater one
-less_is : (x y : ℕ) → x < y → nat_cmp x y ≡ Less
+pub less_is : (x y : ℕ) → x < y → nat_cmp x y ≡ Less
 less_is x y h = sym (nat_cmp_is x y Less h)
 
 -- of equal bytes
-equal_is : (x y : ℕ) → x ≡ y → nat_cmp x y ≡ Equal
+pub equal_is : (x y : ℕ) → x ≡ y → nat_cmp x y ≡ Equal
 equal_is x y h = sym (nat_cmp_is x y Equal h)
 
 -- of a byte and a lesser one
-greater_is : (x y : ℕ) → y < x → nat_cmp x y ≡ Greater
+pub greater_is : (x y : ℕ) → y < x → nat_cmp x y ≡ Greater
 greater_is x y h = sym (nat_cmp_is x y Greater h)
 
 -- texts that begin alike are in the order of what follows

@@ -1,9 +1,10 @@
 -- What two ranges have in common, the ranges of one beginning and of one key, and the table of a range.
-use Rattle.std.proofs.Common.{◌≡◌, Bool, true, false, cond, ◌&&◌, ◌||◌, nat_eq, nat_le, [], ◌∷◌, ◌++◌, length, Some, None, MatchOption, refl, sym, ap, ◌∙◌, subst, ⊎_elim, arith, length-append, append-nil, leb-true, le-leb}
+use Rattle.std.proofs.Common.{◌≡◌, Bool, true, false, cond, ◌&&◌, ◌||◌, ◌==◌, nat_eq, nat_le, [], ◌∷◌, ◌++◌, length, Some, None, MatchOption, refl, sym, ap, ◌∙◌, subst, ⊎_elim, arith, length-append, append-nil, leb-true, le-leb}
 use Rattle.std.specs.Ordering.{is_le}
 use Rattle.std.specs.List.{starts_with}
 use Rattle.std.specs.Option.{IfSome}
 use Rattle.std.proofs.lemmas.Bool.{false≢true, false_from_ne_true, and_parts, and_from, or_cases, or_left, or_right, cond_both}
+use Rattle.std.proofs.lemmas.List.Folds.{list_any-append}
 use Rattle.semantics.specs.Texts.{Text, bar, brace, same, has_bar, table_of, names_table, ends_range, is_range, Range, within}
 use Rattle.semantics.proofs.PieceLemmas.{equal_by_same, same_itself}
 use Rattle.key_ranges.specs.Ranges.{is_below, is_open, meets, later, earlier, common}
@@ -84,6 +85,20 @@ range_from_bounds low high h = and_from _ _ (and_from _ _ (and_from _ _ (and_fro
 pub bar_of_names : (t : Text) → names_table t ≡ true → has_bar t ≡ true
 bar_of_names t h = (and_parts (has_bar t) _ (and_parts _ _ h).0).0
 
+-- `|` stays in a text with more behind it
+list_any_more : (t more : Text) → has_bar t ≡ true → has_bar (t ++ more) ≡ true
+list_any_more t more h = list_any-append (λ b. b == bar) t more ∙ or_left (has_bar t) (has_bar more) h
+
+-- a text with more behind it names the same table
+pub names_more : (t more : Text) → names_table t ≡ true → names_table (t ++ more) ≡ true
+names_more t more h =
+    let barred = bar_of_names t h in
+    let parts = and_parts _ _ h in
+    let table : table_of (t ++ more) ≡ table_of t = table_of-more t more barred in
+    and_from _ _
+    (and_from _ _ (list_any_more t more barred) (subst (λ name. nat_le 1 (length name) ≡ true) (sym table) (and_parts _ _ parts.0).1))
+    (subst (λ name. nat_le (length name) 64 ≡ true) (sym table) parts.1)
+
 -- a range lies within that of its table
 pub up_to_table : (low high : Text) → is_range low high ≡ true → is_up_to high (table_of low ++ brace ∷ []) ≡ true
 up_to_table low high h = ⊎_elim
@@ -160,7 +175,7 @@ meet_in_table r s hr hs h =
     sym (within_table r low hr both.0) ∙ within_table s low hs both.1
 
 -- whether a last bound is of a table
-abbrev EndsTable : Text → Text → Type 0
+abbrev pub EndsTable : Text → Text → Type 0
 EndsTable table high = (starts_with nat_eq high (table ++ bar ∷ []) || same high (table ++ brace ∷ [])) ≡ true
 
 -- the common part of two ranges that meet is a range

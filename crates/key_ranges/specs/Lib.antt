@@ -2,3 +2,4 @@ pub mod Ranges
 pub mod Containing
 pub mod RangeLaws
 pub mod ContainingLaws
+pub mod Worked

@@ -1,5 +1,5 @@
 // Laws on the slots that ranges share, on the prefix ranges of patterns, and on containing ranges.
-ghost use Rattle.key_ranges.specs.ContainingLaws.{SharedIsLongest, BindRangeIsLeast, BindRangeIsShared, BindRangeGivesSlots, PatternRangeHolds, PatternRangeIsRange, PatternRangeIsExact, PatternRangeBeginsWithKey, ContainingHolds, ContainingIsRange, ContainingLiesInPrefix, OnlyHasPlaces, OnlyIsGiven};
+ghost use Rattle.key_ranges.specs.ContainingLaws.{SharedIsLongest, BindRangeIsLeast, BindRangeIsShared, BindRangeGivesSlots, PatternRangeHolds, PatternRangeIsRange, PatternRangeIsExact, PatternRangeBeginsWithKey, FirstOpenFollowsFixed, OpenAfterShared, ContainingHolds, ContainingIsRange, ContainingLiesInPrefix, OnlyHasPlaces, OnlyIsGiven};
 
 /// The shared beginning of a range is the longest beginning of its first bound that ends with `|` and whose range holds
 /// both bounds.
@@ -43,6 +43,17 @@ pub fn pattern_range_is_exact()
 /// some key of at most 512 bytes begin with the fixed texts.
 pub fn pattern_range_begins_with_key()
     ensures { PatternRangeBeginsWithKey }
+{}
+
+/// The first open segment of a pattern is the one that follows its fixed texts.
+pub fn first_open_follows_fixed()
+    ensures { FirstOpenFollowsFixed }
+{}
+
+/// The segment that follows the shared texts of a range is found exactly where the slots that the range shares are a part
+/// of the given ones; it is the one at that place.
+pub fn open_after_shared()
+    ensures { OpenAfterShared }
 {}
 
 /// Every key that fits a source together with an output key of the range, under slots of which the given ones are a part,

@@ -2,8 +2,9 @@
 // every key that can matter to a range of output keys.
 //
 // It stands on `semantics`. `specs/` has the definitions; the modules below have no code: each public function has an
-// empty body, and its contract is a law on the definitions.
+// empty body, and its contract is a law on the definitions, or a row worked by them.
 #![tactic(auto)]
 
 pub mod containing_laws;
 pub mod range_laws;
+pub mod worked;

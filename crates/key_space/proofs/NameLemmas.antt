@@ -19,7 +19,7 @@ absent_by p [] h = refl
 absent_by p (x ∷ xs) h = absent_cons p x xs (p x) refl h (absent_by p xs)
 
 -- what begins after the name begins after nothing
-starts-append : (t rest needle : Text) → starts_with nat_eq (t ++ rest) (t ++ needle) ≡ starts_with nat_eq rest needle
+pub starts-append : (t rest needle : Text) → starts_with nat_eq (t ++ rest) (t ++ needle) ≡ starts_with nat_eq rest needle
 starts-append [] rest needle = refl
 starts-append (b ∷ bs) rest needle = rw (eq-eqb b b refl) (starts-append bs rest needle)
 

@@ -1,6 +1,7 @@
 // Ranges of keys.
 ghost use Rattle.std.specs.Prelude.{◌≡◌, ◌≤◌, ◌↔◌, ◌<◌, IfOk, length, true, false, [], ◌∷◌, ◌++◌, nat_eq};
 ghost use Rattle.std.specs.List.{ends_with};
+ghost use Rattle.std.specs.String.{string_bytes};
 ghost use Rattle.semantics.specs.Texts.{Range as Bounds, bar, is_key, is_range, table_of, within};
 ghost use Rattle.key_ranges.specs.Ranges.{meets, cut, later, earlier, prefix_range, just};
 ghost use Rattle.key_space.specs.Parts.{ends_table};
@@ -121,6 +122,16 @@ impl Range {
             }),
             _ => Err(RangeFault::OutOfMemory),
         }
+    }
+
+    /// The range between two bounds, which it keeps: no text is copied.
+    pub fn between(low: String, high: String) -> Result<Range, OutOfMemory>
+        requires { is_range (string_bytes low) (string_bytes high) ≡ true }
+        ensures { IfOk result (λ range. range ≡ record { low = string_bytes low; high = string_bytes high }) }
+    {
+        let low = KeyBound::of(ArcStr::from_string(low)?);
+        let high = KeyBound::of(ArcStr::from_string(high)?);
+        Ok(Range { low, high })
     }
 
     /// The first bound.

@@ -1,3 +1,5 @@
+ghost use Rattle.std.specs.Prelude.{◌≡◌, IfOk};
+
 use super::*;
 use out_of_memory::OutOfMemory;
 use std::alloc::{AllocError, Global};
@@ -90,6 +92,25 @@ fn bounds_of_ranges_are_of_one_table(rt: HostRuntime) -> Result<(), Fail> {
             Ok(range) => assert!(rt; ok && range.lo() == low && range.hi() == high),
             Err(fault) => assert!(rt; !ok && fault == RangeFault::BadRange),
         }
+    }
+    Ok(())
+}
+
+/// A range between the texts of the bounds.
+fn made_again(alloc: Global, range: &Range) -> Result<Range, OutOfMemory>
+    ensures { IfOk result (λ again. again ≡ range.now) }
+{
+    let low = String::from_str(alloc, range.lo())?;
+    let high = String::from_str(alloc, range.hi())?;
+    Range::between(low, high)
+}
+
+#[test]
+fn a_range_keeps_its_bounds(rt: HostRuntime) -> Result<(), Fail> {
+    let alloc = rt.alloc();
+    for (low, high) in [("k|a", "k|b"), ("k|", "k}"), ("k|é", "k|é")] {
+        let range = made_again(alloc, &read_range(&rt, alloc, low, high))?;
+        assert!(rt; range.lo() == low && range.hi() == high);
     }
     Ok(())
 }

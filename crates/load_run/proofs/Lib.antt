@@ -1,4 +1,6 @@
-pub mod FreeLemmas
-pub mod ActLemmas
 pub mod LookLemmas
-pub mod TextLemmas
+pub mod AddingLemmas
+pub mod ActLemmas
+pub mod JobLemmas
+pub mod MeetLemmas
+pub mod LoadLemmas

@@ -1,6 +1,6 @@
 -- The text with which the keys of a timeline begin.
-use Rattle.std.proofs.Common.{◌≡◌, ℕ, ◌+◌, ◌-◌, ◌<◌, ◌≤◌, ◌^◌, true, [], ◌∷◌, ◌++◌, length, replicate, decimal, refl, sym, ap, ◌∙◌, arith, length-append, le-leb}
-use Rattle.std.specs.Prelude.{nat_eq, nat_le, codes}
+use Rattle.std.proofs.Common.{◌≡◌, ℕ, ◌-◌, ◌<◌, ◌≤◌, ◌^◌, true, [], ◌∷◌, ◌++◌, length, replicate, decimal, refl, ap, ◌∙◌, arith, length-append, le-leb}
+use Rattle.std.specs.Prelude.{nat_eq, codes}
 use Rattle.std.specs.List.{ends_with}
 use Rattle.std.proofs.lemmas.Bool.{and_from}
 use Rattle.std.proofs.lemmas.Fmt.{length-decimal-le}

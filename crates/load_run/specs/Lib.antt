@@ -1,4 +1,4 @@
-pub mod Entries
-pub mod Lines
-pub mod Free
+pub mod Adding
+pub mod Jobs
+pub mod Meeting
 pub mod Holdings

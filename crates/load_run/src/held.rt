@@ -1,15 +1,19 @@
 // What the tables hold.
-ghost use Rattle.std.specs.Prelude.{◌≡◌, ◌+◌, ◌∷◌, [], true, IfOk, nat_eq};
+ghost use Rattle.std.specs.Prelude.{◌≡◌, ◌+◌, ◌∷◌, [], true, IfOk, OnOk, nat_eq};
 ghost use Rattle.std.specs.List.{ends_with};
 ghost use Rattle.semantics.specs.Texts.{bar, is_key};
-ghost use Rattle.load_run.specs.Lines.{pair_bytes, holding_of, table_holding};
-ghost use Rattle.load_run.specs.Holdings.{plain_holding};
+ghost use Rattle.load_laws.specs.Lines.{pair_bytes, holding_of};
+ghost use Rattle.load_run.specs.Adding.{OnlyReads};
+ghost use Rattle.load_run.specs.Holdings.{plain_holding, IsHeldBetween};
 
+use base_shards::Naming;
 use join_types::Pair;
 use key_space::Range;
 use out_of_memory::OutOfMemory;
+use pequod_cache::Client;
+use pq_io::Gate;
 use std::alloc::Global;
-use world_client::WorldClient;
+use std::sync::Wait;
 
 /// What a table holds.
 #[derive(Clone, Copy, Debug, PartialEq, Eq)]
@@ -18,6 +22,15 @@ pub struct Holding {
     pub count: u64,
     /// How many bytes their keys and values have.
     pub bytes: u64,
+}
+
+/// What a table holds, and after how many entries.
+#[derive(Clone, Copy, Debug, PartialEq, Eq)]
+pub struct Held {
+    /// The number of entries.
+    pub position: u64,
+    /// What it holds then.
+    pub holding: Holding,
 }
 
 /// The sum of two numbers of bytes. Pairs whose texts have 2^64 bytes or more are more than 2^47, for which there is no
@@ -49,18 +62,23 @@ fn holding_of(pairs: &[Pair]) -> Result<Holding, OutOfMemory>
     })
 }
 
-/// What the table whose keys begin with this text holds.
-pub fn table_holding(
+/// What the table whose keys begin with this text holds, after all entries that the history has now.
+pub fn table_held<N: Naming, G: Gate, R: Wait>(
+    rt: &R,
     alloc: Global,
-    client: &mut WorldClient,
+    client: &mut Client<'_, N, G>,
     prefix: &str,
-) -> Result<Holding, OutOfMemory>
+) -> Result<Held, OutOfMemory>
     requires key { is_key prefix.now ≡ true }
     requires ends { ends_with nat_eq prefix.now (bar ∷ []) ≡ true }
-    ensures holding { IfOk result (λ holding. plain_holding holding ≡ table_holding prefix.now client.old) }
-    ensures same { client.new ≡ client.old }
+    ensures held { IfOk result (λ held. IsHeldBetween client.old.view client.new.view prefix.now held) }
+    ensures reads { OnOk result (OnlyReads client.old client.new) }
 {
     let range = Range::prefix_range(alloc, prefix)?;
-    let reading = client.read(&range)?;
-    holding_of(reading.pairs.as_slice())
+    let found = client.read(rt, &range)?;
+    let holding = holding_of(found.pairs.as_slice())?;
+    Ok(Held {
+        position: found.position,
+        holding,
+    })
 }

@@ -1,15 +1,21 @@
-// A load: acts that are drawn, done by one client over the core, and the line that tells what stands then.
+// A load: acts that are drawn, done by workers over one cache, and the line that tells what stands then.
 //
-// It stands on `load_gen` for the acts and the joins, on `world_client` for the client, on `request_codec` for the line, on
-// `join_types`, `key_space` and `out_of_memory`, and, for its definitions, on `semantics` and `protocol`; its proofs cite lemmas of
-// `key_ranges` and `growing_history`. The layers above may use `load_text` and `Load`.
+// It stands on `load_gen` for the acts and the joins, on `load_laws` for what a load writes and its line, on `pequod_cache` for the
+// clients, with `base_shards` for the name of a history and `pq_io` for gates, on `request_codec` for the line, on `join_types`,
+// `key_space` and `out_of_memory`, and, for its definitions, on `semantics`, `protocol` and `write_history`. The layers above may
+// use `load_text` and `Load`.
 #![tactic(auto)]
 
 mod acting;
+mod declaring;
 mod held;
-pub mod text;
+mod jobs;
+pub mod loading;
+mod reading;
+mod text;
+mod working;
 
-pub use text::{Load, load_text};
+pub use loading::{Load, load_text};
 
 #[cfg(test)]
 mod tests;

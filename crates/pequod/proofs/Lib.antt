@@ -1,3 +1,4 @@
 pub mod RoomLemmas
 pub mod ReplayLemmas
 pub mod FileLemmas
+pub mod RunLemmas

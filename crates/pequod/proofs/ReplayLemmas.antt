@@ -1,5 +1,5 @@
 -- What is printed about a script, by what it was read as.
-use Rattle.std.proofs.Common.{◌≡◌, ℕ, Bool, List, [], ◌∷◌, map, Ok, Err, refl, sym, ap, ap₂, ◌∙◌}
+use Rattle.std.proofs.Common.{◌≡◌, ℕ, List, [], ◌∷◌, map, Ok, Err, refl, ap, ◌∙◌}
 use Rattle.semantics.specs.Texts.{Text}
 use Rattle.protocol.specs.JoinsFile.{refused_row}
 use Rattle.core_events.specs.Events.{Event, is_cell_event}

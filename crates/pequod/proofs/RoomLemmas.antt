@@ -1,5 +1,5 @@
 -- The numbers in a command lie within their limits.
-use Rattle.std.proofs.Common.{◌≡◌, ℕ, ◌+◌, ◌-◌, ◌^◌, ◌≤◌, ◌==◌, Bool, true, false, List, [], ◌∷◌, Option, Some, None, refl, sym, subst, lit≤}
+use Rattle.std.proofs.Common.{◌≡◌, ℕ, ◌-◌, ◌≤◌, Bool, true, false, List, [], ◌∷◌, Option, Some, None, refl, subst, lit≤}
 use Rattle.std.specs.Prelude.{◌&&◌, codes, nat_le, if◌then◌else◌, option_map, option_and_then, IfSome}
 use Rattle.std.proofs.lemmas.Bool.{leb-true}
 use Rattle.semantics.specs.Texts.{Text, same}
@@ -14,8 +14,10 @@ pub record IsRoom (room : Room) : Type 0 where
   pub some_rows : 1 ≤ room.rows
 
 -- so do the numbers of a load
-pub record IsLoad (room : Room) (steps users : ℕ) : Type 0 where
+pub record IsLoad (room : Room) (workers steps users : ℕ) : Type 0 where
   pub keeps : IsRoom room
+  pub some_workers : 1 ≤ workers
+  pub few_workers : workers ≤ 64
   pub few_steps : steps ≤ 1000000
   pub some_users : 1 ≤ users
   pub few_users : users ≤ 9999
@@ -32,7 +34,7 @@ IsWithin (run room) = IsRoom room
 IsWithin (serve address room workers links joins) = IsServe room workers
 IsWithin (check file) = Unit {0}
 IsWithin (replay file room) = IsRoom room
-IsWithin (load room workers number steps users) = IsLoad room steps users
+IsWithin (load room workers number steps users) = IsLoad room workers steps users
 
 -- ---- numbers
 
@@ -112,10 +114,10 @@ load_within : (args : List Argument) → IfSome (load_of args) IsWithin
 load_within args =
     chosen (are_taken load_options args && is_unnamed (given_once words args)) _ None
     (followed IsRoom (room_of args) _ (room_within args) (λ room h.
-    followed_any (workers_of 1 args) _ (λ workers. followed_any (seed_of args) _ (λ number.
+    followed (LiesWithin 1 64) (workers_of 1 args) _ (number_lies (codes "workers") 1 64 1 args (lit≤ tt) (lit≤ tt)) (λ workers several. followed_any (seed_of args) _ (λ number.
     followed (LiesWithin 0 1000000) (steps_of args) _ (number_lies (codes "steps") 0 1000000 10000 args (lit≤ tt) (lit≤ tt)) (λ steps few.
     mapped (LiesWithin 1 9999) (users_of args) (load room workers number steps) (number_lies (codes "users") 1 9999 100 args (lit≤ tt) (lit≤ tt)) (λ users some.
-    record { keeps = h; few_steps = few.1; some_users = some.0; few_users = some.1 }))))))
+    record { keeps = h; some_workers = several.0; few_workers = several.1; few_steps = few.1; some_users = some.0; few_users = some.1 }))))))
     tt
 
 by_within : (word : Text) (args : List Argument) → IfSome (command_by word args) IsWithin

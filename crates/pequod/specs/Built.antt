@@ -1,19 +1,11 @@
 -- The commands that the program does.
-use Rattle.std.specs.Prelude.{ℕ, ◌==◌, List, Bool, true, false, if◌then◌else◌, Option, Some, None, option_and_then}
+use Rattle.std.specs.Prelude.{ℕ, List, Bool, true, false, Option, Some, None}
 use Rattle.semantics.specs.Texts.{Text}
 use Rattle.command_words.specs.Commands.{Command, run, serve, check, replay, load, command_of}
 
--- the command, where the program does it: a load has one worker
-abbrev pub built : Command → Option Command
-built (run room) = Some (run room)
-built (serve address room workers links joins) = Some (serve address room workers links joins)
-built (check file) = Some (check file)
-built (replay file room) = Some (replay file room)
-built (load room workers number steps users) = if workers == 1 then Some (load room workers number steps users) else None
-
--- the command that words form, where the program does it
+-- the command that words form: the program does each of them
 abbrev pub built_command : List Text → Option Command
-built_command words = option_and_then built (command_of words)
+built_command words = command_of words
 
 -- whether a command reads the source; the words may form none
 abbrev pub uses_source : Option Command → Bool

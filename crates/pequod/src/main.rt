@@ -1,8 +1,8 @@
 // Pequod: an ordered key-value cache with cache joins, as a program.
 //
 // `main` makes the real source, sink, shelf and doors and hands them to the top call, `top::pequod`, which does all that the
-// program does and carries its contract. The crate stands on `command_words` for the words, on `session` and `world_client` for
-// `run`, on `server` and `pequod_cache` for `serve`, on `joins_file` for `check` and `serve`, on `event_script` and `scan_core` for
+// program does and carries its contract. The crate stands on `command_words` for the words, on `session`, `pequod_cache` and
+// `base_shards` for `run`, on `server` for `serve`, on `joins_file` for `check` and `serve`, on `event_script` and `scan_core` for
 // `replay`, on `load_run` for `load`, on `clap` of the toolchain for the text that says how it is called, and on what is below
 // them.
 #![tactic(auto)]

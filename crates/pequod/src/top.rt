@@ -26,11 +26,10 @@ use std::thread::Threads;
 /// `run` answers one client's lines from the source into the sink. `check FILE` takes a joins file from the shelf and
 /// writes about it into the sink. `replay FILE` takes a script from the shelf and writes the answers to its events. `load`
 /// does acts that are drawn and writes what stands then. `serve ADDRESS` declares the joins of a joins file, if one is named,
-/// opens the doors and answers the lines of each link that they give. Words that form no command have status 2, and so has a
-/// load by more than one worker. What a command does not use is unchanged: `run` leaves the shelf and the doors, `check` and
-/// `replay` the source and the doors, `load` all but the sink, `serve` the source, and no command all four. With status 6
-/// source and sink are unchanged, and the doors hold what they held. The gate is passed before a range of a join's output is
-/// filled or mended for a link.
+/// opens the doors and answers the lines of each link that they give. Words that form no command have status 2. What a command
+/// does not use is unchanged: `run` leaves the shelf and the doors, `check` and `replay` the source and the doors, `load` all but
+/// the sink, `serve` the source, and no command all four. With status 6 source and sink are unchanged, and the doors hold what
+/// they held. The gate is passed before a range of a join's output is filled or mended for a link or for a worker of a load.
 pub fn pequod<
     R: Threads + Wait + Sync,
     S: Source,
@@ -118,7 +117,7 @@ pub fn pequod<
             };
             serve(rt, alloc, serving, sink, shelf, doors, gate)
         }
-        Some(Command::Run(room)) => run(alloc, room, source, sink),
+        Some(Command::Run(room)) => run(rt, alloc, room, source, sink, gate),
         Some(Command::Check(name)) => check(alloc, name, sink, shelf),
         Some(Command::Replay { file, room }) => replay(alloc, file, room, sink, shelf),
         Some(
@@ -130,15 +129,13 @@ pub fn pequod<
                 users,
             },
         ) => {
-            if workers != 1 {
-                return Status::WORDS;
-            }
             let plan = Load {
                 number,
                 steps,
                 users,
+                workers,
             };
-            load(alloc, room, plan, sink)
+            load(rt, alloc, room, plan, sink, gate)
         }
     }
 }

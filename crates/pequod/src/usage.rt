@@ -54,7 +54,7 @@ fn with_room(alloc: Global, command: Command<'static>) -> Result<Command<'static
 /// `load` with its options.
 fn load_command(alloc: Global, name: &'static str) -> Result<Command<'static>, OutOfMemory> {
     let about = "Do acts that are drawn, and write what stands then";
-    let workers = number_option(alloc, "workers", "1", "How many workers act: 1");
+    let workers = number_option(alloc, "workers", "1", "How many workers act: 1 to 64");
     let number = number_option(alloc, "number", "1", "What the acts are drawn from");
     let steps = number_option(
         alloc,

@@ -1,14 +1,17 @@
 -- A client between calls, and the passes of new ones.
-use Rattle.std.proofs.Common.{◌≡◌, ◌<◌, Option, Some, List, [], ◌∷◌, ◌++◌, length, refl, ap, sym, ◌∙◌, subst, arith}
+use Rattle.std.proofs.Common.{◌≡◌, ℕ, zero, suc, ◌+◌, ◌-◌, ◌<◌, Option, Some, List, [], ◌∷◌, ◌++◌, length, get_or, refl, ap, sym, ◌∙◌, subst, arith}
 use Rattle.std.specs.Prelude.{slice_get}
 use Rattle.std.proofs.lemmas.List.{length-append}
 use Rattle.std.proofs.lemmas.Option.{same_Some}
 use Rattle.atomic_table.specs.Seated.{TableId}
+use Rattle.semantics.proofs.EnteredLemmas.{AllEntered-nil}
 use Rattle.join_set.specs.Summaries.{Summary}
 use Rattle.write_history.specs.Passes.{PassView, GoesOn, new_pass}
+use Rattle.write_history.specs.Entries.{IsRecorded}
 use Rattle.base_shards.specs.Reading.{ReadsOn}
-use Rattle.pequod_cache.specs.Clients.{KeepsJoins, IsClient}
-use Rattle.pequod_cache.specs.Sitting.{AreWriters}
+use Rattle.base_shards.proofs.ReadingLemmas.{reads_on-refl}
+use Rattle.pequod_cache.specs.Clients.{KeepsJoins, IsClient, IsUpdater}
+use Rattle.pequod_cache.specs.Sitting.{AreWriters, IsFresh}
 use Rattle.pequod_cache.proofs.JoinsLemmas.{keeps_longer}
 
 -- with a pass that has gone on
@@ -39,6 +42,30 @@ client_reads_on history pass old looked brought new before joins client is goes 
       kept = keeps_longer joins looked.view new.view on.begins kept;
     }
 
+-- an updater with a pass that looked and then read on, and with joins that were brought there
+pub updater_reads_on : (history : TableId) (pass : Option PassView) (old looked brought new : PassView) (before joins : Summary) → IsUpdater history pass before → pass ≡ Some old →
+    GoesOn old looked → brought ≡ looked → KeepsJoins joins looked.view → ReadsOn brought new → IsUpdater history (Some new) joins
+updater_reads_on history pass old looked brought new before joins updater is goes stays kept reads =
+    let on : ReadsOn looked new = subst (λ (p : PassView). ReadsOn p new) stays reads in
+    record {
+      has = new;
+      is = refl;
+      same_history = on.same_history ∙ goes.same_history ∙ sym (ap (λ (p : PassView). p.history) (same_Some updater.has old (sym updater.is ∙ is))) ∙ updater.same_history;
+      recorded = on.recorded goes.recorded;
+      kept = keeps_longer joins looked.view new.view on.begins kept;
+    }
+
+-- with a pass that looked alone, and joins that were brought nearer
+pub updater_stays : (history : TableId) (pass : Option PassView) (old looked brought : PassView) (before joins : Summary) → IsUpdater history pass before → pass ≡ Some old →
+    GoesOn old looked → brought ≡ looked → KeepsJoins joins looked.view → IsUpdater history (Some brought) joins
+updater_stays history pass old looked brought before joins updater is goes stays kept =
+    updater_reads_on history pass old looked brought brought before joins updater is goes stays kept (reads_on-refl brought)
+
+-- a pass that has seen nothing may have seen that
+pub fresh_is_recorded : (history : TableId) (pass : PassView) → IsFresh history pass → IsRecorded pass.writers pass.view
+fresh_is_recorded history pass fresh =
+    subst (IsRecorded pass.writers) (sym fresh.unseen) (record { entered = record { entered = AllEntered-nil; writes = tt }; below = tt })
+
 -- an element of a list stands where those before it end
 at_seam : {A : Type 0} (before after : List A) (x : A) → slice_get (before ++ x ∷ after) (length before) ≡ Some x
 at_seam [] after x = refl
@@ -56,3 +83,27 @@ next_writer history all done left after pass are whole next =
     let is : pass ≡ new_pass history (length all) (length done) =
     same_Some pass (new_pass history (length all) (length done)) (sym (at_seam done after pass) ∙ ap (λ xs. slice_get xs (length done)) split ∙ are.each (length done) within) in
     (ap (λ (p : PassView). p.history) is, omega (arith, within, ap (λ (p : PassView). p.number) is, ap (λ (p : PassView). p.writers) is))
+
+-- the last of one new client is the first
+pub only_client : (history : TableId) (count len : ℕ) (all : List PassView) (client : PassView) → count ≡ 1 → len ≡ 1 → Some client ≡ Some (get_or all (len - 1) client) →
+    slice_get all 0 ≡ Some (new_pass history count 0) → client ≡ new_pass history 1 0
+only_client history count len [] client one single last first = absurd (cc)
+only_client history count len (x ∷ others) client one single last first =
+    let at : len - 1 ≡ 0 = omega arith in
+    let same : client ≡ x = same_Some client x (last ∙ ap (λ i. Some (get_or (x ∷ others) i client)) at) in
+    same ∙ same_Some x (new_pass history count 0) first ∙ ap (λ n. new_pass history n 0) one
+
+-- an element of a list is one of a longer list
+pub first_of : {A : Type 0} (before after : List A) (number : ℕ) → number < length before → slice_get before number ≡ slice_get (before ++ after) number
+first_of [] after number less = absurd (omega arith)
+first_of (x ∷ before) after zero less = refl
+first_of (x ∷ before) after (suc number) less = first_of before after number (omega arith)
+
+-- the last of the passes that a history was made with has seen nothing
+pub last_is_fresh : (history : TableId) (writers count : ℕ) (all before : List PassView) (last : PassView) → all ≡ before ++ last ∷ [] → length all ≡ count →
+    ((number : ℕ) → number < count → slice_get all number ≡ Some (new_pass history writers number)) → IsFresh history last
+last_is_fresh history writers count all before last is counted each =
+    let whole : length all ≡ length before + 1 = ap (λ xs. length xs) is ∙ length-append before (last ∷ []) in
+    let new : last ≡ new_pass history writers (length before) =
+    same_Some last (new_pass history writers (length before)) (sym (at_seam before [] last) ∙ ap (λ xs. slice_get xs (length before)) (sym is) ∙ each (length before) (omega (arith, whole, counted))) in
+    record { same_history = ap (λ (p : PassView). p.history) new; unseen = ap (λ (p : PassView). p.view) new }

@@ -27,6 +27,14 @@ pub record IsClient (history : TableId) (pass : Option PassView) (joins : Summar
   pub recorded : IsRecorded has.writers has.view
   pub kept : KeepsJoins joins has.view
 
+-- the updater has a pass of the history, which may have seen what it has, and the joins after a beginning of that
+pub record IsUpdater (history : TableId) (pass : Option PassView) (joins : Summary) : Type 0 where
+  pub has : PassView
+  pub is : pass ≡ Some has
+  pub same_history : has.history ≡ history
+  pub recorded : IsRecorded has.writers has.view
+  pub kept : KeepsJoins joins has.view
+
 -- a range was read after all entries that the client had seen, and those that it saw then: between what it has seen before and after, it has written nothing
 pub record IsFound (before after : PassView) (range : Range) (position : ℕ) (pairs : Table) : Type 0 where
   pub seen : History

@@ -1,2 +1,3 @@
 pub mod Clients
 pub mod Sitting
+pub mod Alone

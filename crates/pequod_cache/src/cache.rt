@@ -2,17 +2,18 @@
 ghost use Rattle.std.specs.Prelude.{◌≡◌, ℕ, ◌<◌, ◌≤◌, length, slice_get, IfOk, Some};
 ghost use Rattle.std.specs.Arc.{arc_value};
 ghost use Rattle.write_history.specs.Passes.{new_pass};
-ghost use Rattle.pequod_cache.specs.Sitting.{AreOf, AreWriters};
+ghost use Rattle.pequod_cache.specs.Sitting.{AreOf, AreWriters, IsFresh};
 
 use crate::client::Client;
 use crate::seats::Seats;
+use crate::updater::Updater;
 use base_shards::{BaseShards, Naming};
 use out_of_memory::OutOfMemory;
 use pq_io::Gate;
 use range_cells::RangeCells;
 use std::alloc::Global;
 use std::sync::Arc;
-use write_history::History;
+use write_history::{History, Pass};
 
 /// What all clients of a cache share: the write history, the base pairs, and what is kept of the joins' outputs.
 #[derive(Drop)]
@@ -25,9 +26,50 @@ pub struct Cache<N: Naming> {
 }
 
 impl<N: Naming> Cache<N> {
+    /// A cache with nothing kept, over a history, with passes for the parts of the base pairs and for cells.
+    fn share(
+        alloc: Global,
+        history: History,
+        shards: Vec<Pass>,
+        cells: Vec<Pass>,
+        limit: u64,
+    ) -> Result<Arc<Cache<N>>, OutOfMemory>
+        requires named { history ≡ N.history }
+        requires shards { AreOf N.history 16 shards.items }
+        requires cells { AreOf N.history (length cells.items) cells.items }
+        requires some_cells { 1 ≤ length cells.items }
+        requires few_cells { length cells.items ≤ 65536 }
+        requires limit { 1 ≤ limit }
+    {
+        let ids = cells.len() as u32;
+        let history = Arc::new(alloc, history)?;
+        let shards = BaseShards::new(alloc, Arc::try_clone(&history)?, shards, ids)?;
+        let shards = Arc::new(alloc, shards)?;
+        let cells = RangeCells::new(alloc, Arc::try_clone(&history)?, shards, cells, limit)?;
+        Ok(Arc::new(alloc, Cache { history, cells })?)
+    }
+
+    /// A client of a cache for each of the passes, in order.
+    fn seat<'g, G: Gate>(
+        alloc: Global,
+        cache: &Arc<Cache<N>>,
+        passes: Vec<Pass>,
+        gate: &'g G,
+    ) -> Result<Vec<Client<'g, N, G>>, OutOfMemory>
+        requires { AreWriters N.history (length passes.items) passes.items }
+        ensures { IfOk result (λ clients. clients.items ≡ passes.items) }
+    {
+        let mut clients = Vec::with_capacity(alloc, passes.len())?;
+        for pass in passes {
+            clients.push(Client::new(alloc, Arc::try_clone(cache)?, pass, gate))?;
+        }
+        Ok(clients)
+    }
+
     /// The clients of a new cache, in order of their numbers: as many as there are passes for them. It keeps ranges in as many
-    /// cells as there are passes for these, whose rows and one more for each are at most the limit together. Before a range is
-    /// filled or mended the gate is passed. What is kept is allocated by this allocator. Linear in the passes.
+    /// cells as there are passes for these, whose rows and one more for each are at most the limit together, as they were when
+    /// they were last read. Before a range is filled or mended the gate is passed. What is kept is allocated by this allocator.
+    /// Nothing brings kept ranges forward but reads. Linear in the passes.
     ///
     /// It may report that it found no memory.
     pub fn make<'g, G: Gate>(
@@ -46,16 +88,33 @@ impl<N: Naming> Cache<N> {
         ensures count { IfOk result (λ clients. length clients.items ≡ length seats.clients.items) }
         ensures each { IfOk result (λ clients. (number : ℕ) → number < length seats.clients.items → slice_get clients.items number ≡ Some (new_pass N.history (length seats.clients.items) number)) }
     {
-        let ids = seats.cells.len() as u32;
-        let history = Arc::new(alloc, seats.history)?;
-        let shards = BaseShards::new(alloc, Arc::try_clone(&history)?, seats.shards, ids)?;
-        let shards = Arc::new(alloc, shards)?;
-        let cells = RangeCells::new(alloc, Arc::try_clone(&history)?, shards, seats.cells, limit)?;
-        let cache = Arc::new(alloc, Cache { history, cells })?;
-        let mut clients = Vec::with_capacity(alloc, seats.clients.len())?;
-        for pass in seats.clients {
-            clients.push(Client::new(alloc, Arc::try_clone(&cache)?, pass, gate))?;
-        }
-        Ok(clients)
+        let cache = Cache::share(alloc, seats.history, seats.shards, seats.cells, limit)?;
+        Cache::seat(alloc, &cache, seats.clients, gate)
+    }
+
+    /// The clients of a new cache, as `make` gives them, and an updater of the cache, which has seen nothing.
+    ///
+    /// It may report that it found no memory.
+    pub fn make_with_updater<'g, G: Gate>(
+        alloc: Global,
+        seats: Seats,
+        limit: u64,
+        gate: &'g G,
+    ) -> Result<(Vec<Client<'g, N, G>>, Updater<'g, N, G>), OutOfMemory>
+        requires named { seats.history ≡ N.history }
+        requires clients { AreWriters N.history (length seats.clients.items) seats.clients.items }
+        requires shards { AreOf N.history 16 seats.shards.items }
+        requires cells { AreOf N.history (length seats.cells.items) seats.cells.items }
+        requires some_cells { 1 ≤ length seats.cells.items }
+        requires few_cells { length seats.cells.items ≤ 65536 }
+        requires updater { IsFresh N.history seats.updater }
+        requires limit { 1 ≤ limit }
+        ensures count { IfOk result (λ made. length made.0.items ≡ length seats.clients.items) }
+        ensures each { IfOk result (λ made. (number : ℕ) → number < length seats.clients.items → slice_get made.0.items number ≡ Some (new_pass N.history (length seats.clients.items) number)) }
+        ensures updater { IfOk result (λ made. IsFresh N.history made.1) }
+    {
+        let cache = Cache::share(alloc, seats.history, seats.shards, seats.cells, limit)?;
+        let clients = Cache::seat(alloc, &cache, seats.clients, gate)?;
+        Ok((clients, Updater::new(alloc, cache, seats.updater, gate)))
     }
 }

@@ -1,11 +1,11 @@
 // A client of the cache.
-ghost use Rattle.std.specs.Prelude.{◌≡◌, ◌<◌, ◌∷◌, [], IfOk};
+ghost use Rattle.std.specs.Prelude.{◌≡◌, ◌≢◌, ◌<◌, ◌∷◌, [], IfOk};
 ghost use Rattle.semantics.specs.Histories.{put, remove, declare};
 ghost use Rattle.semantics.specs.Answers.{get, scan};
 ghost use Rattle.protocol.specs.Requests.{write, read};
 ghost use Rattle.protocol.specs.Told.{Told};
 ghost use Rattle.join_types.specs.Writes.{plain_write};
-ghost use Rattle.request_codec.specs.Plain.{plain_reply};
+ghost use Rattle.request_codec.specs.Plain.{plain_reply, plain_request};
 ghost use Rattle.write_history.specs.Entries.{IsRecorded};
 ghost use Rattle.write_history.specs.Passes.{GoesOn, own};
 ghost use Rattle.pequod_cache.specs.Clients.{IsFound};
@@ -19,7 +19,7 @@ use key_space::{Key, Range, Value};
 use out_of_memory::OutOfMemory;
 use pq_io::Gate;
 use range_cells::Reading;
-use request_codec::Reply;
+use request_codec::{Reply, Request};
 use std::alloc::Global;
 use std::marker::{Brand, Model};
 use std::sync::ledger::{Blank, Ledger};
@@ -206,6 +206,22 @@ impl<'g, N: Naming, G: Gate> Client<'g, N, G> {
         match self.read(rt, range) {
             Ok(Found { position, pairs }) => Reply::Pairs(position, pairs),
             Err(OutOfMemory) => Reply::Memory,
+        }
+    }
+
+    /// Answers a request other than `Quit`, as the call for it does.
+    pub fn answer<R: Wait>(&mut self, rt: &R, request: Request) -> Reply
+        requires { request ≢ Request.Quit }
+        ensures told { Told self.old.view self.new.view self.old.number (plain_request request ∷ []) (plain_reply result ∷ []) }
+        ensures goes_on { GoesOn self.old self.new }
+    {
+        match request {
+            Request::Put(key, value) => self.put(rt, key, value),
+            Request::Remove(key) => self.remove(rt, key),
+            Request::Declare(join) => self.declare(rt, join),
+            Request::Get(key) => self.get(rt, &key),
+            Request::Scan(range) => self.scan(rt, &range),
+            Request::Quit => unreachable!(),
         }
     }
 

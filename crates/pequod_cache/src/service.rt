@@ -23,13 +23,6 @@ impl<'a, 'g, R: Wait, N: Naming, G: Gate> Service for ClientService<'a, 'g, R, N
     ghost view = { λ s. s.client.view };
 
     fn answer(&mut self, request: Request) -> Reply {
-        match request {
-            Request::Put(key, value) => self.client.put(self.rt, key, value),
-            Request::Remove(key) => self.client.remove(self.rt, key),
-            Request::Declare(join) => self.client.declare(self.rt, join),
-            Request::Get(key) => self.client.get(self.rt, &key),
-            Request::Scan(range) => self.client.scan(self.rt, &range),
-            Request::Quit => unreachable!(),
-        }
+        self.client.answer(self.rt, request)
     }
 }

@@ -1,14 +1,17 @@
 // What clients are told on their links, alone and beside others, and each call once, with ample memory.
+mod drawn;
+
 ghost use Rattle.std.specs.Prelude.{◌≡◌, ◌≤◌, IfOk, length};
-ghost use Rattle.pequod_cache.specs.Sitting.{AreOf, AreWriters};
+ghost use Rattle.pequod_cache.specs.Sitting.{AreOf, AreWriters, IsFresh};
 
 use super::*;
 use base_shards::Naming;
+use join_lang::parse;
 use key_space::{Key, Range, Value};
 use out_of_memory::OutOfMemory;
 use pq_io::{MemLink, MemSink, MemSource, OpenGate};
 use request_codec::Reply;
-use session::{End, serve_link};
+use session::{End, Service, serve_link};
 use std::alloc::Global;
 use std::marker::Brand;
 use std::process::Abort;
@@ -77,8 +80,26 @@ fn make_seats(alloc: Global, clients: u32) -> Result<Seats, OutOfMemory>
     ensures shards { IfOk result (λ seats. AreOf seats.history 16 seats.shards.items) }
     ensures cells { IfOk result (λ seats. AreOf seats.history (length seats.cells.items) seats.cells.items) }
     ensures count { IfOk result (λ seats. length seats.cells.items ≡ 4) }
+    ensures updater { IfOk result (λ seats. IsFresh seats.history seats.updater) }
 {
     Seats::make(alloc, clients, 4)
+}
+
+/// The service answers a line on a link with this line.
+fn expect_line<S: Service, R: Abort>(
+    rt: &R,
+    alloc: Global,
+    service: &mut S,
+    line: &str,
+    wanted: &str,
+) -> Result<(), Fail> {
+    let bytes = line.as_bytes().to_vec(alloc)?;
+    let source = MemSource::new(bytes, Vec::new(alloc), Vec::new(alloc));
+    let mut link = MemLink::new(source, MemSink::new(alloc, Vec::new(alloc)));
+    assert_eq!(rt; serve_link(alloc, service, &mut link), End::Closed);
+    let wanted = format!(in alloc; "{wanted}\n")?;
+    assert_eq!(rt; link.bytes(), wanted.as_bytes(), "{line}");
+    Ok(())
 }
 
 /// Each row is a link of its client, one after another.
@@ -101,12 +122,7 @@ fn run<N: Naming, R: Wait + Abort>(
     }
     for (number, line, wanted) in rows {
         let service = services.get_mut(*number).expect(rt, "a client");
-        let bytes = line.as_bytes().to_vec(alloc)?;
-        let source = MemSource::new(bytes, Vec::new(alloc), Vec::new(alloc));
-        let mut link = MemLink::new(source, MemSink::new(alloc, Vec::new(alloc)));
-        assert_eq!(rt; serve_link(alloc, service, &mut link), End::Closed);
-        let wanted = format!(in alloc; "{wanted}\n")?;
-        assert_eq!(rt; link.bytes(), wanted.as_bytes(), "{line}");
+        expect_line(rt, alloc, service, line, wanted)?;
     }
     Ok(())
 }
@@ -213,4 +229,88 @@ fn two_threads_put_and_meet(rt: HostRuntime) -> Result<(), Fail> {
     let alloc = rt.alloc();
     let seats = make_seats(alloc, 2)?;
     two_put_and_meet::<Brand, _>(&rt, alloc, &OpenGate, seats)
+}
+
+/// Puts the value at the key, as the entry at a position.
+fn put_at<N: Naming, R: Wait + Abort>(
+    rt: &R,
+    alloc: Global,
+    client: &mut Client<'_, N, OpenGate>,
+    pair: (&str, &str),
+    wanted: u64,
+) {
+    let key = Key::read(alloc, pair.0).expect(rt, "a key");
+    let value = Value::read(alloc, pair.1).expect(rt, "a value");
+    let Reply::Done(position) = client.put(rt, key, value) else {
+        panic!(rt; "no cause against it")
+    };
+    assert_eq!(rt; position, wanted);
+}
+
+/// How many pairs of a user's timeline there are, and after how many entries.
+fn count_timeline<N: Naming, R: Wait + Abort>(
+    rt: &R,
+    alloc: Global,
+    client: &mut Client<'_, N, OpenGate>,
+) -> (u64, usize) {
+    let range = Range::read(alloc, "t|ann|", "t|ann}").expect(rt, "a range");
+    let found = client.read(rt, &range).expect(rt, "memory");
+    (found.position, found.pairs.len())
+}
+
+/// Declares the join of timelines, puts a subscription and a post, and reads the timeline.
+fn begin_timeline<N: Naming, R: Wait + Abort>(
+    rt: &R,
+    alloc: Global,
+    client: &mut Client<'_, N, OpenGate>,
+) {
+    let text = "t|<user>|<time>|<poster> = check s|<user>|<poster> copy p|<poster>|<time>";
+    let join = parse(alloc, text).expect(rt, "a join");
+    assert!(rt; matches!(client.declare(rt, join), Reply::Done(1)));
+    put_at(rt, alloc, client, ("s|ann|bob", "1"), 2);
+    put_at(rt, alloc, client, ("p|bob|100", "Hi"), 3);
+    assert_eq!(rt; count_timeline(rt, alloc, client), (3, 1));
+}
+
+/// A put marks the cell of the range that reads it, and the updater brings that forward, once.
+fn put_and_turn<N: Naming, R: Wait + Abort>(
+    rt: &R,
+    alloc: Global,
+    client: &mut Client<'_, N, OpenGate>,
+    updater: &mut Updater<'_, N, OpenGate>,
+) {
+    begin_timeline(rt, alloc, client);
+    assert_eq!(rt; updater.turn(rt), Turn::Idle);
+    put_at(rt, alloc, client, ("p|bob|120", "Yo"), 4);
+    let position = Some(4);
+    assert_eq!(rt; updater.turn(rt), Turn::Brought { id: 3, position });
+    assert_eq!(rt; updater.turn(rt), Turn::Idle);
+    assert_eq!(rt; count_timeline(rt, alloc, client), (4, 2));
+}
+
+/// Makes a cache with an updater, and has a client put and the updater turn.
+fn make_and_turn<N: Naming, R: Wait + Abort>(
+    rt: &R,
+    alloc: Global,
+    gate: &OpenGate,
+    seats: Seats,
+) -> Result<(), Fail>
+    requires named { seats.history ≡ N.history }
+    requires clients { AreWriters N.history (length seats.clients.items) seats.clients.items }
+    requires shards { AreOf N.history 16 seats.shards.items }
+    requires cells { AreOf N.history (length seats.cells.items) seats.cells.items }
+    requires count { length seats.cells.items ≡ 4 }
+    requires updater { IsFresh N.history seats.updater }
+{
+    let (mut clients, mut updater) = Cache::<N>::make_with_updater(alloc, seats, 1_000, gate)?;
+    let mut client = clients.pop().expect(rt, "a client");
+    put_and_turn(rt, alloc, &mut client, &mut updater);
+    Ok(())
+}
+
+#[test]
+fn an_updater_brings_a_kept_range_forward(rt: HostRuntime) -> Result<(), Fail> {
+    let alloc = rt.alloc();
+    let seats = make_seats(alloc, 1)?;
+    make_and_turn::<Brand, _>(&rt, alloc, &OpenGate, seats)
 }

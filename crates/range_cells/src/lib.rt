@@ -7,8 +7,10 @@
 
 pub mod range_cells;
 pub mod stack;
+pub mod turning;
 
 pub use range_cells::{RangeCells, Reading};
+pub use turning::{Turn, Turned};
 
 #[cfg(test)]
 mod tests;

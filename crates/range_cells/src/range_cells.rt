@@ -39,10 +39,10 @@ pub struct Reading {
 /// The directory of the cells and the book of their use are locked alone.
 #[derive(Drop)]
 pub struct RangeCells<N: Naming> {
-    alloc: Global,
-    history: Arc<History>,
-    shards: Arc<BaseShards<N>>,
-    cells: SharedCells<N>,
+    pub(crate) alloc: Global,
+    pub(crate) history: Arc<History>,
+    pub(crate) shards: Arc<BaseShards<N>>,
+    pub(crate) cells: SharedCells<N>,
     ghost named: { arc_value history ≡ N.history },
 }
 
@@ -105,13 +105,13 @@ impl<N: Naming> RangeCells<N> {
         let mut stack = Stack::new(&room, lowest);
         let found = stack.read(p, range, steps);
         let (pass, used) = stack.into_parts();
-        self.cells.settle(rt, used.as_slice());
+        self.cells.settle(rt, &self.shards, used.as_slice());
         Reading { pass, found }
     }
 
-    /// Evicts the cell with a number, if there is one: what it keeps is let go. While another thread has it, this one sleeps. It
-    /// takes no memory.
+    /// Evicts the cell with a number, if there is one: what it keeps is let go, and it is not marked. While another thread has
+    /// it, or a part of the base pairs, this one sleeps. It takes no memory.
     pub fn evict<W: Wait>(&self, rt: &W, id: u32) {
-        self.cells.evict(rt, id);
+        self.cells.evict(rt, &self.shards, id);
     }
 }

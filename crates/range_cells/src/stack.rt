@@ -1,8 +1,10 @@
 // The reader of all ranks, where threads share the history.
-ghost use Rattle.std.specs.Prelude.{◌≡◌, ◌≤◌, length, take, IfOk};
+ghost use Rattle.std.specs.Prelude.{◌≡◌, ◌≤◌, length, take, IfOk, IfSome, OnOk};
 ghost use Rattle.semantics.specs.Texts.{pairs_within};
 ghost use Rattle.semantics.specs.States.{state};
 ghost use Rattle.base_shards.specs.Reading.{ReadsOn};
+ghost use Rattle.join_eval.specs.Moves.{Moves};
+ghost use Rattle.shared_cells.specs.Bringing.{BringsTo, IsRankOf};
 
 use base_shards::Naming;
 use join_eval::Reader;
@@ -10,6 +12,7 @@ use join_types::Pair;
 use key_space::Range;
 use out_of_memory::OutOfMemory;
 use pq_io::Gate;
+use shared_cells::Cell;
 use shared_layers::layer::{Four, Two};
 use shared_layers::{Layer, Room, Tower};
 use shared_reader::{SharedReader, Stacked, Use};
@@ -105,6 +108,114 @@ fn read_lower<'a, N: Naming, W: Wait, G: Gate, R: Stacked<N>, L: Ledger>(
     read_middle(tower, p, range, steps)
 }
 
+/// Brings what a cell keeps to where the first p entries stand, by a reader. The cell follows the ranges of base pairs that are
+/// read for it.
+fn bring_by<N: Naming, R: Stacked<N>, L: Ledger>(
+    reader: &mut R,
+    cell: &mut Cell<N>,
+    id: u32,
+    p: u64,
+    rank: Option<u8>,
+    steps: &mut Steps<L>,
+) -> Result<(), OutOfMemory>
+    requires within { p ≤ length (R.list reader.old) }
+    requires rank { IsRankOf (R.list reader.old) p cell.old.at rank }
+    requires ranked { IfSome rank (λ r. r ≤ R.top) }
+    ensures brought { OnOk result (BringsTo p rank cell.old.held cell.new.held) }
+    ensures met { cell.new.pass.view ≡ R.list reader.new }
+    ensures moves { Moves R.list R.floor R.went reader.old reader.new }
+    ensures counted { steps.old ≤ steps.new }
+{
+    let since = reader.start_noting();
+    let brought = cell.bring(p, rank, reader, steps);
+    cell.follow(id, since, reader);
+    brought
+}
+
+/// Brings what a cell keeps to where the first p entries stand, by two layers over a reader of the first six ranks.
+fn bring_top<'a, N: Naming, W: Wait, G: Gate, R: Stacked<N>, L: Ledger>(
+    two: &mut Two<'a, N, W, G, R>,
+    cell: &mut Cell<N>,
+    id: u32,
+    p: u64,
+    rank: Option<u8>,
+    steps: &mut Steps<L>,
+) -> Result<(), OutOfMemory>
+    requires top { R.top ≡ 6 }
+    requires within { p ≤ length (R.list two.old.inner.inner) }
+    requires rank { IsRankOf (R.list two.old.inner.inner) p cell.old.at rank }
+    requires ranked { IfSome rank (λ r. r ≤ 7) }
+    ensures brought { OnOk result (BringsTo p rank cell.old.held cell.new.held) }
+    ensures met { cell.new.pass.view ≡ R.list two.new.inner.inner }
+    ensures went { R.went two.old.inner.inner two.new.inner.inner }
+    ensures counted { steps.old ≤ steps.new }
+{
+    bring_by(two, cell, id, p, rank, steps)
+}
+
+/// Brings what a cell keeps to where the first p entries stand, by four layers over a reader of the first four ranks.
+fn bring_upper<'a, N: Naming, W: Wait, G: Gate, R: Stacked<N>, L: Ledger>(
+    four: &mut Four<'a, N, W, G, R>,
+    cell: &mut Cell<N>,
+    id: u32,
+    p: u64,
+    rank: Option<u8>,
+    steps: &mut Steps<L>,
+) -> Result<(), OutOfMemory>
+    requires top { R.top ≡ 4 }
+    requires within { p ≤ length (R.list four.old.inner.inner.inner.inner) }
+    requires rank { IsRankOf (R.list four.old.inner.inner.inner.inner) p cell.old.at rank }
+    requires ranked { IfSome rank (λ r. r ≤ 7) }
+    ensures brought { OnOk result (BringsTo p rank cell.old.held cell.new.held) }
+    ensures met { cell.new.pass.view ≡ R.list four.new.inner.inner.inner.inner }
+    ensures went { R.went four.old.inner.inner.inner.inner four.new.inner.inner.inner.inner }
+    ensures counted { steps.old ≤ steps.new }
+{
+    bring_top(four, cell, id, p, rank, steps)
+}
+
+/// Brings what a cell keeps to where the first p entries stand, by six layers over a reader of the first two ranks.
+fn bring_middle<'a, N: Naming, W: Wait, G: Gate, R: Stacked<N>, L: Ledger>(
+    six: &mut Four<'a, N, W, G, Two<'a, N, W, G, R>>,
+    cell: &mut Cell<N>,
+    id: u32,
+    p: u64,
+    rank: Option<u8>,
+    steps: &mut Steps<L>,
+) -> Result<(), OutOfMemory>
+    requires top { R.top ≡ 2 }
+    requires within { p ≤ length (R.list six.old.inner.inner.inner.inner.inner.inner) }
+    requires rank { IsRankOf (R.list six.old.inner.inner.inner.inner.inner.inner) p cell.old.at rank }
+    requires ranked { IfSome rank (λ r. r ≤ 7) }
+    ensures brought { OnOk result (BringsTo p rank cell.old.held cell.new.held) }
+    ensures met { cell.new.pass.view ≡ R.list six.new.inner.inner.inner.inner.inner.inner }
+    ensures went { R.went six.old.inner.inner.inner.inner.inner.inner six.new.inner.inner.inner.inner.inner.inner }
+    ensures counted { steps.old ≤ steps.new }
+{
+    bring_upper(six, cell, id, p, rank, steps)
+}
+
+/// Brings what a cell keeps to where the first p entries stand, by eight layers over a reader of no rank.
+fn bring_lower<'a, N: Naming, W: Wait, G: Gate, R: Stacked<N>, L: Ledger>(
+    tower: &mut Tower<'a, N, W, G, R>,
+    cell: &mut Cell<N>,
+    id: u32,
+    p: u64,
+    rank: Option<u8>,
+    steps: &mut Steps<L>,
+) -> Result<(), OutOfMemory>
+    requires top { R.top ≡ 0 }
+    requires within { p ≤ length (R.list tower.old.inner.inner.inner.inner.inner.inner.inner.inner) }
+    requires rank { IsRankOf (R.list tower.old.inner.inner.inner.inner.inner.inner.inner.inner) p cell.old.at rank }
+    requires ranked { IfSome rank (λ r. r ≤ 7) }
+    ensures brought { OnOk result (BringsTo p rank cell.old.held cell.new.held) }
+    ensures met { cell.new.pass.view ≡ R.list tower.new.inner.inner.inner.inner.inner.inner.inner.inner }
+    ensures went { R.went tower.old.inner.inner.inner.inner.inner.inner.inner.inner tower.new.inner.inner.inner.inner.inner.inner.inner.inner }
+    ensures counted { steps.old ≤ steps.new }
+{
+    bring_middle(tower, cell, id, p, rank, steps)
+}
+
 impl<'a, N: Naming, W, G> Stack<'a, N, W, G> {
     /// The reader over a lowest one.
     pub fn new(room: &'a Room<'a, N, W, G>, lowest: SharedReader<'a, N, W>) -> Stack<'a, N, W, G>
@@ -146,5 +257,27 @@ impl<'a, N: Naming, W: Wait, G: Gate> Stack<'a, N, W, G> {
         ensures counted { steps.old ≤ steps.new }
     {
         read_lower(&mut self.tower, p, range, steps)
+    }
+
+    /// Brings what a cell with a number keeps to where the first p entries that the pass has seen stand, where it stands below.
+    /// The rank is the one that its join has then; where none is given, nothing is brought. The cell follows the ranges of base
+    /// pairs that are read for it; its pass and this one see what either has seen.
+    pub fn bring<L: Ledger>(
+        &mut self,
+        cell: &mut Cell<N>,
+        id: u32,
+        p: u64,
+        rank: Option<u8>,
+        steps: &mut Steps<L>,
+    ) -> Result<(), OutOfMemory>
+        requires within { p ≤ length self.old.view }
+        requires rank { IsRankOf self.old.view p cell.old.at rank }
+        requires ranked { IfSome rank (λ r. r ≤ 7) }
+        ensures brought { OnOk result (BringsTo p rank cell.old.held cell.new.held) }
+        ensures met { cell.new.pass.view ≡ self.new.view }
+        ensures reads_on { ReadsOn self.old self.new }
+        ensures counted { steps.old ≤ steps.new }
+    {
+        bring_lower(&mut self.tower, cell, id, p, rank, steps)
     }
 }

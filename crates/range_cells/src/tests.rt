@@ -184,6 +184,45 @@ fn read_at<N: Naming, G: Gate, L: Ledger, R: Wait + Abort>(
     (reading.pass, reading.found.expect(rt, "memory"))
 }
 
+/// Takes a turn at the end of the history.
+fn turn_at_end<N: Naming, G: Gate, L: Ledger, R: Wait + Abort>(
+    rt: &R,
+    alloc: Global,
+    kept: &Kept<N>,
+    mut pass: Pass,
+    gate: &G,
+    blank: Blank,
+) -> (Pass, Turn)
+    requires name { blank.name ≡ L.name }
+    requires parts { blank.parts ≡ L.parts }
+    requires some { 0 < blank.parts }
+    requires may { MayAppend N.history pass }
+    ensures { MayAppend N.history result.0 }
+{
+    let history = &*kept.history;
+    let p = history.look(rt, &mut pass);
+    let entries = history.entries(rt, &mut pass, 0, p);
+    let entries = entries.expect(rt, "memory");
+    let standing = standing_after(rt, alloc, &entries);
+    let joins = standing.joins();
+    let mut steps: Steps<L> = Steps::open(blank);
+    let turned = kept.cells.turn(rt, pass, joins, p, gate, &mut steps);
+    (turned.pass, turned.turn)
+}
+
+/// Adds what a turn did, as a line.
+fn show_turn(alloc: Global, text: &mut String, turn: Turn) -> Result<(), Fail> {
+    match turn {
+        Turn::Brought { id, position } => match position {
+            Some(at) => text.push_str(format!(in alloc; "brought {id} to {at}\n")?.as_str())?,
+            None => text.push_str(format!(in alloc; "brought {id}\n")?.as_str())?,
+        },
+        Turn::Idle => text.push_str("idle\n")?,
+        Turn::OutOfMemory => text.push_str("memory\n")?,
+    }
+    Ok(())
+}
+
 /// Adds how often the gate was passed, and the pairs, as a line.
 fn show(alloc: Global, text: &mut String, passed: u64, pairs: Vec<Pair>) -> Result<(), Fail> {
     text.push_str(format!(in alloc; "{passed}:")?.as_str())?;
@@ -205,7 +244,8 @@ fn read_place(rt: &impl Abort, alloc: Global, text: &str) -> (u64, Range) {
     (p, Range::read(alloc, low, high).expect(rt, "a range"))
 }
 
-/// Does what a line says: it writes, evicts a cell, or reads a range after so many entries, which adds a line.
+/// Does what a line says: it writes, evicts a cell, takes a turn, which adds a line, or reads a range after so many entries, which
+/// adds a line.
 fn play_line<N: Naming, R: Wait + Abort>(
     rt: &R,
     alloc: Global,
@@ -226,6 +266,15 @@ fn play_line<N: Naming, R: Wait + Abort>(
         "evict" => {
             kept.cells
                 .evict(rt, about.parse::<u32>().expect(rt, "a number"));
+            Ok(pass)
+        }
+        "turn" => {
+            let gate = &OpenGate;
+            let blank = Blank::new(1);
+            let (pass, turn) = turn_at_end::<N, OpenGate, Brand, R>(
+                rt, alloc, kept, pass, gate, blank,
+            );
+            show_turn(alloc, text, turn)?;
             Ok(pass)
         }
         _ => {

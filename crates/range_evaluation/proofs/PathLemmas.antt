@@ -13,7 +13,7 @@ use Rattle.semantics.proofs.MemberLemmas.{Has, contains_from_has, has_filter, ha
 use Rattle.semantics.proofs.TableLemmas.{IsAscending, has_from_value, value_from_has}
 use Rattle.semantics.proofs.OutputLemmas.{output_of_join, sources_of_join}
 use Rattle.key_ranges.specs.Containing.{containing}
-use Rattle.key_ranges.proofs.ContainingLemmas.{containing_holds}
+use Rattle.key_ranges.proofs.NarrowedLemmas.{containing_holds}
 use Rattle.range_evaluation.specs.Trees.{Need, placed_sources, under, over, needs_from, tree}
 use Rattle.range_evaluation.specs.PathLaws.{IsPath, HoldsNext, NeedsHoldNext, CameByPath, NeedsCameByPaths, HasHeldPath, NeedsHoldTheirPaths}
 use Rattle.range_evaluation.proofs.GivenLemmas.{binds_less}

@@ -268,6 +268,27 @@ fn worked_steps(rt: HostRuntime) -> Result<(), Fail> {
     Ok(())
 }
 
+/// Between two times only the posts of these times are read, of 100 of one poster; a post of another time costs one step
+/// for each of both needs, and one of these times three steps more.
+#[test]
+fn worked_narrow_steps(rt: HostRuntime) -> Result<(), Fail> {
+    let alloc = rt.alloc();
+    let mut lines = String::new(alloc);
+    lines.push_str(
+        "t|<user:4>|<time:8>|<poster:4> = check s|<user:4>|<poster:4> copy p|<poster:4>|<time:8>\ns|0001|0002=1\n",
+    )?;
+    for time in 100..200_u64 {
+        lines.push_str(format!(in alloc; "p|0002|{time:08}=Hi\n")?.as_str())?;
+    }
+    lines.push_str("p|0002|00000500=Ho\np|0002|00000115=He\n")?;
+    let range = read_range(&rt, alloc, "t|0001|00000110", "t|0001|00000120");
+    let told = tell(&rt, alloc, lines.as_str())?;
+    let script = "fill 102, count, advance 103, count, advance 104, count, forget, fill 104, count";
+    let shown = play::<Brand>(&rt, alloc, told, (&range, script), Blank::new(1))?;
+    assert_eq!(rt; shown.as_str(), " 13; 2; 5; 13;");
+    Ok(())
+}
+
 /// There is room for so many notes and no more.
 #[test]
 fn worked_notes(rt: HostRuntime) -> Result<(), Fail> {

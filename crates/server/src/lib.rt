@@ -1,4 +1,5 @@
-// Serving links from doors: an acceptor takes them, and workers serve them, each with a client of its own of one cache.
+// Serving links from doors: an acceptor takes them, and workers serve them, each with a client of its own of one cache; beside
+// them an updater brings forward what the cache keeps.
 //
 // It stands on `out_of_memory`, `join_types`, `write_history`, `base_shards`, `pequod_cache`, `pq_io` for doors, links and gates,
 // `door_queue`, `request_codec`, `session` and, for its definitions and laws, on `semantics`, `growing_history` and `protocol`. The
@@ -9,6 +10,7 @@ mod accepting;
 pub mod opening;
 pub mod serving;
 pub mod staffing;
+mod updating;
 mod working;
 
 pub use opening::{Size, serve};

@@ -1,6 +1,6 @@
 // A cache that is served at an address.
 ghost use Rattle.std.specs.Prelude.{◌≡◌, ◌≢◌, ◌≤◌, length, IfOk};
-ghost use Rattle.pequod_cache.specs.Sitting.{AreOf, AreWriters};
+ghost use Rattle.pequod_cache.specs.Sitting.{AreOf, AreWriters, IsFresh};
 ghost use Rattle.pq_io.specs.Faults.{Rose};
 ghost use Rattle.server.specs.Doors.{HoldNone};
 ghost use Rattle.server.specs.Staffs.{AreDeclarable};
@@ -44,6 +44,7 @@ fn make_seats(alloc: Global, workers: u32, cells: u32) -> Result<Seats, OutOfMem
     ensures shards { IfOk result (λ seats. AreOf seats.history 16 seats.shards.items) }
     ensures cells { IfOk result (λ seats. AreOf seats.history (length seats.cells.items) seats.cells.items) }
     ensures count { IfOk result (λ seats. length seats.cells.items ≡ cells) }
+    ensures updater { IfOk result (λ seats. IsFresh seats.history seats.updater) }
 {
     Seats::make(alloc, workers + 1, cells)
 }
@@ -66,6 +67,7 @@ fn serve_seats<N: Naming + Send + Sync, R: Threads + Wait + Sync, D: Doors, G: G
     requires cells { AreOf N.history (length seats.cells.items) seats.cells.items }
     requires some_cells { 1 ≤ length seats.cells.items }
     requires few_cells { length seats.cells.items ≤ 65536 }
+    requires updater { IsFresh N.history seats.updater }
     requires limit { 1 ≤ limit }
     requires joins { AreDeclarable joins.items }
     ensures closed { result ≡ Ended.Closed → HoldNone (D.held doors.new) }
@@ -74,13 +76,13 @@ fn serve_seats<N: Naming + Send + Sync, R: Threads + Wait + Sync, D: Doors, G: G
     ensures later { D.faults doors.old ≤ D.faults doors.new }
     ensures memory { result ≡ Ended.OutOfMemory → D.held doors.new ≡ D.held doors.old }
 {
-    let Ok(clients) = staff::<N, G, R>(rt, alloc, seats, limit, joins, gate) else {
+    let Ok((workers, updater)) = staff::<N, G, R>(rt, alloc, seats, limit, joins, gate) else {
         return Ended::OutOfMemory;
     };
     if doors.open_at(address.text).is_err() {
         return Ended::Failed;
     }
-    serve_doors(rt, alloc, doors, clients)
+    serve_doors(rt, alloc, doors, workers, updater)
 }
 
 /// Makes a cache, declares the joins, opens the doors at the address, and serves each link that they give until they close.

@@ -1,18 +1,19 @@
-// Acceptor and workers.
-ghost use Rattle.std.specs.Prelude.{◌≡◌, ◌≢◌, ◌≤◌, length, MatchResult};
+// Acceptor, workers and updater.
+ghost use Rattle.std.specs.Prelude.{◌≡◌, ◌≢◌, ◌≤◌, length, MatchResult, OnOk};
 ghost use Rattle.pq_io.specs.Faults.{HasCause, Rose};
 ghost use Rattle.server.specs.Doors.{HoldNone};
 
 use crate::accepting::accept;
+use crate::updating::update;
 use crate::working::{work, work_alone};
 use base_shards::Naming;
-use door_queue::DoorQueue;
-use pequod_cache::Client;
+use door_queue::{Bell, DoorQueue};
+use pequod_cache::{Client, Updater};
 use pq_io::{Doors, Failed, Gate, Link};
 use std::alloc::Global;
 use std::sync::Wait;
-use std::thread;
 use std::thread::Threads;
+use std::{mem, thread};
 
 /// How many accepted links may wait for a worker.
 const WAITING: usize = 64;
@@ -28,7 +29,7 @@ pub enum Ended {
     OutOfMemory,
 }
 
-/// What this thread does beside the workers. A scope tells nothing of a `&mut` that its closure has, so that the closure has a value
+/// What this thread does beside others. A scope tells nothing of a `&mut` that its closure has, so that the closure has a value
 /// of a type parameter.
 trait Task {
     type Given;
@@ -71,6 +72,7 @@ fn run_beside<'g, N, G, K, R, T, A>(
     rt: &R,
     alloc: Global,
     queue: &DoorQueue<K>,
+    bell: &Bell,
     clients: Vec<Client<'g, N, G>>,
     last: Client<'g, N, G>,
     task: T,
@@ -93,13 +95,13 @@ where
         {
             let mut alone = true;
             for client in clients {
-                let started = scope.spawn(move || work(rt, alloc, queue, client));
+                let started = scope.spawn(move || work(rt, alloc, queue, bell, client));
                 alone = alone && started.is_err();
             }
             if alone {
                 return Err((task, last));
             }
-            let _ = scope.spawn(move || work(rt, alloc, queue, last));
+            let _ = scope.spawn(move || work(rt, alloc, queue, bell, last));
             Ok(task.run())
         },
     )
@@ -116,6 +118,7 @@ fn beside_workers<'g, N, G, K, R, F, A>(
     rt: &R,
     alloc: Global,
     queue: &DoorQueue<K>,
+    bell: &Bell,
     clients: Vec<Client<'g, N, G>>,
     last: Client<'g, N, G>,
     f: &mut F,
@@ -129,7 +132,7 @@ where
     requires { F.pre f.old }
     ensures { MatchResult result (λ given. F.step f.old given f.new) (λ _. f.new ≡ f.old) }
 {
-    match run_beside(rt, alloc, queue, clients, last, Lent { f }) {
+    match run_beside(rt, alloc, queue, bell, clients, last, Lent { f }) {
         Ok((f, given)) => {
             take_back(f);
             Ok(given)
@@ -142,14 +145,106 @@ where
 }
 
 /// Serves the links of the doors until they are closed or fail: this thread takes them, and a worker for each client serves them,
+/// one after another. Where no thread can be made, or there is one client, this one takes a link and serves it, in turns. The
+/// clients are used up.
+/// `Failed`: the doors failed, and no further link was asked for.
+fn serve_links<'g, N, G, D, R>(
+    rt: &R,
+    alloc: Global,
+    doors: &mut D,
+    queue: &DoorQueue<D::Wire>,
+    bell: &Bell,
+    clients: &mut Vec<Client<'g, N, G>>,
+) -> Result<(), Failed>
+where
+    N: Naming + Send + Sync,
+    G: Gate + Sync,
+    D: Doors,
+    R: Threads + Wait + Sync,
+    requires { 1 ≤ length clients.old.items }
+    ensures closed { OnOk result (HoldNone (D.held doors.new)) }
+    ensures cause { HasCause (D.faults doors.old) (D.faults doors.new) result }
+{
+    let mut workers = mem::replace(clients, Vec::new(alloc));
+    let Some(last) = workers.pop() else {
+        unreachable!()
+    };
+    match beside_workers(
+        rt,
+        alloc,
+        queue,
+        bell,
+        workers,
+        last,
+        &mut || { accept(rt, doors, queue) },
+    ) {
+        Ok(ended) => ended,
+        Err(last) => work_alone(rt, alloc, doors, bell, last),
+    }
+}
+
+/// Runs the task beside an updater that takes turns when the bell is rung, and then closes the bell. It returns when both have
+/// ended. Where no thread can be made for the updater, kept ranges are brought forward by reads alone.
+fn run_beside_updater<'g, N, G, R, T, A>(
+    rt: &R,
+    bell: &Bell,
+    updater: Updater<'g, N, G>,
+    task: T,
+) -> A
+where
+    N: Naming + Send + Sync,
+    G: Gate + Sync,
+    R: Threads + Wait + Sync,
+    T: Task<Given = A> + Drop,
+    requires { T.can_run task }
+    ensures { T.gives task result }
+{
+    thread::scope(
+        thread::scope_env(),
+        rt,
+        move |scope|
+            requires { T.can_run task }
+            ensures { T.gives task result }
+        {
+            let _ = scope.spawn(move || update(rt, bell, updater));
+            let given = task.run();
+            bell.close(rt);
+            given
+        },
+    )
+}
+
+/// Calls the closure beside an updater that takes turns when the bell is rung, and then closes the bell. It returns when both have
+/// ended. Where no thread can be made for the updater, kept ranges are brought forward by reads alone.
+fn beside_updater<'g, N, G, R, F, A>(
+    rt: &R,
+    bell: &Bell,
+    updater: Updater<'g, N, G>,
+    f: &mut F,
+) -> A
+where
+    N: Naming + Send + Sync,
+    G: Gate + Sync,
+    R: Threads + Wait + Sync,
+    F: FnMut() -> A,
+    requires { F.pre f.old }
+    ensures { F.step f.old result f.new }
+{
+    let (f, given) = run_beside_updater(rt, bell, updater, Lent { f });
+    take_back(f);
+    given
+}
+
+/// Serves the links of the doors until they are closed or fail: this thread takes them, and a worker for each client serves them,
 /// one after another. Up to 64 links wait for a worker; then none is taken. It returns when each link that was taken has been
 /// served. Where fewer threads can be made, fewer work. Where none can, or there is one client, this one takes a link and serves
-/// it, in turns.
+/// it, in turns. Beside them the updater brings kept ranges forward after writes, where a thread can be made for it.
 pub fn serve_doors<'g, N, G, D, R>(
     rt: &R,
     alloc: Global,
     doors: &mut D,
     clients: Vec<Client<'g, N, G>>,
+    updater: Updater<'g, N, G>,
 ) -> Ended
 where
     N: Naming + Send + Sync,
@@ -166,21 +261,18 @@ where
     let Ok(queue) = DoorQueue::new(alloc, WAITING) else {
         return Ended::OutOfMemory;
     };
+    let bell = Bell::new();
     let mut clients = clients;
-    let Some(last) = clients.pop() else {
-        unreachable!()
-    };
-    let ended = match beside_workers(
+    let ended = beside_updater(
         rt,
-        alloc,
-        &queue,
-        clients,
-        last,
-        &mut || accept(rt, doors, &queue),
-    ) {
-        Ok(ended) => ended,
-        Err(last) => work_alone(rt, alloc, doors, last),
-    };
+        &bell,
+        updater,
+        &mut ||
+            requires { 1 ≤ length clients.items }
+            ensures closed { OnOk result (HoldNone (D.held doors.exit.now)) }
+            ensures cause { HasCause (D.faults doors.entry.now) (D.faults doors.exit.now) result }
+        { serve_links(rt, alloc, doors, &queue, &bell, &mut clients) },
+    );
     match ended {
         Ok(()) => Ended::Closed,
         Err(Failed) => Ended::Failed,

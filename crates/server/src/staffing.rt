@@ -1,13 +1,13 @@
 // The clients of the workers.
 ghost use Rattle.std.specs.Prelude.{◌≡◌, ◌+◌, ◌≤◌, length, slice_get, IfOk, OnOk, Some};
 ghost use Rattle.semantics.specs.Histories.{IsPrefix, declare};
-ghost use Rattle.pequod_cache.specs.Sitting.{AreOf, AreWriters};
+ghost use Rattle.pequod_cache.specs.Sitting.{AreOf, AreWriters, IsFresh};
 ghost use Rattle.server.specs.Staffs.{AreDeclarable, AreStaff, HaveMet, declared};
 
 use base_shards::Naming;
 use join_types::Join;
 use out_of_memory::OutOfMemory;
-use pequod_cache::{Cache, Client, Seats};
+use pequod_cache::{Cache, Client, Seats, Updater};
 use pq_io::Gate;
 use request_codec::Reply;
 use std::alloc::Global;
@@ -66,7 +66,8 @@ fn meet_all<'g, N: Naming, G: Gate, R: Wait>(
 }
 
 /// The clients of a new cache but the one with the number 0, which declares the joins and then meets each of them: their
-/// numbers are from 1 up, and each has seen the declarations first. `seats`, `limit` and `gate` are those of `Cache::make`.
+/// numbers are from 1 up, and each has seen the declarations first; and an updater of the cache. `seats`, `limit` and `gate` are
+/// those of `Cache::make_with_updater`.
 ///
 /// It may report that it found no memory.
 pub fn staff<'g, N: Naming, G: Gate, R: Wait>(
@@ -76,7 +77,7 @@ pub fn staff<'g, N: Naming, G: Gate, R: Wait>(
     limit: u64,
     joins: Vec<Join>,
     gate: &'g G,
-) -> Result<Vec<Client<'g, N, G>>, OutOfMemory>
+) -> Result<(Vec<Client<'g, N, G>>, Updater<'g, N, G>), OutOfMemory>
     requires named { seats.history ≡ N.history }
     requires clients { AreWriters N.history (length seats.clients.items) seats.clients.items }
     requires two { 2 ≤ length seats.clients.items }
@@ -84,17 +85,18 @@ pub fn staff<'g, N: Naming, G: Gate, R: Wait>(
     requires cells { AreOf N.history (length seats.cells.items) seats.cells.items }
     requires some_cells { 1 ≤ length seats.cells.items }
     requires few_cells { length seats.cells.items ≤ 65536 }
+    requires updater { IsFresh N.history seats.updater }
     requires limit { 1 ≤ limit }
     requires joins { AreDeclarable joins.items }
-    ensures count { IfOk result (λ clients. length clients.items + 1 ≡ length seats.clients.items) }
-    ensures each { IfOk result (λ clients. AreStaff N.history joins.items clients.items) }
+    ensures count { IfOk result (λ staff. length staff.0.items + 1 ≡ length seats.clients.items) }
+    ensures each { IfOk result (λ staff. AreStaff N.history joins.items staff.0.items) }
 {
-    let mut clients = Cache::make(alloc, seats, limit, gate)?;
+    let (mut clients, updater) = Cache::make_with_updater(alloc, seats, limit, gate)?;
     let mut workers = clients.split_off(1)?;
     let Some(mut first) = clients.pop() else {
         unreachable!()
     };
     declare_all(rt, &mut first, joins)?;
     meet_all(rt, &mut first, &mut workers);
-    Ok(workers)
+    Ok((workers, updater))
 }

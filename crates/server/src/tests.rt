@@ -1,6 +1,6 @@
 // What is written to links that two workers serve, or one alone, and how serving ends, with ample memory.
 ghost use Rattle.std.specs.Prelude.{◌≡◌, ◌≤◌, IfOk, Some, length};
-ghost use Rattle.pequod_cache.specs.Sitting.{AreOf, AreWriters};
+ghost use Rattle.pequod_cache.specs.Sitting.{AreOf, AreWriters, IsFresh};
 ghost use Rattle.server.specs.Staffs.{AreDeclarable};
 
 mod held;
@@ -91,6 +91,7 @@ fn make_seats(alloc: Global, clients: u32) -> Result<Seats, OutOfMemory>
     ensures shards { IfOk result (λ seats. AreOf seats.history 16 seats.shards.items) }
     ensures cells { IfOk result (λ seats. AreOf seats.history (length seats.cells.items) seats.cells.items) }
     ensures count { IfOk result (λ seats. length seats.cells.items ≡ 4) }
+    ensures updater { IfOk result (λ seats. IsFresh seats.history seats.updater) }
 {
     Seats::make(alloc, clients, 4)
 }
@@ -116,11 +117,12 @@ where
     requires shards { AreOf N.history 16 seats.shards.items }
     requires cells { AreOf N.history (length seats.cells.items) seats.cells.items }
     requires count { length seats.cells.items ≡ 4 }
+    requires updater { IsFresh N.history seats.updater }
     requires joins { AreDeclarable joins.items }
 {
-    let workers = staff::<N, _, _>(rt, alloc, seats, 1_000, joins, gate)?;
+    let (workers, updater) = staff::<N, _, _>(rt, alloc, seats, 1_000, joins, gate)?;
     let mut doors = MemDoors::new(links, fails);
-    Ok(serve_doors(rt, alloc, &mut doors, workers))
+    Ok(serve_doors(rt, alloc, &mut doors, workers, updater))
 }
 
 /// A join whose output has what its source has.

@@ -3,8 +3,9 @@ ghost use Rattle.std.specs.Prelude.{OnOk};
 ghost use Rattle.pq_io.specs.Faults.{HasCause};
 ghost use Rattle.server.specs.Doors.{HoldNone};
 
+use crate::updating::Ringing;
 use base_shards::Naming;
-use door_queue::DoorQueue;
+use door_queue::{Bell, DoorQueue};
 use pequod_cache::{Client, ClientService};
 use pq_io::{Doors, Failed, Gate, Link};
 use session::{Service, serve_link};
@@ -12,29 +13,33 @@ use std::alloc::Global;
 use std::sync::Wait;
 
 /// Serves the links that the queue gives, one after another, with one client, until the queue is closed and empty. However one
-/// link ends, the next is served.
+/// link ends, the next is served. The bell is rung after each write that is acknowledged.
 pub fn work<N: Naming, G: Gate, K: Link + Drop, R: Wait>(
     rt: &R,
     alloc: Global,
     queue: &DoorQueue<K>,
+    bell: &Bell,
     client: Client<'_, N, G>,
 ) {
-    serve_queued(rt, alloc, queue, ClientService { rt, client })
+    let service = ClientService { rt, client };
+    serve_queued(rt, alloc, queue, Ringing { rt, bell, service })
 }
 
 /// Serves the links of the doors, one after another, with one client, until the doors are closed or fail. However one link ends,
-/// the next is taken.
+/// the next is taken. The bell is rung after each write that is acknowledged.
 /// `Failed`: the doors failed, and no further link was asked for.
 pub fn work_alone<N: Naming, G: Gate, D: Doors, R: Wait>(
     rt: &R,
     alloc: Global,
     doors: &mut D,
+    bell: &Bell,
     client: Client<'_, N, G>,
 ) -> Result<(), Failed>
     ensures closed { OnOk result (HoldNone (D.held doors.new)) }
     ensures cause { HasCause (D.faults doors.old) (D.faults doors.new) result }
 {
-    serve_each(rt, alloc, doors, ClientService { rt, client })
+    let service = ClientService { rt, client };
+    serve_each(rt, alloc, doors, Ringing { rt, bell, service })
 }
 
 /// Serves the links that the queue gives with this service, until the queue is closed and empty.

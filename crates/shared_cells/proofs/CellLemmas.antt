@@ -1,5 +1,6 @@
 -- What a cell keeps, over longer histories, and as the join's that is asked for.
-use Rattle.std.proofs.Common.{◌≡◌, ℕ, ◌<◌, ◌≤◌, length, take, Option, IfSome, Some, None, sym, ◌∙◌, subst, arith}
+use Rattle.std.proofs.Common.{◌≡◌, ℕ, zero, suc, ◌-◌, ◌<◌, ◌≤◌, List, [], ◌∷◌, ◌++◌, length, take, slice_get, Option, IfSome, Some, None, refl, sym, ap, ◌∙◌, subst, arith}
+use Rattle.std.proofs.lemmas.Option.{none-some}
 use Rattle.std.specs.Option.{IsSomeAnd}
 use Rattle.atomic_table.specs.Seated.{TableId}
 use Rattle.semantics.specs.Texts.{Table, Range, value_at, pairs_within}
@@ -14,15 +15,16 @@ use Rattle.layering.proofs.PartLemmas.{part_of_range, within_is_kept}
 use Rattle.write_history.specs.Passes.{PassView, GoesOn}
 use Rattle.join_eval.specs.declared.reading.Changed.{Changed}
 use Rattle.join_eval.specs.declared.reading.Changed.TheVariants.{Keys, All}
-use Rattle.kept_ranges.specs.Sound.{KeptRange}
+use Rattle.kept_ranges.specs.Sound.{KeptRange, IsSound, IsSoundAt}
 use Rattle.kept_ranges.proofs.SoundLemmas.{sound_over_longer}
 use Rattle.range_state.specs.Held.{forgotten}
-use Rattle.range_state.specs.Ready.{StandsAt}
-use Rattle.range_serving.specs.Serving.{IsPast, output_within}
+use Rattle.range_state.specs.Ready.{HasSameSubject, StandsAt}
+use Rattle.range_serving.specs.Serving.{IsPast, StandsFrom, output_within}
 use Rattle.range_serving.specs.Telling.{TellsOutput}
 use Rattle.cell_slots.specs.Slots.{IsDeclared, IsRightFor, StandsAs}
 use Rattle.rank_layers.specs.Telling.{TellsJoin}
 use Rattle.rank_layers.proofs.PartLemmas.{declared_over_longer, declared_once, stands_over}
+use Rattle.shared_cells.specs.Bringing.{BringsTo, IsBroughtTo, IsRankOf}
 use Rattle.shared_cells.specs.Cells.{CellView, IsRightIn, IsCell, IsLentFor, IsOutput}
 
 -- ---- over longer histories
@@ -102,3 +104,50 @@ told_of_lent cell h more at rank q p part s j (Keys keys) order within prefix me
       sym (step x to) ∙ told.complete x key from to (within_is_kept part s.range key (whole_of_lent cell at rank p part s lent) inside) inside unlisted ∙ step q order;
 }
 told_of_lent cell h more at rank q p part s j All order within prefix met lent stands told = tt
+
+-- ---- bringing forward
+
+within_by : (o : Option ℕ) (s : KeptRange) (h : History) → IfSome o (IsSoundAt s h) → IfSome o (λ q. q ≤ length h)
+within_by None s h sound = tt
+within_by (Some q) s h sound = sound.place
+
+-- where something right stands is no later than the end of the history
+pub stands_within : (s : KeptRange) (h : History) → IsSound s h → IfSome s.position (λ q. q ≤ length h)
+stands_within s h sound = within_by s.position s h sound
+
+-- an entry of a history stands in its beginning, where that is long enough
+get-shorter : {A : Type 0} (xs ys : List A) (i : ℕ) (x : A) → i < length xs → slice_get (xs ++ ys) i ≡ Some x → slice_get xs i ≡ Some x
+get-shorter [] ys i x less is = absurd (omega arith)
+get-shorter (y ∷ xs) ys zero x less is = is
+get-shorter (y ∷ xs) ys (suc i) x less is = get-shorter xs ys i x (omega arith) is
+
+-- a join that was declared by a position is declared in the beginning up to there
+declared_before : (h more : History) (at : ℕ) (j : Join) → IsPrefix h more → at ≤ length h → IsDeclared more at j → IsDeclared h at j
+declared_before h more at j prefix upto d = record {
+  counted = d.counted;
+  entry = d.entry;
+  stands = get-shorter h prefix.0 (at - 1) d.entry (omega (arith, d.counted)) (ap (λ (l : History). slice_get l (at - 1)) (sym prefix.1) ∙ d.stands);
+  declares = d.declares;
+}
+
+-- what a cell holds is right for what its pass has seen, by whatever name that goes
+pub right_here : (cell : CellView) (h : History) (at : ℕ) (s : KeptRange) → cell.pass.view ≡ h → cell.at ≡ at → IsRightIn cell.at cell.range cell.pass s → IsRightFor h at s
+right_here cell h at s met place right =
+    subst (λ (l : History). IsRightFor l at s) met (subst (λ (a : ℕ). IsRightFor cell.pass.view a s) place right.right)
+
+-- what is kept with the rank that the join has after p entries stands with it there
+pub rank_of_kept : (h more : History) (p at rank : ℕ) (s : KeptRange) → p ≤ length h → IsPrefix h more → IsRankOf h p at (Some rank) → IsRightFor more at s → s.rank ≡ rank → HasRank (joins_of (take p more)) s.join s.rank
+rank_of_kept h more p at rank s within prefix is right ranked =
+    let there = is.1 s.join (declared_before h more at s.join prefix (omega (arith, is.0)) right.declared) in
+    subst (λ (r : ℕ). HasRank (joins_of (take p more)) s.join r) (sym ranked) (subst (λ (l : History). HasRank (joins_of l) s.join rank) (sym (take_prefix p h more within prefix)) there)
+
+-- what was kept with another rank is let go
+pub lets_go : (p rank : ℕ) (held left found : Option KeptRange) → found ≡ None → left ≡ None → ((s : KeptRange) → held ≡ Some s → s.rank ≡ rank → found ≡ Some s) → BringsTo p (Some rank) held left
+lets_go p rank None left found none empty kept = empty
+lets_go p rank (Some s) left found none empty kept = ((λ same. absurd (none-some s (sym none ∙ kept s refl same))), (λ other. empty))
+
+-- what was kept with this rank is brought there
+pub brings : (p rank : ℕ) (held after : Option KeptRange) (s t : KeptRange) → held ≡ Some s → s.rank ≡ rank → after ≡ Some t → HasSameSubject s t → StandsFrom p t → (StandsFrom p s → t ≡ s) → BringsTo p (Some rank) held after
+brings p rank held after s t is ranked gives same from still =
+    subst (λ (o : Option KeptRange). BringsTo p (Some rank) o after) (sym is)
+    ((λ r. subst (λ (o : Option KeptRange). IsSomeAnd o (IsBroughtTo p s)) (sym gives) (record { same = same; from = from; still = still })), (λ other. absurd (other ranked)))

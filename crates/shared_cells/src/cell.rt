@@ -14,6 +14,7 @@ ghost use Rattle.range_state.specs.Ready.{HasSameSubject, IsReady};
 ghost use Rattle.range_serving.specs.Serving.{IsPast, StandsFrom, output_within};
 ghost use Rattle.cell_slots.specs.Slots.{IsDeclared, IsRightFor, StandsAs};
 ghost use Rattle.rank_layers.specs.Telling.{TellsJoin};
+ghost use Rattle.shared_cells.specs.Bringing.{BringsTo, IsRankOf};
 ghost use Rattle.shared_cells.specs.Cells.{HasSamePlace, IsLentFor, IsOutput, IsReadyCell, IsRightIn};
 
 use base_shards::Naming;
@@ -24,7 +25,7 @@ use out_of_memory::OutOfMemory;
 use pq_io::Gate;
 use range_serving::{reach, tell};
 use range_state::RangeState;
-use shared_reader::Stacked;
+use shared_reader::{Followed, Stacked};
 use std::alloc::Global;
 use std::marker::{Model, PhantomData};
 use std::sync::ledger::Ledger;
@@ -49,6 +50,7 @@ pub struct Cell<N: Naming> {
     range: Range,
     held: Option<RangeState>,
     pass: Pass,
+    followed: Followed,
     of: PhantomData<N>,
 }
 
@@ -151,9 +153,43 @@ fn read_kept<R: Reader, G: Gate, L: Ledger>(
     state.read(part, steps)
 }
 
+/// Advances it to where p entries stand, where it stands below.
+///
+/// On `OutOfMemory` it stands where it stood, or at p, or is forgotten, and is right for the reader's list.
+fn advance_below<R: Reader, L: Ledger>(
+    state: &mut RangeState,
+    p: u64,
+    reader: &mut R,
+    steps: &mut Steps<L>,
+) -> Result<(), OutOfMemory>
+    requires within { p ≤ length (R.list reader.old) }
+    requires from { StandsFrom (R.floor reader.old) state.old }
+    requires entered { HasEntered (R.list reader.old) }
+    requires stands { HasRank (joins_of (take p (R.list reader.old))) state.old.join state.old.rank }
+    requires ranked { state.old.rank ≤ R.top }
+    requires sound { IsSound state.old (R.list reader.old) }
+    ensures same { HasSameSubject state.old state.new }
+    ensures reached { OnOk result (StandsFrom p state.new) }
+    ensures still { StandsFrom p state.old → state.new ≡ state.old }
+    ensures sound { IsSound state.new (R.list reader.new) }
+    ensures moves { Moves R.list R.floor R.went reader.old reader.new }
+    ensures counted { steps.old ≤ steps.new }
+{
+    match state.position() {
+        None => Ok(()),
+        Some(at) => {
+            if at < p {
+                return state.advance(p, reader, steps);
+            }
+            Ok(())
+        }
+    }
+}
+
 impl<N: Naming> Cell<N> {
-    /// A cell with a pass, for a range of the output of the join that was declared at a position. Nothing is kept yet.
-    pub fn new(at: u64, range: Range, pass: Pass) -> Cell<N>
+    /// A cell with a pass, for a range of the output of the join that was declared at a position. Nothing is kept yet, and it
+    /// follows no range. Nothing is allocated.
+    pub fn new(alloc: Global, at: u64, range: Range, pass: Pass) -> Cell<N>
         requires { pass.history ≡ N.history }
         ensures at { result.at ≡ at }
         ensures range { result.range ≡ range }
@@ -165,6 +201,7 @@ impl<N: Naming> Cell<N> {
             range,
             held: None,
             pass,
+            followed: Followed::new(alloc),
             of: PhantomData,
         }
     }
@@ -175,6 +212,33 @@ impl<N: Naming> Cell<N> {
         ensures same_history { result.history ≡ N.history }
     {
         self.pass
+    }
+
+    /// The position of its join's declaration.
+    pub fn at(&self) -> u64
+        ensures { result ≡ self.now.at }
+    {
+        self.at
+    }
+
+    /// Where what is kept stands: after how many entries. None where nothing is kept.
+    pub fn position(&self) -> Option<u64>
+        ensures position { MatchOption self.now.held (result ≡ None) (λ s. result ≡ s.position) }
+        ensures within { IfSome result (λ q. q ≤ length self.now.pass.view) }
+    {
+        match &self.held {
+            Some(state) => state.position(),
+            None => None,
+        }
+    }
+
+    /// The work on the cell ends: under its number it follows the ranges of base pairs that the reader noted since so many
+    /// were noted.
+    pub fn follow<R: Stacked<N>>(&mut self, id: u32, since: usize, reader: &mut R)
+        ensures same { self.new ≡ self.old }
+        ensures reader { reader.new ≡ reader.old }
+    {
+        reader.follow_noted(id, since, &mut self.followed);
     }
 
     /// How many rows are kept.
@@ -342,5 +406,93 @@ impl<N: Naming> Cell<N> {
         let told = tell(&mut state, since, asked.p, part, reader, steps);
         self.give_back(state, reader);
         told
+    }
+
+    /// The pass and the reader see what either has seen.
+    fn meet<R: Stacked<N>>(&mut self, reader: &mut R)
+        ensures held { self.new.held ≡ self.old.held }
+        ensures same_place { HasSamePlace self.old self.new }
+        ensures met { self.new.pass.view ≡ R.list reader.new }
+        ensures entered { HasEntered (R.list reader.new) }
+        ensures moves { Moves R.list R.floor R.went reader.old reader.new }
+    {
+        reader.meet(&mut self.pass);
+    }
+
+    /// Takes out what is kept, where it was kept while the join had this rank; what was kept while it had another is let go.
+    fn take_kept(&mut self, rank: u8) -> Option<RangeState>
+        ensures right { IfSome result (IsRightIn self.new.at self.new.range self.new.pass) }
+        ensures ranked { IfSome result (λ state. state.rank ≡ rank) }
+        ensures was { IfSome result (λ state. self.old.held ≡ Some state) }
+        ensures kept { (s : KeptRange) → self.old.held ≡ Some s → s.rank ≡ rank → result ≡ Some s }
+        ensures left { self.new.held ≡ None }
+        ensures pass { self.new.pass ≡ self.old.pass }
+        ensures same_place { HasSamePlace self.old self.new }
+    {
+        if let Some(state) = self.held.take()
+            && state.rank() == rank
+        {
+            return Some(state);
+        }
+        None
+    }
+
+    /// Brings what was kept while the join had this rank to where the first p entries stand, where it stands below; what was
+    /// kept while it had another is let go.
+    fn bring_ranked<R: Stacked<N>, L: Ledger>(
+        &mut self,
+        p: u64,
+        rank: u8,
+        reader: &mut R,
+        steps: &mut Steps<L>,
+    ) -> Result<(), OutOfMemory>
+        requires within { p ≤ length (R.list reader.old) }
+        requires rank { IsRankOf (R.list reader.old) p self.old.at (Some rank) }
+        requires ranked { rank ≤ R.top }
+        ensures brought { OnOk result (BringsTo p (Some rank) self.old.held self.new.held) }
+        ensures same_place { HasSamePlace self.old self.new }
+        ensures met { self.new.pass.view ≡ R.list reader.new }
+        ensures moves { Moves R.list R.floor R.went reader.old reader.new }
+        ensures counted { steps.old ≤ steps.new }
+    {
+        self.meet(reader);
+        let Some(state) = self.take_kept(rank) else {
+            return Ok(());
+        };
+        let mut state = state;
+        let advanced = advance_below(&mut state, p, reader, steps);
+        self.give_back(state, reader);
+        advanced
+    }
+
+    /// Brings what is kept to where the first p entries stand, where it stands below: it is advanced. What is pending then
+    /// stays so, what is forgotten stays so, and what stands past p stays there. The rank is the one that the join has after
+    /// p entries; what was kept while it had another is let go. Where no rank is given, nothing changes but what the cell's
+    /// pass has seen: it and the reader see what either has seen.
+    ///
+    /// On `OutOfMemory` what is kept stands where it stood, or at p, or nothing is kept.
+    pub fn bring<R: Stacked<N>, L: Ledger>(
+        &mut self,
+        p: u64,
+        rank: Option<u8>,
+        reader: &mut R,
+        steps: &mut Steps<L>,
+    ) -> Result<(), OutOfMemory>
+        requires within { p ≤ length (R.list reader.old) }
+        requires rank { IsRankOf (R.list reader.old) p self.old.at rank }
+        requires ranked { IfSome rank (λ r. r ≤ R.top) }
+        ensures brought { OnOk result (BringsTo p rank self.old.held self.new.held) }
+        ensures same_place { HasSamePlace self.old self.new }
+        ensures met { self.new.pass.view ≡ R.list reader.new }
+        ensures moves { Moves R.list R.floor R.went reader.old reader.new }
+        ensures counted { steps.old ≤ steps.new }
+    {
+        match rank {
+            Some(rank) => self.bring_ranked(p, rank, reader, steps),
+            None => {
+                self.meet(reader);
+                Ok(())
+            }
+        }
     }
 }

@@ -184,8 +184,8 @@ impl<N: Naming> Directory<N> {
         }
     }
 
-    /// The cell with a number, with this number, if there is one.
-    fn cell(&self, id: u32) -> Result<Option<(u32, SharedCell<N>)>, OutOfMemory> {
+    /// The cell with a number, with this number, if there is one. It takes constant time.
+    pub fn cell(&self, id: u32) -> Result<Option<(u32, SharedCell<N>)>, OutOfMemory> {
         match self.spots.get(id as usize) {
             Some(Spot::Taken(_, _, cell)) => Ok(Some((id, Arc::try_clone(cell)?))),
             _ => Ok(None),
@@ -235,7 +235,7 @@ impl<N: Naming> Directory<N> {
         };
         match mem::replace(spot, Spot::Leaving) {
             Spot::Free(idle, next) => {
-                *lock.get_mut() = Some(Cell::new(at, own, idle.pass));
+                *lock.get_mut() = Some(Cell::new(self.alloc, at, own, idle.pass));
                 *spot = Spot::Taken(at, place, shared);
                 self.free = next;
                 true

@@ -3,8 +3,8 @@ ghost use Rattle.std.specs.Prelude.{◌≡◌, ◌≤◌, All, length, map, IfOk
 ghost use Rattle.layering.specs.Parts.{JoinTo};
 
 use crate::book::CellBook;
-use crate::directory::{Directory, Part};
-use base_shards::Naming;
+use crate::directory::{Directory, Part, SharedCell};
+use base_shards::{BaseShards, Naming};
 use key_space::Range;
 use out_of_memory::OutOfMemory;
 use shared_reader::Use;
@@ -58,34 +58,46 @@ impl<N: Naming> SharedCells<N> {
         self.directory.lock(rt).cover(at, range, keep)
     }
 
+    /// The cell with a number, if there is one. While another thread has the directory, this one sleeps. It takes constant
+    /// time.
+    pub fn find<W: Wait>(&self, rt: &W, id: u32) -> Result<Option<SharedCell<N>>, OutOfMemory> {
+        match self.directory.lock(rt).cell(id)? {
+            Some((_, cell)) => Ok(Some(cell)),
+            None => Ok(None),
+        }
+    }
+
     /// Tells the book of the cells that were used, in order, and evicts those that have to go. Of a use for which there is no
-    /// memory it is not told. No lock of a cell may be held, as that of each victim is taken. While another thread has the
-    /// directory, the book or a victim, this one sleeps.
-    pub fn settle<W: Wait>(&self, rt: &W, used: &[Use]) {
+    /// memory it is not told. No lock of a cell or of a part may be held, as that of each victim and those of all parts are
+    /// taken. While another thread has the directory, the book, a victim or a part, this one sleeps.
+    pub fn settle<W: Wait>(&self, rt: &W, shards: &BaseShards<N>, used: &[Use]) {
         for one in used {
             let victims = self.book.lock(rt).touch(one.id, one.rows);
             if let Ok(victims) = victims {
-                self.free_all(rt, victims.as_slice());
+                self.free_all(rt, shards, victims.as_slice());
             }
         }
     }
 
     /// Evicts the cells with these numbers.
-    fn free_all<W: Wait>(&self, rt: &W, ids: &[u32]) {
+    fn free_all<W: Wait>(&self, rt: &W, shards: &BaseShards<N>, ids: &[u32]) {
         for id in ids {
-            self.free(rt, *id);
+            self.free(rt, shards, *id);
         }
     }
 
-    /// Evicts the cell with a number, if there is one. No lock of a cell may be held. It takes a few searches, and no memory.
-    /// While another thread has the directory, the book or the cell, this one sleeps.
-    pub fn evict<W: Wait>(&self, rt: &W, id: u32) {
+    /// Evicts the cell with a number, if there is one: it follows no range of the parts any more, and is not marked. No lock of
+    /// a cell or of a part may be held. It takes a few searches, and no memory. While another thread has the directory, the
+    /// book, the cell or a part, this one sleeps.
+    pub fn evict<W: Wait>(&self, rt: &W, shards: &BaseShards<N>, id: u32) {
         self.book.lock(rt).gone(id);
-        self.free(rt, id);
+        self.free(rt, shards, id);
     }
 
-    /// Takes a cell out of the directory, then what it keeps out of the cell, and gives its number back the pass.
-    fn free<W: Wait>(&self, rt: &W, id: u32) {
+    /// Takes a cell out of the directory, then what it keeps out of the cell, then the ranges that it follows out of the parts,
+    /// and gives its number back the pass. A cell follows ranges under its own lock alone, so none comes under its number
+    /// between the second step and the last, after which the number may be another cell's.
+    fn free<W: Wait>(&self, rt: &W, shards: &BaseShards<N>, id: u32) {
         let taken = self.directory.lock(rt).take_out(id);
         let Some(shared) = taken else {
             return;
@@ -93,6 +105,7 @@ impl<N: Naming> SharedCells<N> {
         let cell = shared.lock(rt).take();
         if let Some(cell) = cell {
             let pass = cell.into_pass();
+            shards.forget(rt, id);
             self.directory.lock(rt).give_back(id, pass);
         }
     }

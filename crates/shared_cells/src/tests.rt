@@ -1,16 +1,17 @@
 // Cells that are given, found and evicted, and each call once, with ample memory.
 ghost use Rattle.std.specs.Prelude.{◌≡◌, ◌<◌, ◌≤◌, All, length, IfOk};
+ghost use Rattle.std.specs.Arc.{arc_value};
 
 use super::*;
 use crate::directory::Directory;
-use base_shards::Naming;
+use base_shards::{BaseShards, Naming};
 use key_space::Range;
 use out_of_memory::OutOfMemory;
 use shared_reader::Use;
 use std::alloc::Global;
 use std::marker::Brand;
 use std::process::Abort;
-use std::sync::Wait;
+use std::sync::{Arc, Wait};
 use std::test::Fail;
 use write_history::{History, Pass};
 
@@ -21,6 +22,18 @@ fn make_passes(alloc: Global, count: u32) -> Result<(History, Vec<Pass>), OutOfM
     ensures each { IfOk result (λ made. All (λ pass. pass.history ≡ made.0) made.1.items) }
 {
     History::new(alloc, count)
+}
+
+/// A history, and its passes for the parts of the base pairs and for two cells.
+fn make_seats(alloc: Global) -> Result<(History, Vec<Pass>, Vec<Pass>), OutOfMemory>
+    ensures shard_count { IfOk result (λ made. length made.1.items ≡ 16) }
+    ensures shards { IfOk result (λ made. All (λ pass. pass.history ≡ made.0) made.1.items) }
+    ensures cell_count { IfOk result (λ made. length made.2.items ≡ 2) }
+    ensures cells { IfOk result (λ made. All (λ pass. pass.history ≡ made.0) made.2.items) }
+{
+    let (history, mut passes) = make_passes(alloc, 18)?;
+    let cells = passes.split_off(16)?;
+    Ok((history, passes, cells))
 }
 
 /// The range between two bounds.
@@ -153,50 +166,79 @@ fn many_parts_are_one(rt: HostRuntime) -> Result<(), Fail> {
 /// That threads may share a value.
 fn share<T: Sync>(_value: &T) {}
 
+/// Covers the range of both cells, and compares the parts.
+fn cover_both<N: Naming, R: Wait + Abort>(
+    rt: &R,
+    alloc: Global,
+    cells: &SharedCells<N>,
+    keep: bool,
+    wanted: &str,
+) -> Result<(), Fail> {
+    let range = range_of(rt, alloc, "t|a", "t|c");
+    let parts = cells.cover(rt, 1, &range, keep)?;
+    assert_eq!(rt; shown(alloc, parts.as_slice())?.as_str(), wanted);
+    Ok(())
+}
+
+/// Evicts a cell, which is found before and not after.
+fn evict<N: Naming, R: Wait + Abort>(
+    rt: &R,
+    cells: &SharedCells<N>,
+    shards: &BaseShards<N>,
+    id: u32,
+) -> Result<(), Fail> {
+    assert!(rt; cells.find(rt, id)?.is_some());
+    cells.evict(rt, shards, id);
+    assert!(rt; cells.find(rt, id)?.is_none());
+    Ok(())
+}
+
 /// The calls of what threads share: the cell that was used least recently goes where two weigh too much together.
 fn settle_two<N: Naming + Send + Sync, R: Wait + Abort>(
     rt: &R,
     alloc: Global,
-    history: &History,
-    passes: Vec<Pass>,
-) -> Result<(), Fail>
-    requires named { history.now ≡ N.history }
-    requires some { 1 ≤ length passes.items }
-    requires few { length passes.items ≤ 65536 }
-    requires same_history { All (λ pass. pass.history ≡ N.history) passes.items }
-{
-    let cells: SharedCells<N> = SharedCells::new(alloc, passes, 6)?;
-    share(&cells);
-    let range = range_of(rt, alloc, "t|a", "t|c");
+    cells: &SharedCells<N>,
+    shards: &BaseShards<N>,
+) -> Result<(), Fail> {
+    share(cells);
     for (low, high) in [("t|a", "t|b"), ("t|b", "t|c")] {
         cells.cover(rt, 1, &range_of(rt, alloc, low, high), true)?;
     }
-    let parts = cells.cover(rt, 1, &range, false)?;
-    assert_eq!(rt;
-        shown(alloc, parts.as_slice())?.as_str(),
-        "t|a t|b 1, t|b t|c 0, "
-    );
+    cover_both(rt, alloc, cells, false, "t|a t|b 1, t|b t|c 0, ")?;
     let used = [
         Use { id: 1, rows: 2 },
         Use { id: 7, rows: 9 },
         Use { id: 0, rows: 3 },
     ];
-    cells.settle(rt, &used);
-    let parts = cells.cover(rt, 1, &range, false)?;
-    assert_eq!(rt;
-        shown(alloc, parts.as_slice())?.as_str(),
-        "t|a t|b -, t|b t|c 0, "
-    );
-    cells.evict(rt, 0);
-    cells.evict(rt, 7);
-    let parts = cells.cover(rt, 1, &range, true)?;
-    assert_eq!(rt; shown(alloc, parts.as_slice())?.as_str(), "t|a t|c 0, ");
-    Ok(())
+    cells.settle(rt, shards, &used);
+    cover_both(rt, alloc, cells, false, "t|a t|b -, t|b t|c 0, ")?;
+    evict(rt, cells, shards, 0)?;
+    cells.evict(rt, shards, 7);
+    cover_both(rt, alloc, cells, true, "t|a t|c 0, ")
+}
+
+/// Makes two cells of these passes, over parts of these.
+fn make_and_settle<N: Naming + Send + Sync, R: Wait + Abort>(
+    rt: &R,
+    alloc: Global,
+    history: Arc<History>,
+    shards: Vec<Pass>,
+    cells: Vec<Pass>,
+) -> Result<(), Fail>
+    requires named { arc_value history ≡ N.history }
+    requires shard_count { length shards.items ≡ 16 }
+    requires shards { All (λ pass. pass.history ≡ N.history) shards.items }
+    requires cell_count { length cells.items ≡ 2 }
+    requires cells { All (λ pass. pass.history ≡ N.history) cells.items }
+{
+    let shards: BaseShards<N> = BaseShards::new(alloc, history, shards, 2)?;
+    let cells: SharedCells<N> = SharedCells::new(alloc, cells, 6)?;
+    settle_two(rt, alloc, &cells, &shards)
 }
 
 #[test]
 fn the_least_recently_used_goes(rt: HostRuntime) -> Result<(), Fail> {
     let alloc = rt.alloc();
-    let (history, passes) = make_passes(alloc, 2)?;
-    settle_two::<Brand, _>(&rt, alloc, &history, passes)
+    let (history, shards, cells) = make_seats(alloc)?;
+    make_and_settle::<Brand, _>(&rt, alloc, Arc::new(alloc, history)?, shards, cells)
 }

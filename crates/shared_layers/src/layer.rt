@@ -10,7 +10,7 @@ use key_space::Range;
 use out_of_memory::OutOfMemory;
 use pq_io::Gate;
 use shared_cells::SharedCells;
-use shared_reader::{Stacked, Use};
+use shared_reader::{Followed, Stacked, Use};
 use std::alloc::Global;
 use std::sync::Wait;
 use std::sync::ledger::Ledger;
@@ -116,6 +116,14 @@ impl<'a, N: Naming, W: Wait, G: Gate, R: Stacked<N>> Stacked<N> for Layer<'a, N,
 
     fn note_use(&mut self, used: Use) {
         self.inner.note_use(used);
+    }
+
+    fn start_noting(&mut self) -> usize {
+        self.inner.start_noting()
+    }
+
+    fn follow_noted(&mut self, id: u32, since: usize, followed: &mut Followed) {
+        self.inner.follow_noted(id, since, followed);
     }
 }
 

@@ -43,8 +43,8 @@ fn read_alone<N: Naming, W, G: Gate, R: Stacked<N>, L: Ledger>(
 }
 
 /// What the join gives in the part, from the cell that has it. None where no cell has it any more, where the cell is for another
-/// join or has not the whole part, and where what it keeps stands past the position. The reader takes note that the cell was
-/// used. While another thread has it, this one sleeps.
+/// join or has not the whole part, and where what it keeps stands past the position. The cell follows the ranges of base pairs
+/// that were read for it, and the reader takes note that it was used. While another thread has it, this one sleeps.
 fn read_cell<N: Naming, W: Wait, G: Gate, R: Stacked<N>, L: Ledger>(
     room: &Room<'_, N, W, G>,
     asked: Asked,
@@ -67,7 +67,9 @@ fn read_cell<N: Naming, W: Wait, G: Gate, R: Stacked<N>, L: Ledger>(
     let Some(own) = &mut *guard else {
         return Ok(None);
     };
+    let since = reader.start_noting();
     let found = own.serve(asked, &part.range, room.gate, reader, steps);
+    own.follow(*id, since, reader);
     reader.note_use(Use {
         id: *id,
         rows: own.rows(),

@@ -25,8 +25,8 @@ use std::sync::Wait;
 use std::sync::ledger::Ledger;
 use steps::Steps;
 
-/// What changed in the join's output in the part since a position, as the cell that has the part says. While another thread has
-/// it, this one sleeps.
+/// What changed in the join's output in the part since a position, as the cell that has the part says. The cell follows the
+/// ranges of base pairs that were read for it. While another thread has it, this one sleeps.
 ///
 /// `All` comes where no cell has the part any more, and where what the cell keeps does not know it once it stands at the later
 /// position.
@@ -47,14 +47,17 @@ fn tell_part<N: Naming, W: Wait, G: Gate, R: Stacked<N>, L: Ledger>(
     ensures moves { Moves R.list R.floor R.went reader.old reader.new }
     ensures counted { steps.old ≤ steps.new }
 {
-    let Some((_, cell)) = &part.cell else {
+    let Some((id, cell)) = &part.cell else {
         return Ok(Changed::All);
     };
     let mut guard = cell.lock(room.rt);
-    match &mut *guard {
-        Some(own) => own.tell(asked, since, &part.range, reader, steps),
-        None => Ok(Changed::All),
-    }
+    let Some(own) = &mut *guard else {
+        return Ok(Changed::All);
+    };
+    let noted = reader.start_noting();
+    let told = own.tell(asked, since, &part.range, reader, steps);
+    own.follow(*id, noted, reader);
+    told
 }
 
 /// What changed in the join's output in parts of a range since a position: the keys of the parts one after another, or `All`

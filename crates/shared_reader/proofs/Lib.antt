@@ -1,1 +1,2 @@
 pub mod VisibleLemmas
+pub mod FollowedLemmas

@@ -1,1 +1,3 @@
 pub mod Readable
+pub mod Following
+pub mod Noting

@@ -3,11 +3,14 @@
 // It stands on `out_of_memory`, `key_space`, `join_types`, `join_set`, `base_versions`, `write_history`, `base_shards`,
 // `base_reader`, `join_eval`, `steps` and, for its definitions and laws, on `semantics`, `key_ranges`, `growing_history`,
 // `layering` and `cell_slots`. The layers above may use `SharedReader`, which contracts see as the pass that it reads with,
-// and the trait `Stacked`: a reader whose list is what a pass has seen.
+// the trait `Stacked`: a reader whose list is what a pass has seen, and `Followed`: the ranges of base pairs that a cell follows.
 #![tactic(auto)]
 
+pub mod followed;
+mod noted;
 pub mod reader;
 pub mod stacked;
 
+pub use followed::Followed;
 pub use reader::SharedReader;
 pub use stacked::{Stacked, Use};

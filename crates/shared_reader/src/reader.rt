@@ -8,6 +8,8 @@ ghost use Rattle.base_shards.specs.Reading.{ReadsOn};
 ghost use Rattle.base_shards.proofs.ReadingLemmas.{reads_on-refl, reads_on-trans};
 ghost use Rattle.shared_reader.specs.Readable.{IsReadable};
 
+use crate::followed::Followed;
+use crate::noted::Noted;
 use crate::stacked::{Stacked, Use};
 use base_reader::hiding::hide_computed;
 use base_reader::reaching::{reached_in, standing_after};
@@ -39,6 +41,7 @@ pub struct SharedReader<'a, N: Naming, W> {
     p: u64,
     pass: Pass,
     used: Vec<Use>,
+    noted: Noted,
 }
 
 impl<'a, N: Naming, W> Model for SharedReader<'a, N, W> {
@@ -76,6 +79,7 @@ impl<'a, N: Naming, W> SharedReader<'a, N, W> {
             p,
             pass,
             used: Vec::new(alloc),
+            noted: Noted::new(alloc),
         }
     }
 
@@ -97,6 +101,22 @@ impl<'a, N: Naming, W: Wait> SharedReader<'a, N, W> {
     {
         let entries = self.history.entries(self.rt, &mut self.pass, 0, p)?;
         standing_after(self.alloc, &entries)
+    }
+
+    /// Follows under a cell's number the ranges that were noted since so many were, and adds them to those that it follows.
+    ///
+    /// On `OutOfMemory` some may be added that are not followed.
+    fn follow_since(
+        &mut self,
+        id: u32,
+        since: usize,
+        followed: &mut Followed,
+    ) -> Result<(), OutOfMemory>
+        ensures { self.new ≡ self.old }
+    {
+        let fresh = followed.take_in(self.alloc, self.noted.since(since))?;
+        self.shards
+            .follow(self.rt, &mut self.pass, id, fresh.as_slice())
     }
 
     /// Those of the base pairs after the first p entries that no output hides.
@@ -151,6 +171,7 @@ impl<'a, N: Naming, W: Wait> Reader for SharedReader<'a, N, W> {
         steps: &mut Steps<L>,
     ) -> Result<Vec<Pair>, OutOfMemory> {
         look_at(range);
+        self.noted.note(range);
         let pairs = self
             .shards
             .pairs_at(self.rt, &mut self.pass, p, range, steps)?;
@@ -166,6 +187,7 @@ impl<'a, N: Naming, W: Wait> Reader for SharedReader<'a, N, W> {
         steps: &mut Steps<L>,
     ) -> Result<Changed, OutOfMemory> {
         look_at(range);
+        self.noted.note(range);
         let ranges = slice::from_ref(range);
         let keys = self
             .shards
@@ -220,5 +242,16 @@ impl<'a, N: Naming, W: Wait> Stacked<N> for SharedReader<'a, N, W> {
     fn note_use(&mut self, used: Use) {
         // Where there is no room, the book keeps what it knew of the cell.
         let _pushed = self.used.push(used);
+    }
+
+    fn start_noting(&mut self) -> usize {
+        self.noted.start()
+    }
+
+    fn follow_noted(&mut self, id: u32, since: usize, followed: &mut Followed) {
+        if self.follow_since(id, since, followed).is_err() {
+            followed.clear();
+        }
+        self.noted.end();
     }
 }

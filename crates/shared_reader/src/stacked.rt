@@ -9,6 +9,7 @@ ghost use Rattle.write_history.specs.Passes.{GoesOn, own};
 ghost use Rattle.join_eval.specs.Moves.{Moves};
 ghost use Rattle.cell_slots.specs.Slots.{IsDeclared};
 
+use crate::followed::Followed;
 use base_shards::Naming;
 use join_eval::Reader;
 use join_types::Join;
@@ -63,6 +64,18 @@ pub trait Stacked<N: Naming>: Reader {
     /// Takes note that a cell was used, so that the book is told of it. A use for which there is no room is not told.
     fn note_use(&mut self, used: Use)
         ensures { Moves Self.list Self.floor Self.went self.old self.new };
+
+    /// A cell is at work: from now on the ranges of base pairs that are read are noted, until the `follow_noted` that ends its
+    /// work. Gives how many are noted already, for cells that are at work too. What is read does not rest on it.
+    fn start_noting(&mut self) -> usize
+        ensures { self.new ≡ self.old };
+
+    /// The work of a cell ends. Under its number it follows the ranges that were noted since so many were, and they are added
+    /// to those that it follows; one that lies in a range which it follows already is left out. A range for which there was
+    /// no room was not noted. Where there is no room to follow them all, some may be followed, and it is taken to follow
+    /// none. What is read does not rest on it.
+    fn follow_noted(&mut self, id: u32, since: usize, followed: &mut Followed)
+        ensures { self.new ≡ self.old };
 
     /// Every position can be read.
     ghost no_floor: { (a : Self) → Self.floor a ≡ 0 };

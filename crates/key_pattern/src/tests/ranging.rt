@@ -78,23 +78,6 @@ fn contained(
 }
 
 #[test]
-fn what_a_walk_reads(rt: HostRuntime) -> Result<(), Fail> {
-    let alloc = rt.alloc();
-    let output = read_pattern(&rt, alloc, "t|<0|<1|<2")?;
-    let range = read_range(&rt, alloc, "t|ann|", "t|ann}");
-    let slots = output.bind_range(&range).expect(&rt, "slots");
-    let check = read_pattern(&rt, alloc, "s|<0|<2")?;
-    let read = contained(alloc, &check, &slots, &output, &range)?.expect(&rt, "a range");
-    assert!(rt; read.as_str() == "s|ann| s|ann}");
-    let key = read_key(&rt, alloc, "s|ann|bob");
-    let more = check.matches(&key, &slots).expect(&rt, "a fit");
-    let copy = read_pattern(&rt, alloc, "p|<2|<1")?;
-    let read = contained(alloc, &copy, &more, &output, &range)?.expect(&rt, "a range");
-    assert!(rt; read.as_str() == "p|bob| p|bob}");
-    Ok(())
-}
-
-#[test]
 fn what_is_contained(rt: HostRuntime) -> Result<(), Fail> {
     let alloc = rt.alloc();
     let output = read_pattern(&rt, alloc, "o|<0|<1")?;
@@ -132,47 +115,6 @@ fn what_a_pattern_holds_under_slots(rt: HostRuntime) -> Result<(), Fail> {
             .prefix_range(alloc, &slots)?
             .expect(&rt, "a range");
         assert!(rt; found.lo() == low && found.hi() == high, "{pattern}");
-    }
-    Ok(())
-}
-
-#[test]
-fn what_varies_does_not_narrow(rt: HostRuntime) -> Result<(), Fail> {
-    let alloc = rt.alloc();
-    let output = read_pattern(&rt, alloc, "o|<0|<1")?;
-    let range = read_range(&rt, alloc, "o|1", "o|1|");
-    let slots = output.bind_range(&range).expect(&rt, "slots");
-    let source = read_pattern(&rt, alloc, "i|<0|<1")?;
-    let found = source
-        .containing(alloc, &slots, &output, &range)?
-        .expect(&rt, "a range");
-    assert!(rt; range.contains(&read_key(&rt, alloc, "o|10|a")));
-    assert!(rt; found.contains(&read_key(&rt, alloc, "i|10|a")));
-    Ok(())
-}
-
-#[test]
-fn what_is_too_long(rt: HostRuntime) -> Result<(), Fail> {
-    let alloc = rt.alloc();
-    let output = read_pattern(&rt, alloc, "o|<0|<1")?;
-    let range = read_range(&rt, alloc, "o|", "o}");
-    let rows = [
-        ("t|<0", 510, true),
-        ("tt|<0", 510, false),
-        ("t|<0|<1", 509, true),
-        ("t|<0|<1", 510, false),
-    ];
-    for (source, count, ok) in rows {
-        let text = followed(alloc, "k|", count)?;
-        let key = read_key(&rt, alloc, text.as_str());
-        let slots = read_pattern(&rt, alloc, "k|<0")?
-            .matches(&key, &Slots::none())
-            .expect(&rt, "slots");
-        let source = read_pattern(&rt, alloc, source)?;
-        assert!(rt;
-            source.containing(alloc, &slots, &output, &range)?.is_some() == ok,
-            "{count}"
-        );
     }
     Ok(())
 }

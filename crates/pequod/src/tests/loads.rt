@@ -13,15 +13,21 @@ fn a_load_of_no_act_has_the_joins_alone(rt: HostRuntime) -> Result<(), Fail> {
 const LINE: &str = "[\"load\",1506,195,783,214,1519,90,58245]\n";
 
 #[test]
-fn a_load_is_told_by_its_numbers(rt: HostRuntime) -> Result<(), Fail> {
-    let words = ["load", "--number", "7", "--steps", "2000", "--workers=1"];
-    Given::new(&words).gives(&rt, "2,000 acts", Status::DONE, LINE)
-}
-
-#[test]
-fn the_line_of_a_load_does_not_depend_on_the_rows(rt: HostRuntime) -> Result<(), Fail> {
-    let words = ["load", "--number", "7", "--steps", "2000", "--rows", "1"];
-    Given::new(&words).gives(&rt, "one row", Status::DONE, LINE)
+fn a_load_is_told_by_its_numbers_alone(rt: HostRuntime) -> Result<(), Fail> {
+    for (workers, rows) in [("1", "100000"), ("1", "1"), ("4", "100000"), ("4", "1")] {
+        let words = [
+            "load",
+            "--number",
+            "7",
+            "--steps=2000",
+            "--workers",
+            workers,
+            "--rows",
+            rows,
+        ];
+        Given::new(&words).gives(&rt, workers, Status::DONE, LINE)?;
+    }
+    Ok(())
 }
 
 #[test]

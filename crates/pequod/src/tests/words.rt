@@ -22,7 +22,7 @@ fn other_words_form_no_command(rt: HostRuntime) -> Result<(), Fail> {
         &["replay"],
         &["load", "j"],
         &["load", "--users", "10000"],
-        &["load", "--workers", "2"],
+        &["load", "--workers", "65"],
         &["serve", "127.0.0.1:7000", "--workers", "65"],
     ];
     for list in lists {

@@ -139,5 +139,80 @@ read 3 b| b}
 ",
 };
 
+/// A put of a pair that a kept range reads marks its cell, a turn brings it forward, and the next read passes no gate. A pair that
+/// no kept range reads marks none. A subscription is pending once its cell was brought forward, and the posts of who is
+/// subscribed mark the cell once that is mended. An evicted cell is not marked.
+const TURNED: Row = Row {
+    cells: 1,
+    limit: 100,
+    lines: "write t|<user>|<time>|<poster> = check s|<user>|<poster> copy p|<poster>|<time>
+write s|ann|bob=1
+write p|bob|100=Hi
+read 3 t|ann| t|ann}
+turn cells
+write p|bob|120=Yo
+turn cells
+turn cells
+read 4 t|ann| t|ann}
+write p|cat|110=Ha
+turn cells
+write s|ann|cat=1
+turn cells
+read 6 t|ann| t|ann}
+write p|cat|130=Ho
+turn cells
+read 7 t|ann| t|ann}
+evict 0
+write p|bob|140=No
+turn cells
+read 8 t|ann| t|ann}
+",
+    wanted: "1: t|ann|100|bob=Hi
+idle
+brought 0 to 4
+idle
+0: t|ann|100|bob=Hi t|ann|120|bob=Yo
+idle
+brought 0 to 6
+1: t|ann|100|bob=Hi t|ann|110|cat=Ha t|ann|120|bob=Yo
+brought 0 to 7
+0: t|ann|100|bob=Hi t|ann|110|cat=Ha t|ann|120|bob=Yo t|ann|130|cat=Ho
+idle
+1: t|ann|100|bob=Hi t|ann|110|cat=Ha t|ann|120|bob=Yo t|ann|130|cat=Ho t|ann|140|bob=No
+",
+};
+
+/// A vote marks the cell of the counter, and that of the page over it, since the votes were read for both.
+const TURNED_OVER_ANOTHER: Row = Row {
+    cells: 2,
+    limit: 100,
+    lines: "write karma|<a> = count vote|<a>|<id>|<voter>
+write page|<a>|<id>|k = check art|<a>|<id> copy karma|<a>
+write art|bob|1=T
+write vote|bob|1|ann=1
+read 4 page|bob| page|bob}
+write vote|bob|1|cat=1
+turn cells
+turn cells
+turn cells
+read 5 page|bob| page|bob}
+",
+    wanted: "2: page|bob|1|k=1
+brought 0 to 5
+brought 1 to 5
+idle
+0: page|bob|1|k=2
+",
+};
+
 /// All of them.
-pub const ROWS: [Row; 6] = [KEPT, TOO_HEAVY, PULLED, EARLIER, ONE_OVER_ANOTHER, ONE_CELL];
+pub const ROWS: [Row; 8] = [
+    KEPT,
+    TOO_HEAVY,
+    PULLED,
+    EARLIER,
+    ONE_OVER_ANOTHER,
+    ONE_CELL,
+    TURNED,
+    TURNED_OVER_ANOTHER,
+];

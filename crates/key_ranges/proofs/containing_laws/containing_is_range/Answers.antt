@@ -1,4 +1,4 @@
-use Rattle.key_ranges.proofs.ContainingLemmas.{containing_is_range}
+use Rattle.key_ranges.proofs.NarrowedLemmas.{containing_is_range}
 use Rattle.key_ranges.proofs.containing_laws.containing_is_range.Goals as goal
 
 pub returns : goal.returns

@@ -1,4 +1,4 @@
-use Rattle.std.proofs.Common.{◌≡◌, true, refl, sym, ap, ◌∙◌, subst}
+use Rattle.std.proofs.Common.{◌≡◌, true, sym, ap, ◌∙◌, subst}
 use Rattle.std.specs.Prelude.{nat_eq, ◌∷◌, []}
 use Rattle.std.specs.List.{ends_with}
 use Rattle.std.specs.Fmt.{styled_decimal}
@@ -8,13 +8,13 @@ use Rattle.load_run.proofs.LookLemmas.{timeline_prefix, prefix_text, prefix_is_k
 use Rattle.load_run.proofs.acting.look.Goals as goal
 
 pub prefix_range-requires-clause-key : goal.prefix_range-requires-clause-key
-prefix_range-requires-clause-key c =
+prefix_range-requires-clause-key g c =
     let text : c.as_str.result.now ≡ timeline_prefix c.args.user =
     prefix_text c.args.user c.as_str.result.now _ _ (ap (λ s. styled_decimal s c.args.user) c.laid_out.ensures ∙ four_digits c.args.user) c.as_str.ensures.value c.in_ok-prefix.ensures.ok in
     subst (λ (t : Text). is_key t ≡ true) (sym text) (prefix_is_key c.args.user c.ranges.user.fits)
 
 pub prefix_range-requires-clause-ends : goal.prefix_range-requires-clause-ends
-prefix_range-requires-clause-ends c =
+prefix_range-requires-clause-ends g c =
     let text : c.as_str.result.now ≡ timeline_prefix c.args.user =
     prefix_text c.args.user c.as_str.result.now _ _ (ap (λ s. styled_decimal s c.args.user) c.laid_out.ensures ∙ four_digits c.args.user) c.as_str.ensures.value c.in_ok-prefix.ensures.ok in
     subst (λ (t : Text). ends_with nat_eq t (bar ∷ []) ≡ true) (sym text) (prefix_ends c.args.user)

@@ -1,4 +1,4 @@
-use Rattle.std.proofs.Common.{◌≡◌, [], Option, Some, option_map, is_err, MatchOption, true, ap, subst, sym, ⊎_elim}
+use Rattle.std.proofs.Common.{◌≡◌, [], option_map, is_err, MatchOption, true, ap, subst, sym, ⊎_elim}
 use Rattle.protocol.specs.JoinsFile.{check_text, file_history}
 use Rattle.pq_io.specs.Streams.{Took, TookProperPrefix}
 use Rattle.pq_io.proofs.StreamLemmas.{Took-nothing}

@@ -1,4 +1,4 @@
-use Rattle.std.proofs.Common.{◌≡◌, ◌<◌, refl, arith}
+use Rattle.std.proofs.Common.{◌≡◌, refl, arith}
 use Rattle.key_pattern.proofs.PlaceLemmas.{same_by_places}
 use Rattle.key_pattern.proofs.slots.SlotTexts.is_same.Goals as goal
 

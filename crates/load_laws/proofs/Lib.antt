@@ -1,0 +1,3 @@
+pub mod PosterLemmas
+pub mod WriteLemmas
+pub mod SharedLemmas

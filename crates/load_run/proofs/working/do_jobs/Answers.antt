@@ -1,0 +1,11 @@
+use Rattle.std.proofs.Common.{rules, sym, subst}
+use Rattle.std.specs.Prelude.{IfOk, slice_index_or}
+use Rattle.load_run.specs.Jobs.{Assigned, IsDone}
+use Rattle.load_run.proofs.working.do_jobs.Goals as goal
+
+pub returns-clause-each : goal.returns-clause-each
+returns-clause-each g c i d e less =
+    let gives = (c.in_ok-map_vec.ensures.each i e less).1 in
+    let met = gives.call.met in
+    let done : IfOk (slice_index_or c.in_ok-map_vec.field-0.items i e) (IsDone gives.job) = search rules in
+    subst (λ (job : Assigned). IfOk (slice_index_or c.in_ok-map_vec.field-0.items i e) (IsDone job)) (sym (gives.job_is d)) done

@@ -1,0 +1,24 @@
+use Rattle.std.proofs.Common.{◌∙◌, ap, sym, arith}
+use Rattle.semantics.specs.Histories.{joins_of}
+use Rattle.growing_history.proofs.PrefixLemmas.{prefix_length, take_prefix}
+use Rattle.base_shards.proofs.ReadingLemmas.{reads_on-trans}
+use Rattle.range_cells.proofs.range_cells.RangeCells.turn.Goals as goal
+
+pub bring_parts-requires-clause-within : goal.bring_parts-requires-clause-within
+bring_parts-requires-clause-within g c = omega (arith, c.requires.whole)
+
+pub bring_marked-requires-clause-same_history : goal.bring_marked-requires-clause-same_history
+bring_marked-requires-clause-same_history g c = c.bring_parts.ensures.same_history ∙ c.requires.same_history
+
+pub bring_marked-requires-clause-recorded : goal.bring_marked-requires-clause-recorded
+bring_marked-requires-clause-recorded g c = c.bring_parts.ensures.recorded c.requires.recorded
+
+pub bring_marked-requires-clause-within : goal.bring_marked-requires-clause-within
+bring_marked-requires-clause-within g c = omega (arith, c.requires.whole, prefix_length c.args.pass.view c.bring_parts.new.pass.view c.bring_parts.ensures.begins)
+
+pub bring_marked-requires-clause-joins : goal.bring_marked-requires-clause-joins
+bring_marked-requires-clause-joins g c =
+    c.requires.joins ∙ ap joins_of (sym (take_prefix c.args.p c.args.pass.view c.bring_parts.new.pass.view (omega (arith, c.requires.whole)) c.bring_parts.ensures.begins))
+
+pub returns-in-Some-clause-reads_on : goal.returns-in-Some-clause-reads_on
+returns-in-Some-clause-reads_on g c = reads_on-trans c.args.pass c.bring_parts.new.pass c.bring_marked.result.pass c.bring_parts.ensures c.bring_marked.ensures.reads_on

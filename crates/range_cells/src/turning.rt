@@ -1,0 +1,236 @@
+// Bringing kept ranges forward, one at a time.
+ghost use Rattle.std.specs.Prelude.{◌≡◌, ◌≤◌, length, take, IfSome, Some};
+ghost use Rattle.semantics.specs.Histories.{joins_of};
+ghost use Rattle.write_history.specs.Entries.{IsRecorded};
+ghost use Rattle.base_shards.specs.Reading.{ReadsOn};
+ghost use Rattle.base_reader.specs.Reaching.{IsRankIn};
+ghost use Rattle.range_cells.specs.Turns.{IsWithinView};
+
+use crate::range_cells::RangeCells;
+use crate::stack::Stack;
+use base_shards::{Naming, SHARDS};
+use join_set::JoinSet;
+use out_of_memory::OutOfMemory;
+use pq_io::Gate;
+use shared_cells::{Cell, SharedCell};
+use shared_layers::Room;
+use shared_reader::{SharedReader, Use};
+use std::sync::Wait;
+use std::sync::ledger::Ledger;
+use steps::Steps;
+use write_history::Pass;
+
+/// What a turn did.
+#[derive(Clone, Copy, Debug, PartialEq, Eq)]
+pub enum Turn {
+    /// The cell with this number was marked first.
+    Brought {
+        /// The number.
+        id: u32,
+        /// Where the cell stood when its lock was let go: after how many entries. None where nothing is kept there.
+        position: Option<u64>,
+    },
+    /// No cell was marked.
+    Idle,
+    /// No memory was found. Where a cell was marked first, it is not marked any more.
+    OutOfMemory,
+}
+
+/// What a turn gives back: the pass that it was given, and what it did.
+#[derive(Drop)]
+pub struct Turned {
+    /// The pass. It is the same, has written nothing, and may have seen more.
+    pub pass: Pass,
+    /// What was done.
+    pub turn: Turn,
+}
+
+/// The rank of the join that was declared at a position, where it is among the first p entries and the join stands. Linear in
+/// the joins.
+fn rank_at(joins: &JoinSet, at: u64, p: u64) -> Option<u8>
+    ensures rank { IfSome result (λ rank. IsRankIn joins.now at (Some rank)) }
+    ensures declared { IfSome result (λ _. at ≤ p) }
+    ensures shallow { IfSome result (λ rank. rank ≤ 7) }
+{
+    if p < at {
+        return None;
+    }
+    for i in 0..joins.len() {
+        if joins.at(i) == at {
+            return Some(joins.rank(i));
+        }
+    }
+    None
+}
+
+impl<N: Naming> RangeCells<N> {
+    /// Brings each part of the base pairs to where the first p entries stand, so that cells are marked for them.
+    ///
+    /// On `OutOfMemory` some parts may have come there, and one nearer.
+    fn bring_parts<W: Wait>(&self, rt: &W, pass: &mut Pass, p: u64) -> Result<(), OutOfMemory>
+        requires same_history { pass.old.history ≡ N.history }
+        requires within { p ≤ length pass.old.view }
+        ensures { ReadsOn pass.old pass.new }
+    {
+        for number in 0..SHARDS {
+            self.shards.catch_up(rt, pass, number, p)?;
+        }
+        Ok(())
+    }
+
+    /// Brings a cell to where the first p entries stand, says where it stands then, and which cells of lower ranks were used for
+    /// it, in order.
+    fn bring_cell<W: Wait, G: Gate, L: Ledger>(
+        &self,
+        rt: &W,
+        pass: Pass,
+        joins: &JoinSet,
+        p: u64,
+        gate: &G,
+        steps: &mut Steps<L>,
+        id: u32,
+        cell: &mut Cell<N>,
+    ) -> (Turned, Vec<Use>)
+        requires same_history { pass.history ≡ N.history }
+        requires recorded { IsRecorded pass.writers pass.view }
+        requires within { p ≤ length pass.view }
+        requires joins { joins.now ≡ joins_of (take p pass.view) }
+        ensures within { IsWithinView result.0.turn result.0.pass.view }
+        ensures reads_on { ReadsOn pass result.0.pass }
+        ensures counted { steps.old ≤ steps.new }
+    {
+        let room = Room {
+            alloc: self.alloc,
+            rt,
+            gate,
+            cells: &self.cells,
+        };
+        let rank = rank_at(joins, cell.at(), p);
+        let lowest = SharedReader::new(self.alloc, rt, &self.history, &self.shards, joins, p, pass);
+        let mut stack = Stack::new(&room, lowest);
+        let brought = stack.bring(cell, id, p, rank, steps);
+        let (pass, used) = stack.into_parts();
+        let position = cell.position();
+        match brought {
+            Ok(()) => {
+                let turn = Turn::Brought { id, position };
+                (Turned { pass, turn }, used)
+            }
+            Err(OutOfMemory) => {
+                let turn = Turn::OutOfMemory;
+                (Turned { pass, turn }, used)
+            }
+        }
+    }
+
+    /// Brings what lies behind a cell's lock to where the first p entries stand, says where it stands then, and which cells of lower
+    /// ranks were used for it, in order. While another thread has the cell, this one sleeps.
+    fn bring_locked<W: Wait, G: Gate, L: Ledger>(
+        &self,
+        rt: &W,
+        pass: Pass,
+        joins: &JoinSet,
+        p: u64,
+        gate: &G,
+        steps: &mut Steps<L>,
+        id: u32,
+        shared: &SharedCell<N>,
+    ) -> (Turned, Vec<Use>)
+        requires same_history { pass.history ≡ N.history }
+        requires recorded { IsRecorded pass.writers pass.view }
+        requires within { p ≤ length pass.view }
+        requires joins { joins.now ≡ joins_of (take p pass.view) }
+        ensures within { IsWithinView result.0.turn result.0.pass.view }
+        ensures reads_on { ReadsOn pass result.0.pass }
+        ensures counted { steps.old ≤ steps.new }
+    {
+        let mut guard = shared.lock(rt);
+        match &mut *guard {
+            Some(cell) => self.bring_cell(rt, pass, joins, p, gate, steps, id, cell),
+            None => {
+                let position = None;
+                let turn = Turn::Brought { id, position };
+                (Turned { pass, turn }, Vec::new(self.alloc))
+            }
+        }
+    }
+
+    /// Brings the cell with a number to where the first p entries stand, if there is one, says where it stands then, and tells the
+    /// book of the cells of lower ranks that were used for it.
+    fn bring_marked<W: Wait, G: Gate, L: Ledger>(
+        &self,
+        rt: &W,
+        pass: Pass,
+        joins: &JoinSet,
+        p: u64,
+        gate: &G,
+        steps: &mut Steps<L>,
+        id: u32,
+    ) -> Turned
+        requires same_history { pass.history ≡ N.history }
+        requires recorded { IsRecorded pass.writers pass.view }
+        requires within { p ≤ length pass.view }
+        requires joins { joins.now ≡ joins_of (take p pass.view) }
+        ensures within { IsWithinView result.turn result.pass.view }
+        ensures reads_on { ReadsOn pass result.pass }
+        ensures counted { steps.old ≤ steps.new }
+    {
+        let Ok(found) = self.cells.find(rt, id) else {
+            return Turned {
+                pass,
+                turn: Turn::OutOfMemory,
+            };
+        };
+        let Some(shared) = found else {
+            let position = None;
+            let turn = Turn::Brought { id, position };
+            return Turned { pass, turn };
+        };
+        let (turned, used) = self.bring_locked(rt, pass, joins, p, gate, steps, id, &shared);
+        self.cells.settle(rt, &self.shards, used.as_slice());
+        turned
+    }
+
+    /// Brings the cell forward that was marked first: each part of the base pairs is brought to the end of what the pass has
+    /// seen, that is, to where the first p entries stand, which marks each cell that follows a range with a key that they put or
+    /// remove; then the first marked cell is advanced there, if it stands below. These are the joins that stand then.
+    ///
+    /// What is pending in the cell then stays so, what is forgotten stays so, and what is kept with another rank than the join
+    /// has is let go. Before a range of a lower rank is filled or mended for it, the gate is passed. While another thread has a
+    /// part or a cell that this one needs, this one sleeps. That the cell was brought forward is no use of it; of the cells of lower
+    /// ranks that were read for it the book is told as after a read, and the least recently used are evicted.
+    ///
+    /// `Idle` comes only where no part had a marked cell when its lock was taken.
+    pub fn turn<W: Wait, G: Gate, L: Ledger>(
+        &self,
+        rt: &W,
+        pass: Pass,
+        joins: &JoinSet,
+        p: u64,
+        gate: &G,
+        steps: &mut Steps<L>,
+    ) -> Turned
+        requires same_history { pass.history ≡ N.history }
+        requires recorded { IsRecorded pass.writers pass.view }
+        requires whole { p ≡ length pass.view }
+        requires joins { joins.now ≡ joins_of (take p pass.view) }
+        ensures within { IsWithinView result.turn result.pass.view }
+        ensures reads_on { ReadsOn pass result.pass }
+        ensures counted { steps.old ≤ steps.new }
+    {
+        let mut pass = pass;
+        if self.bring_parts(rt, &mut pass, p).is_err() {
+            return Turned {
+                pass,
+                turn: Turn::OutOfMemory,
+            };
+        }
+        match self.shards.next_marked(rt) {
+            Some(id) => self.bring_marked(rt, pass, joins, p, gate, steps, id),
+            None => Turned {
+                pass,
+                turn: Turn::Idle,
+            },
+        }
+    }
+}

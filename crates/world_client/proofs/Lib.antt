@@ -1,3 +1,0 @@
-pub mod ScanSteps
-pub mod DoneCases
-pub mod Answering

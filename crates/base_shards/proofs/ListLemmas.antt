@@ -1,8 +1,8 @@
 -- Beginnings of histories, and how long a history is.
 use Rattle.std.proofs.Common.{◌≡◌, ℕ, zero, suc, ◌+◌, ◌-◌, ◌^◌, ◌<◌, ◌≤◌, List, [], ◌∷◌, ◌++◌, length, take, drop, filter, flat_map, nat_le, Some, None, if◌then◌else◌, leb-false, refl, sym, ap, ◌∙◌, arith}
 use Rattle.std.proofs.lemmas.List.{length-append, length-drop, length-take, drop-append-le, take-append-drop, take-append-le}
-use Rattle.semantics.specs.Histories.{Write, Entry, History, IsPrefix}
-use Rattle.semantics.specs.Verdicts.{full, first_cause, write_cause, verdict, AllEntered}
+use Rattle.semantics.specs.Histories.{Write, History, IsPrefix}
+use Rattle.semantics.specs.Verdicts.{full, write_cause, verdict}
 use Rattle.semantics.proofs.JoinSets.{first_cause-None, test-from_None}
 use Rattle.growing_history.specs.Entered.{HasEntered}
 use Rattle.growing_history.specs.Changes.{entries_between, in_order, written, changed_keys}

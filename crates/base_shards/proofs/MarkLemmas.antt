@@ -1,15 +1,15 @@
 -- Which ids entries mark, one part of them after another.
-use Rattle.std.proofs.Common.{◌≡◌, ◌==◌, ℕ, ◌+◌, ◌-◌, ◌≤◌, List, [], ◌∷◌, ◌++◌, length, take, drop, filter, flat_map, fold, Bool, true, false, cond, if◌then◌else◌, eq-eqb, ne_eqb, Result, Ok, Err, OnOk, OnErr, refl, sym, ap, ◌∙◌, subst, arith}
+use Rattle.std.proofs.Common.{◌≡◌, ◌==◌, ℕ, ◌+◌, ◌-◌, ◌≤◌, List, [], ◌∷◌, ◌++◌, length, take, drop, filter, flat_map, Bool, true, false, cond, if◌then◌else◌, eq-eqb, ne_eqb, Result, OnOk, OnErr, refl, sym, ap, ◌∙◌, subst, arith}
 use Rattle.std.proofs.lemmas.List.{append-nil, drop-drop, length-drop, take-append-drop}
 use Rattle.std.proofs.lemmas.List.Concat.{flat_map-append}
 use Rattle.std.proofs.lemmas.List.Elements.{filter-append}
 use Rattle.std.proofs.lemmas.List.Sums.{fold-append}
 use Rattle.std.proofs.lemmas.Result.{on_ok_weaker, on_err_weaker}
 use Rattle.semantics.specs.Texts.{Text, table_of}
-use Rattle.semantics.specs.Histories.{Write, put, remove, declare, Entry, History}
+use Rattle.semantics.specs.Histories.{Entry, History}
 use Rattle.growing_history.specs.Changes.{entries_between, written}
 use Rattle.base_versions.specs.Kept.{Kept, HasEnteredInPart, shard_of}
-use Rattle.updater_index.specs.Registered.{Held, Index, IsMarkedInPart, stabbed, with_mark, with_marks}
+use Rattle.updater_index.specs.Registered.{Held, Index, IsMarkedInPart, stabbed, with_mark}
 use Rattle.base_shards.proofs.ListLemmas.{take_then, take_of_take}
 use Rattle.base_shards.proofs.ShardLemmas.{TakesNext, next_entries, next_length, next_upto}
 use Rattle.base_shards.specs.Marks.{written_in, stabbed_by, with_ids_marked, marked_by, marked_by_key, OnlyMarks, MarksAtLeast, starts_from}

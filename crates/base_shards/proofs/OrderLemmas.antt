@@ -1,19 +1,15 @@
 -- Texts in order, each once.
-use Rattle.std.proofs.Common.{◌≡◌, ℕ, ◌+◌, ◌<◌, List, [], ◌∷◌, ◌++◌, length, take, map, flat_map, fold, get_or, refl, sym, ap, ◌∙◌, subst, append_assoc, Ordering, Less, Equal, Greater}
-use Rattle.std.specs.List.{AllByRecursion}
+use Rattle.std.proofs.Common.{◌≡◌, ◌+◌, List, [], ◌∷◌, ◌++◌, map, fold, refl, sym, ap, ◌∙◌, subst, append_assoc, Less, Greater}
 use Rattle.std.specs.List.Sorted.{IsStrictlySortedBy}
 use Rattle.std.specs.Ordering.{ordering_reverse}
 use Rattle.std.specs.BTreeSet.{insert_key}
 use Rattle.std.specs.FinMap.Entries.{by_order}
 use Rattle.std.proofs.lemmas.Cmp.{nat_list_cmp_total}
-use Rattle.std.proofs.lemmas.List.{append-nil, take_more}
-use Rattle.std.proofs.lemmas.List.Concat.{flat_map-append}
-use Rattle.semantics.specs.Texts.{Text, text_cmp, Table, Range, with_pair}
-use Rattle.semantics.specs.Histories.{History}
-use Rattle.growing_history.specs.Changes.{in_order, changed_keys}
+use Rattle.std.proofs.lemmas.List.{append-nil}
+use Rattle.semantics.specs.Texts.{Text, text_cmp, Table, with_pair}
+use Rattle.growing_history.specs.Changes.{in_order}
 use Rattle.growing_history.proofs.ElementLemmas.{all_right}
 use Rattle.growing_history.proofs.OrderLemmas.{in_order-push}
-use Rattle.growing_history.proofs.ChangeLemmas.{changed_keys_ascend}
 
 -- a table of texts without values
 abbrev rows : List Text → Table

@@ -1,11 +1,11 @@
 -- Laws on what changes in several ranges, and on passes that read.
-use Rattle.std.specs.Prelude.{◌≡◌, ℕ, ◌+◌, [], ◌∷◌, length}
+use Rattle.std.specs.Prelude.{◌≡◌, ℕ, [], ◌∷◌}
 use Rattle.semantics.specs.Texts.{Range}
 use Rattle.semantics.specs.Histories.{History}
 use Rattle.growing_history.specs.Changes.{changed_keys}
 use Rattle.write_history.specs.Passes.{PassView}
 use Rattle.base_shards.specs.Reading.{ReadsOn}
-use Rattle.base_shards.specs.Changed.{changed_in_all, steps_of_all}
+use Rattle.base_shards.specs.Changed.{changed_in_all}
 
 -- of one range alone they are its changed keys
 abbrev pub OneRangeAlone : Type 0

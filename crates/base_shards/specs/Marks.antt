@@ -1,5 +1,5 @@
 -- Which ids entries mark in a part of the tables.
-use Rattle.std.specs.Prelude.{◌≡◌, ℕ, ◌-◌, ◌==◌, List, ◌++◌, length, filter, flat_map, if◌then◌else◌}
+use Rattle.std.specs.Prelude.{◌≡◌, ℕ, ◌-◌, ◌==◌, List, ◌++◌, filter, flat_map, if◌then◌else◌}
 use Rattle.semantics.specs.Texts.{Text, table_of}
 use Rattle.semantics.specs.Histories.{History}
 use Rattle.growing_history.specs.Changes.{entries_between, written}

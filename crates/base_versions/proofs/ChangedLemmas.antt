@@ -1,10 +1,9 @@
 -- The keys that changed, found by the versions of a range's own keys.
-use Rattle.std.proofs.Common.{◌≡◌, ℕ, ◌+◌, ◌≤◌, ◌&&◌, ◌||◌, Bool, true, false, cond, List, [], ◌∷◌, ◌++◌, map, filter, fold, Option, None, Some, refl, sym, ap, ◌∙◌, is_eq}
+use Rattle.std.proofs.Common.{◌≡◌, ℕ, ◌+◌, ◌≤◌, ◌&&◌, ◌||◌, Bool, true, false, cond, List, [], ◌∷◌, map, filter, fold, Option, None, Some, refl, sym, ap, ◌∙◌}
 use Rattle.std.specs.List.{cons_option, list_any}
 use Rattle.std.specs.List.Sorted.{IsStrictlySortedBy}
 use Rattle.std.specs.Map.{keys_of}
 use Rattle.std.specs.Option.{option_map}
-use Rattle.std.proofs.lemmas.Bool.{false≢true}
 use Rattle.std.proofs.lemmas.List.Elements.{filter-append}
 use Rattle.std.proofs.lemmas.List.Folds.{list_any-append}
 use Rattle.std.proofs.lemmas.List.{map-append}
@@ -12,10 +11,10 @@ use Rattle.semantics.specs.Texts.{Text, text_cmp, same, table_of, Table, value_a
 use Rattle.semantics.specs.Histories.{Write, put, remove, declare, History}
 use Rattle.semantics.proofs.PieceLemmas.{equal_by_same}
 use Rattle.semantics.proofs.TableLemmas.{IsAscending, value_at-with_pair, ascending-with_pair, same_tables}
-use Rattle.growing_history.specs.Changes.{written, in_order, changed_keys}
+use Rattle.growing_history.specs.Changes.{written, changed_keys}
 use Rattle.base_versions.specs.declared.versions.Version.{Version}
 use Rattle.base_versions.specs.declared.changes.Change.{Change}
-use Rattle.base_versions.specs.Positions.{IsKeptSince, lies_between, made_from}
+use Rattle.base_versions.specs.Positions.{lies_between}
 use Rattle.base_versions.specs.Versions.{Tracks, version_by, versions_at, versions_of, has_between, keys_changed, pairs_by, SayFrom}
 use Rattle.base_versions.specs.Changes.{change_by, changes_of, is_between, keys_within}
 use Rattle.base_versions.specs.Kept.{TableKept, Kept, table_in, has_table, StandsFor}

@@ -1,9 +1,8 @@
 -- The versions of a key, and the base pair at it.
-use Rattle.std.proofs.Common.{◌≡◌, ℕ, zero, suc, ◌+◌, ◌-◌, ◌<◌, ◌≤◌, List, [], ◌∷◌, ◌++◌, length, take, fold, drop, nat_le, Bool, true, false, ◌||◌, cond, not, slice_get, option_and_then, Option, Some, None, refl, sym, ap, ◌∙◌, ⊎_elim, arith, subst, append_assoc}
+use Rattle.std.proofs.Common.{◌≡◌, ℕ, zero, suc, ◌+◌, ◌-◌, ◌<◌, ◌≤◌, List, [], ◌∷◌, ◌++◌, length, take, fold, drop, nat_le, Bool, true, false, ◌||◌, cond, not, slice_get, option_and_then, Option, Some, None, refl, sym, ap, ◌∙◌, ⊎_elim, arith}
 use Rattle.std.proofs.Math.Seq.{take-nil}
 use Rattle.std.proofs.lemmas.Bool.Decides.{nat_tests}
 use Rattle.std.proofs.lemmas.Bool.{cases_lt, false_from_ne_true, le-leb, leb-true}
-use Rattle.std.proofs.lemmas.List.{append-nil}
 use Rattle.std.proofs.lemmas.List.Sums.{fold-append}
 use Rattle.semantics.specs.Texts.{Text, same, Table, value_at}
 use Rattle.semantics.specs.Histories.{Write, put, remove, declare, Entry, History, base_after, base_of}

@@ -1,5 +1,5 @@
 // The versions and the changes of one table.
-ghost use Rattle.std.specs.Prelude.{◌≡◌, [], ◌∷◌, ◌++◌, IfOk, OnOk, OnErr, filter, length, nat_lt, option_copied, true};
+ghost use Rattle.std.specs.Prelude.{◌≡◌, [], ◌∷◌, ◌++◌, IfOk, IfSome, OnOk, OnErr, filter, option_copied, true};
 ghost use Rattle.std.specs.List.{AllByRecursion};
 ghost use Rattle.std.specs.List.Sorted.{IsStrictlySortedBy};
 ghost use Rattle.std.specs.Map.{keys_of};
@@ -123,45 +123,37 @@ impl TableVersions {
     {
         let changes = between(self.changes.as_slice(), q, p);
         let tracks = self.within(range)?;
-        if has_more(self.within(range)?, changes.len()) {
-            keys_in_order(alloc, changes, range)
-        } else {
-            changed_keys(alloc, q, p, tracks)
+        match changed_of_few(alloc, q, p, changes.len(), tracks)? {
+            Some(keys) => Ok(keys),
+            None => keys_in_order(alloc, changes, range),
         }
     }
 }
 
-/// Whether more than so many keys are walked. It looks at no more than so many of them and one.
-fn has_more(tracks: btree_map::Range<'_, KeyBound, Versions>, count: usize) -> bool
-    ensures { result ≡ nat_lt count (length tracks.entry) }
-{
-    let mut left = count;
-    for _track in tracks {
-        if left == 0 {
-            return true;
-        }
-        left -= 1;
-    }
-    false
-}
-
-/// Those of the keys that are walked which have a version after the first q entries, up to the p-th, in order.
-fn changed_keys(
+/// Those of the keys that are walked which have a version after the first q entries, up to the p-th, in order. None where
+/// there are more than so many. It looks at no more than so many of them and one.
+fn changed_of_few(
     alloc: Global,
     q: u64,
     p: u64,
+    most: usize,
     tracks: btree_map::Range<'_, KeyBound, Versions>,
-) -> Result<Vec<Key>, OutOfMemory>
+) -> Result<Option<Vec<Key>>, OutOfMemory>
     requires { AllByRecursion (λ track. is_key track.0 ≡ true) tracks }
-    ensures { AllAscend tracks.entry → IfOk result (λ keys. keys.items ≡ keys_changed q p tracks.entry) }
+    ensures { AllAscend tracks.entry → IfOk result (λ found. IfSome found (λ keys. keys.items ≡ keys_changed q p tracks.entry)) }
 {
     let mut keys = Vec::new(alloc);
+    let mut left = most;
     for (place, versions) in tracks {
+        if left == 0 {
+            return Ok(None);
+        }
+        left -= 1;
         if versions.has_between(q, p) {
             keys.push(Key::at(place)?)?;
         }
     }
-    Ok(keys)
+    Ok(Some(keys))
 }
 
 /// The pairs after p entries of the keys that are walked, in order.

@@ -232,12 +232,14 @@ fn other_words_form_none(rt: HostRuntime) -> Result<(), Fail> {
 #[test]
 fn names_have_at_most_255_bytes(rt: HostRuntime) -> Result<(), Fail> {
     let alloc = rt.alloc();
-    let mut line = String::from_str(alloc, "check ")?;
-    for _ in 0..255 {
+    for before in ["check ", "serve ", "serve n --joins "] {
+        let mut line = String::from_str(alloc, before)?;
+        for _ in 0..255 {
+            line.push('n')?;
+        }
+        assert!(rt; read_command(words_of(alloc, line.as_str())?.as_slice()).is_some());
         line.push('n')?;
+        assert!(rt; read_command(words_of(alloc, line.as_str())?.as_slice()).is_none());
     }
-    assert!(rt; read_command(words_of(alloc, line.as_str())?.as_slice()).is_some());
-    line.push('n')?;
-    assert!(rt; read_command(words_of(alloc, line.as_str())?.as_slice()).is_none());
     Ok(())
 }

@@ -162,7 +162,16 @@ fn generated_events(rt: HostRuntime) -> Result<(), Fail> {
         };
         let lines = roll_events(alloc, menu, &mut dice)?;
         let plain = show_plain(alloc, read_events(&rt, alloc, lines.as_str())?)?;
-        for (cells, limit) in [(1, 100000), (2, 4), (3, 100000), (64, 6), (64, 100000)] {
+        for (cells, limit) in [
+            (1, 100000),
+            (2, 4),
+            (3, 100000),
+            (8, 1),
+            (8, 2),
+            (8, 3),
+            (64, 6),
+            (64, 100000),
+        ] {
             let events = read_events(&rt, alloc, lines.as_str())?;
             let shown = show_scans(alloc, cells, limit, events)?;
             assert_eq!(rt;

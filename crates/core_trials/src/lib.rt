@@ -10,6 +10,8 @@
 #![tactic(auto)]
 
 #[cfg(test)]
+mod abandoned;
+#[cfg(test)]
 mod generated;
 #[cfg(test)]
 mod limited;

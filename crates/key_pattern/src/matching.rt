@@ -1,5 +1,5 @@
 // How a segment takes and gives a text, and how a key's text is cut into segments and joined of them.
-ghost use Rattle.std.specs.Prelude.{◌≡◌, IfOk, IsSome, true, false};
+ghost use Rattle.std.specs.Prelude.{◌≡◌, IfOk, IsSome, true, false, if◌then◌else◌, Some, None};
 ghost use Rattle.std.specs.Option.{option_copied};
 ghost use Rattle.std.specs.String.{string_bytes};
 ghost use Rattle.semantics.specs.Texts.{has_bar};
@@ -53,31 +53,25 @@ pub fn has_text(segment: &Segment, text: &str, slots: &Slots<'_>) -> bool
     }
 }
 
-/// The slots after the segment has taken the text; none where it does not take it.
-pub fn take<'a>(segment: &Segment, text: &'a str, given: &Slots<'a>) -> Option<Slots<'a>>
+/// Has the segment take the text, and says whether it does: then its slot has the text from now on. Where it does not, the
+/// slots are unchanged.
+pub fn take<'a>(segment: &Segment, text: &'a str, slots: &mut Slots<'a>) -> bool
     requires segment { is_segment (plain_segment segment.now) ≡ true }
     requires text { has_bar text.now ≡ false }
-    ensures { result ≡ taken (plain_segment segment.now) text.now given.now }
+    ensures { (if result then Some slots.new else None) ≡ taken (plain_segment segment.now) text.now slots.old }
 {
     match segment {
-        Segment::Literal(literal) => {
-            if literal.as_str() == text {
-                Some(given.copy())
-            } else {
-                None
-            }
-        }
+        Segment::Literal(literal) => literal.as_str() == text,
         Segment::Slot { place, width } => {
             if !takes_width(*width, text) {
-                return None;
+                return false;
             }
-            match given.at(*place) {
-                None => Some(given.with(*place, text)),
-                Some(there) => if there == text {
-                    Some(given.copy())
-                } else {
-                    None
-                },
+            match slots.at(*place) {
+                None => {
+                    slots.set(*place, text);
+                    true
+                }
+                Some(there) => there == text,
             }
         }
     }

@@ -6,7 +6,7 @@
 ghost use Rattle.std.specs.Prelude.{◌≡◌, ◌+◌, ◌<◌, ◌∷◌, ◌++◌, [], IfOk, length, option_map, option_and_then, if◌then◌else◌, Some, None};
 ghost use Rattle.std.specs.Option.{option_copied};
 ghost use Rattle.std.specs.String.{string_bytes};
-ghost use Rattle.semantics.specs.Texts.{bar, brace, is_range};
+ghost use Rattle.semantics.specs.Texts.{bar, brace};
 ghost use Rattle.semantics.specs.Patterns.{short};
 ghost use Rattle.key_ranges.specs.Containing.{first_open, same_width, whole_beginning, narrowed_end, low_or};
 ghost use Rattle.key_pattern.specs.Plain.{plain_segment, plain_segments};

@@ -106,7 +106,9 @@ impl Pattern {
         let mut left = Some(key.text());
         for segment in self.segments.iter() {
             let (text, rest) = first_segment(left?);
-            found = take(segment, text, &found)?;
+            if !take(segment, text, &mut found) {
+                return None;
+            }
             left = rest;
         }
         match left {

@@ -1,9 +1,8 @@
 // Slots that the keys of a range share, and the range that holds every key which fits a pattern under slots.
 ghost use Rattle.std.specs.Prelude.{◌≡◌, ◌≤◌, IfOk, length, is_some, option_map, true, [], ◌∷◌, ◌++◌};
 ghost use Rattle.std.specs.Option.{IsSomeAnd};
-ghost use Rattle.std.specs.Ordering.{is_le};
 ghost use Rattle.std.specs.String.{string_bytes};
-ghost use Rattle.semantics.specs.Texts.{Text, bar, names_table, text_cmp, within};
+ghost use Rattle.semantics.specs.Texts.{Text, bar, names_table, within};
 ghost use Rattle.semantics.specs.Patterns as plain;
 ghost use Rattle.semantics.specs.Patterns.{bind, is_pattern, short};
 ghost use Rattle.key_ranges.specs.Ranges.{just, prefix_range};
@@ -157,7 +156,9 @@ impl Pattern {
             match shared_segment(low, high) {
                 None => return Some(found),
                 Some(shared) => {
-                    found = take(segment, shared.text, &found)?;
+                    if !take(segment, shared.text, &mut found) {
+                        return None;
+                    }
                     low = shared.low;
                     high = shared.high;
                 }

@@ -59,15 +59,13 @@ impl<'a> Slots<'a> {
         Slots { texts: self.texts }
     }
 
-    /// The slots with this text at the place, in place of any that stood there.
-    pub(crate) fn with(&self, place: u8, text: &'a str) -> Slots<'a>
+    /// Gives the text to the place, in place of any that stood there.
+    pub(crate) fn set(&mut self, place: u8, text: &'a str)
         requires place { place < 16 }
         requires text { IsSegmentText text.now }
-        ensures { result ≡ slice_set self.now place (Some text.now) }
+        ensures { self.new ≡ slice_set self.old place (Some text.now) }
     {
-        let mut texts = self.texts;
-        texts[usize::from(place)] = Some(text);
-        Slots { texts }
+        self.texts[usize::from(place)] = Some(text);
     }
 
     /// The texts at the places of the slots of `out`, and no text at any other place. Linear in the segments of `out`,
@@ -77,21 +75,21 @@ impl<'a> Slots<'a> {
     {
         let mut kept = Slots::none();
         for segment in out.segments() {
-            kept = self.keep(segment, &kept);
+            self.give(segment, &mut kept);
         }
         kept
     }
 
-    /// The kept slots and, where the segment is a slot, the text at its place.
-    fn keep(&self, segment: &Segment, kept: &Slots<'a>) -> Slots<'a>
+    /// Gives the kept slots the text at the place of the segment, where that is a slot and there is one.
+    fn give(&self, segment: &Segment, kept: &mut Slots<'a>)
         requires { is_segment (plain_segment segment.now) ≡ true }
-        ensures { result ≡ with_slot self.now kept.now (plain_segment segment.now) }
+        ensures { kept.new ≡ with_slot self.now kept.old (plain_segment segment.now) }
     {
         match segment {
-            Segment::Literal(_) => kept.copy(),
+            Segment::Literal(_) => {}
             Segment::Slot { place, .. } => match self.at(*place) {
-                None => kept.copy(),
-                Some(text) => kept.with(*place, text),
+                None => {}
+                Some(text) => kept.set(*place, text),
             },
         }
     }

@@ -1,5 +1,5 @@
 // The acts of a load, done one after another by a client.
-ghost use Rattle.std.specs.Prelude.{◌≡◌, ◌∷◌, [], OnOk};
+ghost use Rattle.std.specs.Prelude.{◌∷◌, [], OnOk};
 ghost use Rattle.join_types.specs.Writes.{plain_write};
 ghost use Rattle.load_laws.specs.Entries.{entry_by, act_entries, entries_of};
 ghost use Rattle.load_run.specs.Adding.{HasAdded};

@@ -2,7 +2,9 @@
 mod examples;
 mod faults;
 mod files;
+mod gates;
 mod limits;
+mod linked;
 mod loads;
 mod replays;
 mod rows;
@@ -13,7 +15,7 @@ use crate::status::Status;
 use crate::tests::examples::EXAMPLES;
 use crate::tests::rows::ROWS;
 use crate::top::pequod;
-use pq_io::{MemDoors, MemLink, MemShelf, MemSink, MemSource, OpenGate, Sink};
+use pq_io::{Gate, MemDoors, MemLink, MemShelf, MemSink, MemSource, OpenGate, Sink};
 use std::alloc::AllocError;
 use std::process::Abort;
 use std::str;
@@ -96,11 +98,12 @@ impl<'a> Given<'a> {
         }
     }
 
-    /// Runs the program into a sink, and says how it ended.
-    fn into_sink<R: AllocGlobal + Threads + Wait + Sync, W: Sink>(
+    /// Runs the program into a sink, over a gate, and says how it ended.
+    fn into_sink<R: AllocGlobal + Threads + Wait + Sync, W: Sink, G: Gate + Sync>(
         self,
         rt: &R,
         sink: &mut W,
+        gate: &G,
     ) -> Result<Status, AllocError> {
         let alloc = rt.alloc();
         let mut words = Vec::new(alloc);
@@ -123,7 +126,7 @@ impl<'a> Given<'a> {
             sink,
             &mut shelf,
             &mut doors,
-            &OpenGate,
+            gate,
         ))
     }
 
@@ -137,7 +140,7 @@ impl<'a> Given<'a> {
     ) -> Result<(), Fail> {
         let alloc = rt.alloc();
         let mut sink = MemSink::new(alloc, vec![in alloc; self.failing_write]?);
-        assert_eq!(rt; self.into_sink(rt, &mut sink)?, status, "{name}");
+        assert_eq!(rt; self.into_sink(rt, &mut sink, &OpenGate)?, status, "{name}");
         assert_eq!(rt; str::from_utf8(sink.bytes())?, written, "{name}");
         Ok(())
     }

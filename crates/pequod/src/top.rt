@@ -85,8 +85,8 @@ pub fn pequod<
     ensures memory_sink { result.number ≡ 6 → sink.new ≡ sink.old }
     ensures memory_doors { result.number ≡ 6 → D.held doors.new ≡ D.held doors.old }
 
-    // A fault comes only from the object whose count of faults rose. Where the count of the source or the sink rose, the
-    // status says which: it is 5 where the sink's rose, whatever became of the source's.
+    // A fault comes only from the object whose count of faults rose. Where the count of the source rose the status is 4, and
+    // where that of the sink rose it is 5; so not both rose.
     ensures source_later { S.faults source.old ≤ S.faults source.new }
     ensures sink_later { W.faults sink.old ≤ W.faults sink.new }
     ensures shelf_later { F.faults shelf.old ≤ F.faults shelf.new }

@@ -1,5 +1,4 @@
 // A client that answers the lines of links.
-ghost use Rattle.std.specs.Prelude.{◌≡◌};
 
 use crate::client::Client;
 use base_shards::Naming;

@@ -1,5 +1,7 @@
 // What clients are told on their links, alone and beside others, and each call once, with ample memory.
 mod drawn;
+mod held;
+mod threads;
 
 ghost use Rattle.std.specs.Prelude.{◌≡◌, ◌≤◌, IfOk, length};
 ghost use Rattle.pequod_cache.specs.Sitting.{AreOf, AreWriters, IsFresh};
@@ -9,7 +11,7 @@ use base_shards::Naming;
 use join_lang::parse;
 use key_space::{Key, Range, Value};
 use out_of_memory::OutOfMemory;
-use pq_io::{MemLink, MemSink, MemSource, OpenGate};
+use pq_io::{Gate, MemLink, MemSink, MemSource, OpenGate};
 use request_codec::Reply;
 use session::{End, Service, serve_link};
 use std::alloc::Global;
@@ -232,10 +234,10 @@ fn two_threads_put_and_meet(rt: HostRuntime) -> Result<(), Fail> {
 }
 
 /// Puts the value at the key, as the entry at a position.
-fn put_at<N: Naming, R: Wait + Abort>(
+fn put_at<N: Naming, G: Gate, R: Wait + Abort>(
     rt: &R,
     alloc: Global,
-    client: &mut Client<'_, N, OpenGate>,
+    client: &mut Client<'_, N, G>,
     pair: (&str, &str),
     wanted: u64,
 ) {
@@ -248,10 +250,10 @@ fn put_at<N: Naming, R: Wait + Abort>(
 }
 
 /// How many pairs of a user's timeline there are, and after how many entries.
-fn count_timeline<N: Naming, R: Wait + Abort>(
+fn count_timeline<N: Naming, G: Gate, R: Wait + Abort>(
     rt: &R,
     alloc: Global,
-    client: &mut Client<'_, N, OpenGate>,
+    client: &mut Client<'_, N, G>,
 ) -> (u64, usize) {
     let range = Range::read(alloc, "t|ann|", "t|ann}").expect(rt, "a range");
     let found = client.read(rt, &range).expect(rt, "memory");

@@ -62,8 +62,7 @@ impl<'g, N: Naming, G> Updater<'g, N, G> {
 }
 
 impl<'g, N: Naming, G: Gate> Updater<'g, N, G> {
-    /// Takes one turn: it looks, brings its joins there, and brings the cell forward that was marked first, as
-    /// `RangeCells::turn` does. While another thread has what it needs, this one sleeps.
+    /// Takes one turn: it looks, brings its joins there, and brings a marked cell forward, as `RangeCells::turn` does. While another thread has what it needs, this one sleeps.
     ///
     /// `Idle` comes only where no cell was found marked for what was written before the look.
     pub fn turn<R: Wait>(&mut self, rt: &R) -> Turn

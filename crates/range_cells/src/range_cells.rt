@@ -47,8 +47,8 @@ pub struct RangeCells<N: Naming> {
 }
 
 impl<N: Naming> RangeCells<N> {
-    /// No cells, and as many as there are passes at most, whose rows and one more for each are at most the limit together. What
-    /// is read and kept is allocated by this allocator. Linear in the passes.
+    /// No cells, and as many as there are passes at most, whose rows and one more for each are at most the limit together, as
+    /// they were when they were last read. What is read and kept is allocated by this allocator. Linear in the passes.
     pub fn new(
         alloc: Global,
         history: Arc<History>,

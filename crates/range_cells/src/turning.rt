@@ -23,7 +23,7 @@ use write_history::Pass;
 /// What a turn did.
 #[derive(Clone, Copy, Debug, PartialEq, Eq)]
 pub enum Turn {
-    /// The cell with this number was marked first.
+    /// The cell with this number was marked first of those of the first part that had a marked one.
     Brought {
         /// The number.
         id: u32,
@@ -191,9 +191,10 @@ impl<N: Naming> RangeCells<N> {
         turned
     }
 
-    /// Brings the cell forward that was marked first: each part of the base pairs is brought to the end of what the pass has
-    /// seen, that is, to where the first p entries stand, which marks each cell that follows a range with a key that they put or
-    /// remove; then the first marked cell is advanced there, if it stands below. These are the joins that stand then.
+    /// Brings a marked cell forward: each part of the base pairs is brought to the end of what the pass has seen, that is, to where
+    /// the first p entries stand, which marks each cell that follows a range with a key that they put or remove; then, of the first
+    /// part that has a marked cell, the one that was marked there first is advanced, if it stands below. These are the joins that
+    /// stand then.
     ///
     /// What is pending in the cell then stays so, what is forgotten stays so, and what is kept with another rank than the join
     /// has is let go. Before a range of a lower rank is filled or mended for it, the gate is passed. While another thread has a

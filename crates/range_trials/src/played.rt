@@ -306,8 +306,9 @@ fn worked_notes(rt: HostRuntime) -> Result<(), Fail> {
             wanted.push_str(format!(in alloc; " b|{number:03}")?.as_str())?;
         }
     }
-    script.push_str(", since 1, since 2")?;
-    wanted.push_str(";")?;
+    script.push_str(", since 1, since 2, count")?;
+    // One for the fill, and for each advance one for the need, one for its key, and two to read that.
+    wanted.push_str("; 1029;")?;
     let range = read_range(&rt, alloc, "b|", "b}");
     let told = tell(&rt, alloc, lines.as_str())?;
     let shown = play::<Brand>(&rt, alloc, told, (&range, script.as_str()), Blank::new(1))?;

@@ -1,3 +1,3 @@
 pub mod FeedLemmas
-pub mod ReplyLemmas
+pub mod TokenLemmas
 pub mod FormLemmas

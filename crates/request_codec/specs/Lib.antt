@@ -1,3 +1,4 @@
 pub mod Plain
 pub mod LineFaults
 pub mod Feeding
+pub mod Tokens

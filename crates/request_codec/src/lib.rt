@@ -12,6 +12,7 @@ pub mod lines;
 pub mod reading;
 pub mod reply;
 pub mod request;
+pub mod rows;
 pub mod writing;
 
 pub use fixed::{LONG_LINE, MEMORY_LINE, OkLine, long_line, memory_line, write_ok};
@@ -19,7 +20,8 @@ pub use lines::{Fed, LINE_END, Lines, find_line_end};
 pub use reading::{read, read_value};
 pub use reply::Reply;
 pub use request::{LineFault, Request};
-pub use writing::{cause_name, number_value, text_value, write, write_row};
+pub use rows::{number_value, text_value, write_row};
+pub use writing::{cause_name, write};
 
 #[cfg(test)]
 mod tests;

@@ -1,97 +1,103 @@
-// Replies as lines.
-ghost use Rattle.std.specs.Prelude.{◌≡◌, ◌≢◌, ◌∷◌, [], IfOk, map, false};
+// Replies as lines, token by token.
+ghost use Rattle.std.specs.Prelude.{◌≡◌, ◌≢◌, ◌∷◌, [], IfOk, OnOk, map};
 ghost use Rattle.serde_json.specs.Data.{string};
-ghost use Rattle.serde_json.specs.View.{view};
-ghost use Rattle.serde_json.specs.Written.{has_float};
-ghost use Rattle.protocol.specs.Rows.{whole_number, list_of, row};
+ghost use Rattle.protocol.specs.Rows.{whole_number, list_of};
 ghost use Rattle.protocol.specs.JoinsFile.{cause_name};
 ghost use Rattle.protocol.specs.Replies.{pair_item, error_items, cause_items, reply_items, reply_text};
 ghost use Rattle.join_types.specs.Causes.{plain_cause};
 ghost use Rattle.request_codec.specs.Plain.{plain_reply};
+ghost use Rattle.request_codec.specs.Tokens.{Appends};
 
 use crate::lines::LINE_END;
 use crate::reply::Reply;
 use crate::request::LineFault;
 use join_types::{Cause, Pair};
+use json::Writer;
 use out_of_memory::OutOfMemory;
-use serde_json::Value;
-use std::alloc::Global;
+use std::alloc::{AllocError, Global};
 
-/// A text as a JSON value, which copies it. Linear in the text.
-///
-/// `OutOfMemory` comes only where none is found for the copy.
-pub fn text_value(alloc: Global, text: &str) -> Result<Value, OutOfMemory>
-    ensures { IfOk result (λ value. view value ≡ string text.now) }
-{
-    Ok(Value::String(String::from_str(alloc, text)?))
-}
+/// Room for what a line has around its texts: its words, numbers and brackets.
+const FRAME_ROOM: usize = 64;
 
-/// A number as a JSON value. It takes constant time.
-pub fn number_value(number: u64) -> Value
-    ensures { view result ≡ whole_number number }
-{
-    Value::from(number)
-}
+/// Room for what a pair has around its two texts: brackets, quotes and commas.
+const PAIR_FRAME_ROOM: usize = 8;
 
-/// A list of values as a value.
-fn list_value(items: Vec<Value>) -> Value
-    ensures { view result ≡ list_of (map view items.items) }
-{
-    Value::Array(items)
-}
-
-/// A pair as an array of its key and its value.
-fn pair_value(alloc: Global, pair: &Pair) -> Result<Value, OutOfMemory>
-    ensures { IfOk result (λ value. view value ≡ pair_item pair.now) }
-{
-    let key = text_value(alloc, pair.key.text())?;
-    let value = text_value(alloc, pair.value.text())?;
-    Ok(list_value(vec![in alloc; key, value]?))
-}
-
-/// Each pair as an array.
-fn pair_values(alloc: Global, pairs: &[Pair]) -> Result<Vec<Value>, OutOfMemory>
-    ensures { IfOk result (λ values. map view values.items ≡ map pair_item pairs.now) }
-{
-    let mut values = Vec::with_capacity(alloc, pairs.len())?;
+/// Room for pairs, which is all they need where no byte of theirs is escaped. Linear in their number.
+fn pairs_room(pairs: &[Pair]) -> usize {
+    let mut room = 0usize;
     for pair in pairs {
-        values.push(pair_value(alloc, pair)?)?;
+        room = room
+            .saturating_add(pair.key.text().len())
+            .saturating_add(pair.value.text().len())
+            .saturating_add(PAIR_FRAME_ROOM);
     }
-    Ok(values)
+    room
 }
 
-/// Each number as a value.
-fn number_values(alloc: Global, numbers: &[u64]) -> Result<Vec<Value>, OutOfMemory>
-    ensures { IfOk result (λ values. map view values.items ≡ map whole_number numbers.now) }
+/// Room for the line of a reply, to which escapes may add. Linear in the number of its pairs.
+fn reply_room(reply: &Reply) -> usize {
+    let texts = match reply {
+        Reply::Found(_, value) => value.text().len(),
+        Reply::Pairs(_, pairs) => pairs_room(pairs.as_slice()),
+        _ => 0,
+    };
+    texts.saturating_add(FRAME_ROOM)
+}
+
+/// Writes a pair as an array of its key and its value. Linear in both.
+fn write_pair(writer: &mut Writer, pair: &Pair) -> Result<(), AllocError>
+    ensures { OnOk result (Appends writer.old writer.new (pair_item pair.now ∷ [])) }
 {
-    let mut values = Vec::with_capacity(alloc, numbers.len())?;
+    writer.begin_array()?;
+    writer.string(pair.key.text())?;
+    writer.string(pair.value.text())?;
+    writer.end_array()
+}
+
+/// Writes pairs as an array of arrays. Linear in their texts.
+fn write_pairs(writer: &mut Writer, pairs: &[Pair]) -> Result<(), AllocError>
+    ensures { OnOk result (Appends writer.old writer.new (list_of (map pair_item pairs.now) ∷ [])) }
+{
+    writer.begin_array()?;
+    for pair in pairs {
+        write_pair(writer, pair)?;
+    }
+    writer.end_array()
+}
+
+/// Writes numbers as an array. Linear in how many there are.
+fn write_numbers(writer: &mut Writer, numbers: &[u64]) -> Result<(), AllocError>
+    ensures { OnOk result (Appends writer.old writer.new (list_of (map whole_number numbers.now) ∷ [])) }
+{
+    writer.begin_array()?;
     for number in numbers {
-        values.push(number_value(*number))?;
+        writer.u64(*number)?;
     }
-    Ok(values)
+    writer.end_array()
 }
 
-/// The items of a refusal: the word `error`, its name, and its position.
-fn refusal(alloc: Global, name: &str, position: u64) -> Result<Vec<Value>, OutOfMemory>
-    ensures { IfOk result (λ values. map view values.items ≡ error_items name.now (whole_number position ∷ [])) }
+/// Writes a word and a number. Linear in the word.
+fn write_numbered(writer: &mut Writer, word: &str, number: u64) -> Result<(), AllocError>
+    ensures { OnOk result (Appends writer.old writer.new (string word.now ∷ whole_number number ∷ [])) }
 {
-    let error = text_value(alloc, "error")?;
-    let name = text_value(alloc, name)?;
-    Ok(vec![in alloc; error, name, number_value(position)]?)
+    writer.string(word)?;
+    writer.u64(number)
 }
 
-/// The items of a refusal that carries another value.
-fn refusal_with(
-    alloc: Global,
-    name: &str,
-    position: u64,
-    other: Value,
-) -> Result<Vec<Value>, OutOfMemory>
-    ensures { IfOk result (λ values. map view values.items ≡ error_items name.now (whole_number position ∷ view other ∷ [])) }
+/// Writes the items of an error without a number. Linear in its name.
+fn write_error(writer: &mut Writer, name: &str) -> Result<(), AllocError>
+    ensures { OnOk result (Appends writer.old writer.new (error_items name.now [])) }
 {
-    let mut values = refusal(alloc, name, position)?;
-    values.push(other)?;
-    Ok(values)
+    writer.string("error")?;
+    writer.string(name)
+}
+
+/// Writes the items of a refusal: the word `error`, its name, and its position. Linear in the name.
+fn write_refusal(writer: &mut Writer, name: &str, position: u64) -> Result<(), AllocError>
+    ensures { OnOk result (Appends writer.old writer.new (error_items name.now (whole_number position ∷ []))) }
+{
+    writer.string("error")?;
+    write_numbered(writer, name, position)
 }
 
 /// The name that a cause has in a reply and in the row of a refused line. It takes constant time.
@@ -111,95 +117,72 @@ pub fn cause_name(cause: &Cause) -> &'static str
     }
 }
 
-/// The items of a refused write.
-fn cause_values(alloc: Global, position: u64, cause: &Cause) -> Result<Vec<Value>, OutOfMemory>
-    ensures { IfOk result (λ values. map view values.items ≡ error_items (cause_name (plain_cause cause.now)) (whole_number position ∷ cause_items (plain_cause cause.now))) }
+/// Writes the items of a refused write. Linear in the positions of a cycle, and constant otherwise.
+fn write_cause(writer: &mut Writer, position: u64, cause: &Cause) -> Result<(), AllocError>
+    ensures { OnOk result (Appends writer.old writer.new (error_items (cause_name (plain_cause cause.now)) (whole_number position ∷ cause_items (plain_cause cause.now)))) }
 {
-    let name = cause_name(cause);
+    write_refusal(writer, cause_name(cause), position)?;
     match cause {
-        Cause::Computed(other) | Cause::Clash(other) => {
-            refusal_with(alloc, name, position, number_value(*other))
+        Cause::Computed(other) | Cause::Clash(other) => writer.u64(*other),
+        Cause::Cycle(positions) => write_numbers(writer, positions.as_slice()),
+        Cause::Late | Cause::Full | Cause::Slots | Cause::Sources | Cause::Deep | Cause::Many => {
+            Ok(())
         }
-        Cause::Cycle(positions) => {
-            let cycle = number_values(alloc, positions.as_slice())?;
-            refusal_with(alloc, name, position, list_value(cycle))
-        }
-        Cause::Late | Cause::Full | Cause::Slots | Cause::Sources | Cause::Deep | Cause::Many =>
-            refusal(alloc, name, position),
     }
 }
 
-/// The items of an error without a number.
-fn error_values(alloc: Global, name: &str) -> Result<Vec<Value>, OutOfMemory>
-    ensures { IfOk result (λ values. map view values.items ≡ error_items name.now []) }
-{
-    let error = text_value(alloc, "error")?;
-    let name = text_value(alloc, name)?;
-    Ok(vec![in alloc; error, name]?)
-}
-
-/// The items of the answer to a line that is no request.
-fn fault_values(alloc: Global, fault: LineFault) -> Result<Vec<Value>, OutOfMemory>
+/// Writes the items of the answer to a line that is no request. It takes constant time.
+fn write_fault(writer: &mut Writer, fault: LineFault) -> Result<(), AllocError>
     requires { fault ≢ LineFault.OutOfMemory }
-    ensures { IfOk result (λ values. map view values.items ≡ reply_items (plain_reply (Reply.Unread fault))) }
+    ensures { OnOk result (Appends writer.old writer.new (reply_items (plain_reply (Reply.Unread fault)))) }
 {
     match fault {
-        LineFault::Json => error_values(alloc, "json"),
-        LineFault::Form => error_values(alloc, "form"),
-        LineFault::Key => error_values(alloc, "key"),
-        LineFault::Value => error_values(alloc, "value"),
-        LineFault::Range => error_values(alloc, "range"),
-        LineFault::Syntax(at) => refusal(alloc, "syntax", at as u64),
+        LineFault::Json => write_error(writer, "json"),
+        LineFault::Form => write_error(writer, "form"),
+        LineFault::Key => write_error(writer, "key"),
+        LineFault::Value => write_error(writer, "value"),
+        LineFault::Range => write_error(writer, "range"),
+        LineFault::Syntax(at) => write_refusal(writer, "syntax", at as u64),
         LineFault::OutOfMemory => unreachable!(),
     }
 }
 
-/// The items of the array that a reply is.
-fn reply_values(alloc: Global, reply: &Reply) -> Result<Vec<Value>, OutOfMemory>
+/// Writes the items of the array that a reply is. Linear in them.
+fn write_items(writer: &mut Writer, reply: &Reply) -> Result<(), AllocError>
     requires { reply.now ≢ Reply.Unread LineFault.OutOfMemory }
-    ensures { IfOk result (λ values. map view values.items ≡ reply_items (plain_reply reply.now)) }
+    ensures { OnOk result (Appends writer.old writer.new (reply_items (plain_reply reply.now))) }
 {
     match reply {
-        Reply::Done(position) => {
-            let word = text_value(alloc, "ok")?;
-            Ok(vec![in alloc; word, number_value(*position)]?)
-        }
+        Reply::Done(position) => write_numbered(writer, "ok", *position),
         Reply::Found(position, value) => {
-            let word = text_value(alloc, "value")?;
-            let value = text_value(alloc, value.text())?;
-            Ok(vec![in alloc; word, number_value(*position), value]?)
+            write_numbered(writer, "value", *position)?;
+            writer.string(value.text())
         }
-        Reply::Absent(position) => {
-            let word = text_value(alloc, "none")?;
-            Ok(vec![in alloc; word, number_value(*position)]?)
-        }
+        Reply::Absent(position) => write_numbered(writer, "none", *position),
         Reply::Pairs(position, pairs) => {
-            let word = text_value(alloc, "pairs")?;
-            let pairs = list_value(pair_values(alloc, pairs.as_slice())?);
-            Ok(vec![in alloc; word, number_value(*position), pairs]?)
+            write_numbered(writer, "pairs", *position)?;
+            write_pairs(writer, pairs.as_slice())
         }
-        Reply::Refused(position, cause) => cause_values(alloc, *position, cause),
-        Reply::Unread(fault) => fault_values(alloc, *fault),
-        Reply::Long => error_values(alloc, "long"),
-        Reply::Memory => error_values(alloc, "memory"),
-        Reply::Bye => Ok(vec![in alloc; text_value(alloc, "bye")?]?),
+        Reply::Refused(position, cause) => write_cause(writer, *position, cause),
+        Reply::Unread(fault) => write_fault(writer, *fault),
+        Reply::Long => write_error(writer, "long"),
+        Reply::Memory => write_error(writer, "memory"),
+        Reply::Bye => writer.string("bye"),
     }
 }
 
-/// The row of values: the compact text of their array (RFC 8259), and the byte 10. Linear in it.
-///
-/// `OutOfMemory` comes only where none is found for the row.
-pub fn write_row(alloc: Global, items: Vec<Value>) -> Result<Vec<u8>, OutOfMemory>
-    requires { has_float (list_of (map view items.items)) ≡ false }
-    ensures { IfOk result (λ line. line.items ≡ row (map view items.items)) }
+/// Writes the array that a reply is. Linear in its text.
+fn write_reply(writer: &mut Writer, reply: &Reply) -> Result<(), AllocError>
+    requires { reply.now ≢ Reply.Unread LineFault.OutOfMemory }
+    ensures { OnOk result (Appends writer.old writer.new (list_of (reply_items (plain_reply reply.now)) ∷ [])) }
 {
-    let array = list_value(items);
-    let mut line = array.to_string(alloc)?.into_bytes();
-    line.push(LINE_END)?;
-    Ok(line)
+    writer.begin_array()?;
+    write_items(writer, reply)?;
+    writer.end_array()
 }
 
-/// The line of a reply: the compact text of its array (RFC 8259), and the byte 10. Linear in it.
+/// The line of a reply: the compact text of its array (RFC 8259), and the byte 10. Linear in it: each text is copied
+/// once, into the line.
 ///
 /// `Unread` of `OutOfMemory` has no line of its own: what is answered for such a line is `Memory`. `OutOfMemory` comes
 /// only where none is found for the line.
@@ -207,5 +190,9 @@ pub fn write(alloc: Global, reply: &Reply) -> Result<Vec<u8>, OutOfMemory>
     requires { reply.now ≢ Reply.Unread LineFault.OutOfMemory }
     ensures { IfOk result (λ line. line.items ≡ reply_text (plain_reply reply.now)) }
 {
-    write_row(alloc, reply_values(alloc, reply)?)
+    let mut writer = Writer::new(Vec::with_capacity(alloc, reply_room(reply))?);
+    write_reply(&mut writer, reply)?;
+    let mut line = writer.into_inner();
+    line.push(LINE_END)?;
+    Ok(line)
 }

@@ -236,7 +236,7 @@ where
 }
 
 /// Serves the links of the doors until they are closed or fail: this thread takes them, and a worker for each client serves them,
-/// one after another. Up to 64 links wait for a worker; then none is taken. It returns when each link that was taken has been
+/// one after another. Up to 64 links wait for a worker, and one more in hand; then none is taken. It returns when each link that was taken has been
 /// served. Where fewer threads can be made, fewer work. Where none can, or there is one client, this one takes a link and serves
 /// it, in turns. Beside them the updater brings kept ranges forward after writes, where a thread can be made for it.
 pub fn serve_doors<'g, N, G, D, R>(

@@ -6,6 +6,7 @@ use pq_io::Gate;
 use request_codec::{Reply, Request};
 use session::Service;
 use std::sync::Wait;
+use std::thread;
 
 /// A service that rings a bell after each write that is acknowledged.
 #[derive(Drop)]
@@ -32,11 +33,12 @@ impl<'a, R: Wait, S: Service> Service for Ringing<'a, R, S> {
     }
 }
 
-/// Takes turns until no cell is marked, or there is no memory for one.
+/// Takes turns until no cell is marked, or there is no memory for one. After each it lets other threads have the processor: whoever
+/// waits for a reply goes first.
 fn take_turns<N: Naming, G: Gate, R: Wait>(rt: &R, updater: &mut Updater<'_, N, G>) {
     for _ in rt.forever() {
         match updater.turn(rt) {
-            Turn::Brought { .. } => {}
+            Turn::Brought { .. } => thread::yield_now(),
             Turn::Idle => return,
             Turn::OutOfMemory => return,
         }

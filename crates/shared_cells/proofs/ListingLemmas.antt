@@ -27,7 +27,7 @@ pub lone_gap_begins : (range gap : Range) (before : List (Piece ℕ)) → JoinTo
 lone_gap_begins range gap [] j one = j.0
 lone_gap_begins range gap (p ∷ ps) j one = absurd (omega (arith, one, length-append ps (Gap gap ∷ [])))
 
--- once a gap of the table is listed, or is not for want of memory, the ranges are of the table
+-- once a gap of the table is listed, or is not because no memory was found, the ranges are of the table
 pub listed_of_table : {E : Type 0} (result : Result (Unit {0}) E) (gap : Range) (id : ℕ) (held listed : Held ℕ) (name : Text) → OnOk result (listed ≡ with_range gap id held) → OnErr result (listed ≡ held) →
     table_of gap.low ≡ name → are_of_table held name ≡ true → are_of_table listed name ≡ true
 listed_of_table (Ok done) gap id held listed name ok err here all = subst (λ (l : Held ℕ). are_of_table l name ≡ true) (sym ok) (of_table-with_range gap id held name here all)

@@ -47,6 +47,14 @@ pub record IsLentFor (cell : CellView) (at rank p : ℕ) (part : Range) (s : Kep
   pub upto : IsPast p s → ⊥
   pub whole : IsWithin part cell.range
 
+-- what a cell keeps can be taken out of it for a part and a position: it is of the join that was declared at a position, was kept while the join had this rank and does not stand past the position, and the cell has the whole part
+pub record CanBeLent (cell : CellView) (at rank p : ℕ) (part : Range) (s : KeptRange) : Type 0 where
+  pub holds : cell.held ≡ Some s
+  pub is_of : cell.at ≡ at
+  pub ranked : s.rank ≡ rank
+  pub upto : IsPast p s → ⊥
+  pub whole : IsWithin part cell.range
+
 -- the cell can be read over a part at a position: it holds a kept range of the join with this rank, which is ready there and has the whole part
 pub record IsReadyCell (cell : CellView) (at rank p : ℕ) (part : Range) : Type 0 where
   pub state : KeptRange

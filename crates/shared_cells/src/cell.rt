@@ -1,7 +1,6 @@
 // What lies behind the lock of a cell.
-ghost use Rattle.std.specs.Prelude.{◌≡◌, ℕ, ◌+◌, ◌≤◌, length, take, false, true, IfOk, IfSome, MatchOption, OnOk, Some, None};
+ghost use Rattle.std.specs.Prelude.{◌≡◌, ◌+◌, ◌≤◌, length, take, false, true, IfOk, IfSome, MatchOption, OnOk, Some, None};
 ghost use Rattle.std.specs.Option.{IsSomeAnd};
-ghost use Rattle.semantics.specs.Texts.{pairs_within};
 ghost use Rattle.semantics.specs.Joins.{Join as PlainJoin};
 ghost use Rattle.semantics.specs.Histories.{joins_of};
 ghost use Rattle.semantics.specs.Outputs.{out};
@@ -11,11 +10,12 @@ ghost use Rattle.layering.specs.Parts.{IsWithin};
 ghost use Rattle.join_eval.specs.Moves.{Moves};
 ghost use Rattle.kept_ranges.specs.Sound.{IsSound, KeptRange};
 ghost use Rattle.range_state.specs.Ready.{HasSameSubject, IsReady};
+ghost use Rattle.range_state.specs.Since.{AnswersSince};
 ghost use Rattle.range_serving.specs.Serving.{IsPast, StandsFrom, output_within};
 ghost use Rattle.cell_slots.specs.Slots.{IsDeclared, IsRightFor, StandsAs};
 ghost use Rattle.rank_layers.specs.Telling.{TellsJoin};
 ghost use Rattle.shared_cells.specs.Bringing.{BringsTo, IsRankOf};
-ghost use Rattle.shared_cells.specs.Cells.{HasSamePlace, IsLentFor, IsOutput, IsReadyCell, IsRightIn};
+ghost use Rattle.shared_cells.specs.Cells.{CanBeLent, HasSamePlace, IsLentFor, IsOutput, IsReadyCell, IsRightIn};
 
 use base_shards::Naming;
 use join_eval::{Changed, Reader};
@@ -304,6 +304,7 @@ impl<N: Naming> Cell<N> {
     ) -> Result<Option<RangeState>, OutOfMemory>
         requires { (j : PlainJoin) × IsDeclared (R.list reader.old) asked.at j }
         ensures lent { IfOk result (λ found. IfSome found (IsLentFor self.new asked.at asked.rank asked.p part.now)) }
+        ensures kept { (s : KeptRange) → CanBeLent self.old asked.at asked.rank asked.p part.now s → IfOk result (λ found. found ≡ Some s) }
         ensures ready { IsReadyCell self.old asked.at asked.rank asked.p part.now → IfOk result (λ found. found ≡ self.old.held) }
         ensures same_place { HasSamePlace self.old self.new }
         ensures met { self.new.pass.view ≡ R.list reader.new }
@@ -374,8 +375,9 @@ impl<N: Naming> Cell<N> {
     }
 
     /// What changed in the join's output in a part between two positions, as what is kept says: it is advanced to the later one
-    /// where it stands below. `All` comes where the cell is for another join or has not the whole part, where nothing is kept
-    /// with this rank, and where what is kept stands past the later position or does not know it.
+    /// where it stands below. `All` comes exactly where the cell is for another join or has not the whole part, where nothing is
+    /// kept with this rank, and where what is kept stands past the later position or then does not know it, as
+    /// `RangeState::changed_since` says.
     ///
     /// The cell's pass and the reader see what either has seen.
     ///
@@ -394,6 +396,8 @@ impl<N: Naming> Cell<N> {
         requires ranked { asked.rank ≤ R.top }
         ensures told { IfOk result (λ told. (j : PlainJoin) → StandsAs (R.list reader.old) asked.p asked.at asked.rank j →
             TellsJoin (R.list reader.old) since asked.p asked.rank j part.now told) }
+        ensures since { (s : KeptRange) → CanBeLent self.old asked.at asked.rank asked.p part.now s →
+            IfOk result (λ told. IfSome self.new.held (λ after. AnswersSince since part.now after told)) }
         ensures same_place { HasSamePlace self.old self.new }
         ensures met { self.new.pass.view ≡ R.list reader.new }
         ensures moves { Moves R.list R.floor R.went reader.old reader.new }

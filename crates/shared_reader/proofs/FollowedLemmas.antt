@@ -6,7 +6,6 @@ use Rattle.semantics.specs.Texts.{Range}
 use Rattle.semantics.proofs.Members.{AllByRecursion-append}
 use Rattle.semantics.proofs.MemberLemmas.{Has, has_from_contains, contains_from_has, has_append_left, has_append_right, has_append_cases}
 use Rattle.key_ranges.proofs.OrderLemmas.{up_to_itself}
-use Rattle.layering.specs.Parts.{IsWithin}
 use Rattle.shared_reader.specs.Following.{HaveWhole, IsOneMore}
 
 -- what was among them is so with one more

@@ -1,7 +1,7 @@
 // The lowest reader of a history that threads share.
 ghost use Rattle.std.specs.Prelude.{◌≡◌, ◌≤◌, length, not, take, true, IfOk, refl};
 ghost use Rattle.std.proofs.Common.{rules};
-ghost use Rattle.semantics.specs.Texts.{is_range, pairs_where, pairs_within};
+ghost use Rattle.semantics.specs.Texts.{is_range, pairs_where};
 ghost use Rattle.semantics.specs.Histories.{is_computed, joins_of};
 ghost use Rattle.join_set.specs.Summaries.{StandsFor};
 ghost use Rattle.base_shards.specs.Reading.{ReadsOn};

@@ -1,5 +1,5 @@
 // What a layer asks of the reader that it stands on, where threads share the history.
-ghost use Rattle.std.specs.Prelude.{◌≡◌, ℕ, ◌≤◌, length, map, take, IfOk};
+ghost use Rattle.std.specs.Prelude.{◌≡◌, ◌≤◌, length, map, take, IfOk};
 ghost use Rattle.semantics.specs.Joins.{Join as PlainJoin};
 ghost use Rattle.semantics.specs.Histories.{joins_of};
 ghost use Rattle.growing_history.specs.Entered.{HasEntered};

@@ -4,7 +4,7 @@ ghost use Rattle.std.specs.Prelude.{Some};
 use crate::status::Status;
 use crate::tests::Given;
 use crate::tests::files::{FEEDS, FEEDS_TEXT};
-use pq_io::{Failed, MemSink, Sink};
+use pq_io::{Failed, MemSink, OpenGate, Sink};
 use std::alloc::{AllocError, Global};
 use std::test::Fail;
 
@@ -95,7 +95,11 @@ fn each_byte_may_be_the_last_that_is_taken(rt: HostRuntime) -> Result<(), Fail> 
             } else {
                 Status::DONE
             };
-            assert_eq!(rt; given.into_sink(&rt, &mut sink)?, status, "write {write}");
+            assert_eq!(rt;
+                given.into_sink(&rt, &mut sink, &OpenGate)?,
+                status,
+                "write {write}"
+            );
             assert_eq!(rt;
                 sink.0.bytes(),
                 &written.as_bytes()[..write - 1],

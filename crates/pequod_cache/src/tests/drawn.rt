@@ -106,7 +106,7 @@ fn expect_same<S: Service, R: Abort>(
     Ok(())
 }
 
-/// The service and a client that keeps nothing answer the joins and 200 lines alike, which are drawn from a number.
+/// The service and a client that keeps nothing answer the joins and 1,000 lines alike, which are drawn from a number.
 fn expect_alike<S: Service + Drop, R: Abort>(
     rt: &R,
     alloc: Global,
@@ -115,7 +115,7 @@ fn expect_alike<S: Service + Drop, R: Abort>(
 ) -> Result<(), Fail> {
     let mut generator = Lcg64Xsh32::seed_from_u64(number);
     let mut plain = PlainClient::new(alloc);
-    for place in 0..JOINS.len() + 200 {
+    for place in 0..JOINS.len() + 1_000 {
         let line = match JOINS.get(place) {
             Some(join) => String::from_str(alloc, join)?,
             None => drawn_line(alloc, &mut generator)?,

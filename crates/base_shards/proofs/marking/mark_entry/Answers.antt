@@ -1,6 +1,6 @@
-use Rattle.std.proofs.Common.{◌≡◌, sym, ap, ◌∙◌}
+use Rattle.std.proofs.Common.{sym, ap, ◌∙◌}
 use Rattle.std.proofs.lemmas.Result.{on_ok_weaker}
-use Rattle.semantics.specs.Histories.{Write, put, remove, declare, Entry}
+use Rattle.semantics.specs.Histories.{Entry}
 use Rattle.growing_history.specs.Changes.{written}
 use Rattle.join_types.specs.Writes.{plain_write}
 use Rattle.base_shards.proofs.MarkLemmas.{marked_by_none, marked_by_one}

@@ -1,15 +1,14 @@
-use Rattle.std.proofs.Common.{ap, ◌∙◌}
-use Rattle.std.proofs.lemmas.Result.{IfOk-weaker}
-use Rattle.serde_json.specs.Written.{has_float}
-use Rattle.protocol.specs.Rows.{list_of, row}
+use Rattle.std.proofs.Common.{◌∷◌, ◌++◌, [], ◌∙◌, ap}
+use Rattle.protocol.specs.Rows.{list_of}
+use Rattle.protocol.specs.Replies.{reply_items, reply_text}
 use Rattle.request_codec.specs.Plain.{plain_reply}
-use Rattle.protocol.specs.Replies.{reply_text}
-use Rattle.request_codec.proofs.ReplyLemmas.{has_float-reply_items}
+use Rattle.request_codec.proofs.TokenLemmas.{print-item}
 use Rattle.request_codec.proofs.writing.write.Goals as goal
-
-pub write_row-requires : goal.write_row-requires
-write_row-requires c = ap (λ items. has_float (list_of items)) c.in_ok-reply_values.ensures ∙ has_float-reply_items (plain_reply c.args.reply.now)
 
 pub returns : goal.returns
 unfolding reply_text
-returns c = IfOk-weaker c.write_row.result _ _ (λ line h. h ∙ ap row c.in_ok-reply_values.ensures) c.write_row.ensures
+returns c =
+    let array = list_of (reply_items (plain_reply c.args.reply.now)) in
+    let empty = c.new-writer.ensures.before ∙ c.in_ok-with_capacity.ensures.items in
+    let text = print-item c.new-writer.result c.write_reply.new.writer array empty c.new-writer.ensures.tokens c.in_ok-write_reply.ensures in
+    c.in_ok-push.ensures.items ∙ ap (λ t. t ++ 10 ∷ []) (c.into_inner-line.ensures.items ∙ text)

@@ -1,9 +1,9 @@
-use Rattle.std.proofs.Common.{◌≡◌, ℕ, ◌≤◌, ⊎_elim, sym, ◌∙◌, ap, refl, subst}
+use Rattle.std.proofs.Common.{◌≡◌, ℕ, ◌≤◌, ⊎_elim, ◌∙◌, refl, subst}
 use Rattle.std.proofs.lemmas.Result.{IfOk-weaker}
 use Rattle.semantics.specs.Texts.{table_of}
 use Rattle.semantics.specs.Histories.{History}
 use Rattle.growing_history.specs.Changes.{changed_keys}
-use Rattle.base_versions.specs.Changes.{Ascend, changed_in, changes_of}
+use Rattle.base_versions.specs.Changes.{changes_of}
 use Rattle.base_versions.specs.Positions.{IsKeptSince}
 use Rattle.base_versions.specs.Kept.{TableKept, empty_table, StandsFor}
 use Rattle.base_versions.proofs.ChangeLemmas.{ascend-kept_changes, changed_in-kept_changes}

@@ -1,4 +1,4 @@
-use Rattle.std.proofs.Common.{◌≡◌, [], sym, ◌∙◌, ap, refl, subst}
+use Rattle.std.proofs.Common.{[], ◌∙◌, refl, subst}
 use Rattle.semantics.specs.Texts.{table_of}
 use Rattle.base_versions.specs.Versions.{SayFrom, versions_at, versions_of}
 use Rattle.base_versions.specs.Kept.{TableKept}

@@ -1,4 +1,4 @@
-use Rattle.std.proofs.Common.{◌<◌, length, sym, ap, ◌∙◌, arith, rules}
+use Rattle.std.proofs.Common.{◌<◌, if◌then◌else◌, Some, None, length, sym, ap, ◌∙◌, arith, rules}
 use Rattle.std.proofs.lemmas.List.{length-map}
 use Rattle.semantics.specs.Patterns.{Pattern}
 use Rattle.key_ranges.specs.Containing.{bind_range}
@@ -34,16 +34,16 @@ take-requires-clause-segment c =
     segment_at c.segments-segment-items.result.now c.args.self.now c.loop-segment.segment-index c.segment-item.result
     c.segments-segment-items.ensures.segments c.segments-segment-items.ensures.is_pattern c.loop-segment-test.true c.segment-item.is
 
-pub returns-in_err-found-in-Some-clause-binds : goal.returns-in_err-found-in-Some-clause-binds
-returns-in_err-found-in-Some-clause-binds c =
+pub returns-then-not-take-clause-binds : goal.returns-then-not-take-clause-binds
+returns-then-not-take-clause-binds c =
     let items = c.segments-segment-items.result.now in
     let p : Pattern = plain_segments items in
     let i = c.loop-segment.segment-index in
     let within : i < length p = omega (arith, c.loop-segment-test.true, length-map items plain_segment) in
-    c.from_residual.ensures
-    ∙ sym (first_stop p i (plain_segment c.segment-item.result) c.in-Some.shared.text.now (shared_behind c.in-Some.shared.low.now c.in-Some.shared.high)
+    sym (first_stop p i (plain_segment c.segment-item.result) c.in-Some.shared.text.now (shared_behind c.in-Some.shared.low.now c.in-Some.shared.high)
     (shared_behind c.loop-segment.low.now c.loop-segment.high) c.loop-segment.found within
-    (seen_at plain_segment items i c.segment-item.result c.loop-segment-test.true c.segment-item.is) c.in-Some.ensures.segments (sym c.in_err-found-in-Some.ensures))
+    (seen_at plain_segment items i c.segment-item.result c.loop-segment-test.true c.segment-item.is) c.in-Some.ensures.segments
+    (sym c.take.ensures ∙ ap (λ took. if took then Some c.take.new.slots else None) c.if-not-take.true))
     ∙ c.loop-segment.invariant.bound ∙ ap (λ q. bind_range q c.args.range.now) c.segments-segment-items.ensures.segments
 
 pub loop-segment-preserved : goal.loop-segment-preserved
@@ -56,7 +56,8 @@ loop-segment-preserved c =
       low_text = search rules;
       ascend = c.in-Some.ensures.ascend;
       bound = first_more p i (plain_segment c.segment-item.result) c.in-Some.shared.text.now (shared_behind c.in-Some.shared.low.now c.in-Some.shared.high)
-          (shared_behind c.loop-segment.low.now c.loop-segment.high) c.loop-segment.found c.in_ok-found-in-Some.found within
-          (seen_at plain_segment items i c.segment-item.result c.loop-segment-test.true c.segment-item.is) c.in-Some.ensures.segments (sym c.in_ok-found-in-Some.ensures)
+          (shared_behind c.loop-segment.low.now c.loop-segment.high) c.loop-segment.found c.take.new.slots within
+          (seen_at plain_segment items i c.segment-item.result c.loop-segment-test.true c.segment-item.is) c.in-Some.ensures.segments
+          (sym c.take.ensures ∙ ap (λ took. if took then Some c.take.new.slots else None) c.if-not-take.false)
           ∙ c.loop-segment.invariant.bound;
     }

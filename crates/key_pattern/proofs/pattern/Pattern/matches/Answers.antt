@@ -1,4 +1,4 @@
-use Rattle.std.proofs.Common.{◌<◌, ◌≤◌, length, drop, sym, ap, ◌∙◌, arith}
+use Rattle.std.proofs.Common.{◌<◌, ◌≤◌, if◌then◌else◌, Some, None, length, drop, sym, ap, ◌∙◌, arith}
 use Rattle.std.proofs.lemmas.List.{length-map}
 use Rattle.semantics.specs.Patterns.{Pattern, bind, take_all}
 use Rattle.key_pattern.specs.Plain.{plain_segment, plain_segments}
@@ -23,18 +23,19 @@ take-requires-clause-segment c =
     segment_at c.deref-segment-items.result.now (plain_segments c.self.inside.segments.items) c.loop-segment.segment-index c.segment-item.result
     (ap plain_segments c.deref-segment-items.ensures.value) c.self.invariant c.loop-segment-test.true c.segment-item.is
 
-pub returns-in_err-found-clause-binds : goal.returns-in_err-found-clause-binds
-returns-in_err-found-clause-binds c =
+pub returns-then-not-take-clause-binds : goal.returns-then-not-take-clause-binds
+returns-then-not-take-clause-binds c =
     let items = c.deref-segment-items.result.now in
     let p : Pattern = plain_segments items in
     let i = c.loop-segment.segment-index in
     let within : i < length p = omega (arith, c.loop-segment-test.true, length-map items plain_segment) in
-    c.from_residual-in_err-found.ensures ∙ sym (
+    sym (
     ap (λ q. bind q c.args.key.now c.args.given.now) (sym (ap plain_segments c.deref-segment-items.ensures.value ∙ c.self.view_is))
     ∙ sym c.loop-segment.invariant
     ∙ walk_stop p i (plain_segment c.segment-item.result) c.first_segment.result.0.now (segments_left c.first_segment.result.1) (segments_left c.loop-segment.left) c.loop-segment.found
     within (seen_at plain_segment items i c.segment-item.result c.loop-segment-test.true c.segment-item.is)
-    (ap segments_left c.in_ok-left.was ∙ c.first_segment.ensures.parts) (sym c.in_err-found.ensures))
+    (ap segments_left c.in_ok-left.was ∙ c.first_segment.ensures.parts)
+    (sym c.take.ensures ∙ ap (λ took. if took then Some c.take.new.slots else None) c.if-not-take.true))
 
 pub loop-segment-preserved : goal.loop-segment-preserved
 loop-segment-preserved c =
@@ -42,9 +43,10 @@ loop-segment-preserved c =
     let p : Pattern = plain_segments items in
     let i = c.loop-segment.segment-index in
     let within : i < length p = omega (arith, c.loop-segment-test.true, length-map items plain_segment) in
-    walk_more p i (plain_segment c.segment-item.result) c.first_segment.result.0.now (segments_left c.first_segment.result.1) (segments_left c.loop-segment.left) c.loop-segment.found c.in_ok-found.found
+    walk_more p i (plain_segment c.segment-item.result) c.first_segment.result.0.now (segments_left c.first_segment.result.1) (segments_left c.loop-segment.left) c.loop-segment.found c.take.new.slots
     within (seen_at plain_segment items i c.segment-item.result c.loop-segment-test.true c.segment-item.is)
-    (ap segments_left c.in_ok-left.was ∙ c.first_segment.ensures.parts) (sym c.in_ok-found.ensures)
+    (ap segments_left c.in_ok-left.was ∙ c.first_segment.ensures.parts)
+    (sym c.take.ensures ∙ ap (λ took. if took then Some c.take.new.slots else None) c.if-not-take.false)
     ∙ c.loop-segment.invariant
 
 pub returns-in-Some-clause-binds : goal.returns-in-Some-clause-binds

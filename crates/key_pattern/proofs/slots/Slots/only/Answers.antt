@@ -6,8 +6,8 @@ use Rattle.key_pattern.specs.Plain.{plain_segment, plain_segments}
 use Rattle.key_pattern.proofs.WalkLemmas.{seen_at, segment_at, folded_more}
 use Rattle.key_pattern.proofs.slots.Slots.only.Goals as goal
 
-pub keep-kept-requires : goal.keep-kept-requires
-keep-kept-requires c =
+pub give-requires : goal.give-requires
+give-requires c =
     segment_at c.segments-segment-items.result.now c.args.out.now c.loop-segment.segment-index c.segment-item.result
     c.segments-segment-items.ensures.segments c.segments-segment-items.ensures.is_pattern c.loop-segment-test.true c.segment-item.is
 
@@ -16,8 +16,8 @@ loop-segment-preserved c =
     let items = c.segments-segment-items.result.now in
     let i = c.loop-segment.segment-index in
     let within : i < length (plain_segments items) = omega (arith, c.loop-segment-test.true, length-map items plain_segment) in
-    folded_more (with_slot c.args.self.now) no_slots c.loop-segment.kept c.keep-kept.result (plain_segments items) i (plain_segment c.segment-item.result) within
-    (seen_at plain_segment items i c.segment-item.result c.loop-segment-test.true c.segment-item.is) c.loop-segment.invariant c.keep-kept.ensures
+    folded_more (with_slot c.args.self.now) no_slots c.loop-segment.kept c.give.new.kept (plain_segments items) i (plain_segment c.segment-item.result) within
+    (seen_at plain_segment items i c.segment-item.result c.loop-segment-test.true c.segment-item.is) c.loop-segment.invariant c.give.ensures
 
 pub returns : goal.returns
 unfolding only

@@ -29,6 +29,15 @@ returns-clause-moves g c =
     moves_trans g.R.Reader.list g.R.Reader.floor g.R.Reader.went c.args.reader.now c.meet.new.self c.take_state.new.reader
     (g.met.R.Reader.went_trans c.args.reader.now c.meet.new.self c.take_state.new.reader) c.meet.ensures.moves c.take_state.ensures.moves
 
+pub returns-then-is_past-clause-kept : goal.returns-then-is_past-clause-kept
+returns-then-is_past-clause-kept g c = λ s can.
+    let is = c.in_ok-state.ensures.kept s (ap (λ (cell : CellView). cell.held) c.self.view_is ∙ can.holds) can.ranked in
+    absurd (can.upto (subst (IsPast c.args.asked.p) is (c.if-is_past.ensures.yes refl)))
+
+pub returns-clause-kept : goal.returns-clause-kept
+returns-clause-kept g c = λ s can.
+    ap (λ (kept : KeptRange). Some kept) (c.in_ok-state.ensures.kept s (ap (λ (cell : CellView). cell.held) c.self.view_is ∙ can.holds) can.ranked)
+
 pub returns-then-is_past-clause-ready : goal.returns-then-is_past-clause-ready
 returns-then-is_past-clause-ready g c = λ ready.
     let is = c.in_ok-state.ensures.kept ready.state (ap (λ (cell : CellView). cell.held) c.self.view_is ∙ ready.holds) ready.ranked in

@@ -1,7 +1,9 @@
-use Rattle.std.proofs.Common.{IfSome, subst}
+use Rattle.std.proofs.Common.{IfSome, sym, ◌∙◌, subst}
 use Rattle.std.proofs.lemmas.Result.{IfOk-weaker}
 use Rattle.join_eval.proofs.MovesLemmas.{moves_trans}
+use Rattle.std.proofs.lemmas.Option.{none-some}
 use Rattle.rank_layers.proofs.PartLemmas.{right_after}
+use Rattle.range_state.specs.Since.{AnswersSince}
 use Rattle.shared_cells.specs.Cells.{IsLentFor}
 use Rattle.shared_cells.proofs.CellLemmas.{right_of_lent, rank_of_lent, told_of_lent}
 use Rattle.shared_cells.proofs.cell.Cell.tell.Goals as goal
@@ -33,3 +35,10 @@ returns-clause-moves g c =
     moves_trans list floor went c.args.reader.now c.lend.new.reader c.give_back.new.reader (g.met.R.Reader.went_trans c.args.reader.now c.lend.new.reader c.give_back.new.reader) c.lend.ensures.moves
     (moves_trans list floor went c.lend.new.reader c.tell-told.new.reader c.give_back.new.reader (g.met.R.Reader.went_trans c.lend.new.reader c.tell-told.new.reader c.give_back.new.reader)
     c.tell-told.ensures.moves c.give_back.ensures.moves)
+
+pub returns-in_default-clause-since : goal.returns-in_default-clause-since
+returns-in_default-clause-since g c = λ s can. absurd (none-some s (sym c.in_default.is ∙ c.in_ok-state.ensures.kept s can))
+
+pub returns-clause-since : goal.returns-clause-since
+returns-clause-since g c = λ s can.
+    IfOk-weaker c.tell-told.result _ _ (λ told answers. subst (λ held. IfSome held (λ after. AnswersSince c.args.since c.args.part.now after told)) (sym c.give_back.ensures.held) answers) c.tell-told.ensures.since

@@ -1,0 +1,22 @@
+#!/usr/bin/env bash
+# Prints how many puts and kept reads a second 1, 2 and 4 threads do together on one cache, from the least of five runs each, and
+# how many times one thread's that is. Each thread has a client of its own and puts into a table of its own, one of ten keys at a
+# time, and after each put reads the output of a join over that table, which is kept. The time is that of a whole test of 40,000
+# puts and as many reads.
+# Usage: bench/threads.sh TESTS, the test program of pequod_cache, which `rt test` leaves as crates/pequod_cache/out/pequod_cache_tests
+set -euo pipefail
+tests=${1:?the path of the test program of pequod_cache}
+TIMEFORMAT='%R'
+
+# least TEST: the seconds of the shortest of five runs.
+least() {
+  for _ in 1 2 3 4 5; do
+    { time "$tests" "tests::threads::$1" > /dev/null; } 2>&1
+  done | sort -n | head -n 1
+}
+
+one=$(least one_thread_puts_and_looks_40_000)
+for test in one_thread_puts_and_looks two_threads_put_and_look four_threads_put_and_look; do
+  least "${test}_40_000" | awk -v test="$test" -v one="$one" \
+    '{ printf "%s: %.3f s, %d a second, %.2f times one thread\n", test, $1, 40000 / $1, one / $1 }'
+done

@@ -1,7 +1,0 @@
-use Rattle.std.proofs.Common.{sym}
-use Rattle.key_pattern.proofs.slots.Slots.keep.Goals as goal
-
-pub with-requires-clause-text : goal.with-requires-clause-text
-with-requires-clause-text c =
-    let is = c.in-Some.ensures.slots.texts c.in-Slot.place c.in-Some.text.now (sym c.in-Some.ensures.text) in
-    record { long = is.0; lacks = is.1 }

@@ -2,7 +2,8 @@
 // every key that can matter to a range of output keys.
 //
 // It stands on `semantics`. `specs/` has the definitions; the modules below have no code: each public function has an
-// empty body, and its contract is a law on the definitions, or a row worked by them.
+// empty body, and its contract is a law on the definitions, or a row worked by them. The layers above may use the
+// definitions, and cite laws and lemmas.
 #![tactic(auto)]
 
 pub mod containing_laws;

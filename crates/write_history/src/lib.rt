@@ -1,7 +1,7 @@
 // The write history that all threads share: one list of entries, to which each pass of it appends.
 //
 // It stands on `out_of_memory`, `key_space`, `join_types`, `join_set`, `atomic_table` and, for its definitions, on
-// `semantics`. The layers above may use `History`, `Pass` and `AppendFault`: contracts see a history as which one it is,
+// `semantics` and `growing_history`. The layers above may use `History`, `Pass` and `AppendFault`: contracts see a history as which one it is,
 // and a pass as its number, the number of passes that may write, and the entries that it has seen. All views of one
 // history are beginnings of one list.
 //

@@ -1,16 +1,17 @@
 -- Slots after a text was given to a place, and slots that are copied one by one.
-use Rattle.std.proofs.Common.{◌≡◌, ℕ, ◌+◌, ◌<◌, ◌≤◌, true, false, List, [], ◌∷◌, ◌++◌, length, map, take, get_or, nat_le, Option, Some, is_some, option_map, slice_set, String, subst, sym, ap, ◌∙◌, arith, ⊎_elim}
+use Rattle.std.proofs.Common.{◌≡◌, ℕ, zero, suc, ◌+◌, ◌<◌, ◌≤◌, true, false, List, [], ◌∷◌, ◌++◌, length, map, take, drop, replicate, get_or, nat_le, Option, None, Some, is_some, option_map, slice_set, String, refl, subst, sym, ap, ◌∙◌, arith, ⊎_elim, append_assoc, append-nil, length-append}
 use Rattle.std.specs.Borrow.{Bor}
 use Rattle.std.specs.Option.{option_copied, option_flatten}
 use Rattle.std.specs.String.{string_bytes}
 use Rattle.std.specs.declared.alloc.Global.{Global}
-use Rattle.std.proofs.lemmas.List.{length-set, length-map, map-set, get_or-map, take_more, take_more_set, take_all, same_lists}
+use Rattle.std.proofs.lemmas.List.{length-set, length-map, length-take-le, map-set, get_or-map, take_more, take_all, take-map, same_lists}
+use Rattle.std.proofs.lemmas.Bool.{true≢false}
 use Rattle.std.proofs.lemmas.Option.{slice_get-get_or}
 use Rattle.semantics.specs.Texts.{Text, has_bar}
 use Rattle.semantics.specs.Patterns.{Pattern, Slots, no_slots, text_at, is_pattern, segments, bind, Fits}
 use Rattle.semantics.proofs.BindLemmas.{text_at-set_cases, texts-no_slots, length-bind, texts_bind}
 use Rattle.semantics.proofs.PatternLemmas.{length-no_slots, bind_some, segments_of_pattern, take_segment_texts}
-use Rattle.key_pattern.specs.Places.{AreSlots, IsSegmentText, CanFill, lent_texts, owned_texts}
+use Rattle.key_pattern.specs.Places.{AreSlots, IsSegmentText, CanFill, lent_texts, owned_texts, padded}
 
 -- slots stay slots where a segment's text is given to a place
 pub AreSlots-set : (given : Slots) (place : ℕ) (text : Text) → AreSlots given → IsSegmentText text → AreSlots (slice_set given place (Some text))
@@ -33,23 +34,76 @@ copied_more f xs done i d y within h e =
     let same : get_or (map f xs) i y ≡ y = get_or-map f xs i d y within ∙ sym e in
     ap (λ s. s ++ y ∷ []) h ∙ ap (λ z. take i (map f xs) ++ z ∷ []) (sym same) ∙ sym (take_more (map f xs) i y inside)
 
+-- ---- texts at the first places
+
+-- of so many equal elements the rest begins with one of them
+rest_of_equals : {A : Type 0} (n i : ℕ) (x : A) → i < n → drop i (replicate n x) ≡ x ∷ drop (suc i) (replicate n x)
+rest_of_equals zero i x less = absurd (omega arith)
+rest_of_equals (suc n) zero x less = refl
+rest_of_equals (suc n) (suc i) x less = rest_of_equals n i x (omega arith)
+
+-- an element is set that stands behind others
+set_behind : {A : Type 0} (xs rest : List A) (x y : A) → slice_set (xs ++ x ∷ rest) (length xs) y ≡ xs ++ y ∷ rest
+set_behind [] rest x y = refl
+set_behind (z ∷ xs) rest x y = ap (λ l. z ∷ l) (set_behind xs rest x y)
+
+-- one more text, and none at the places behind it
+padded_more : (given : Slots) (y : Option Text) → padded (given ++ y ∷ []) ≡ given ++ y ∷ drop (suc (length given)) no_slots
+padded_more given y =
+    let one : length (given ++ y ∷ []) ≡ suc (length given) = omega (arith, length-append given (y ∷ [])) in
+    append_assoc given (y ∷ []) (drop (length (given ++ y ∷ [])) no_slots)
+    ∙ ap (λ n. given ++ y ∷ drop n no_slots) one
+
+-- at the first place behind the texts there is none
+padded_rest : (given : Slots) → length given < 16 → padded given ≡ given ++ None ∷ drop (suc (length given)) no_slots
+unfolding no_slots
+padded_rest given less = ap (λ s. given ++ s) (rest_of_equals 16 (length given) None less)
+
+-- no text more
+pub padded_none : (given : Slots) → length given < 16 → padded (given ++ None ∷ []) ≡ padded given
+padded_none given less = padded_more given None ∙ sym (padded_rest given less)
+
+-- a text is set at the first place that has none
+pub padded_set : (given : Slots) (y : Option Text) → length given < 16 → slice_set (padded given) (length given) y ≡ padded (given ++ y ∷ [])
+padded_set given y less =
+    ap (λ s. slice_set s (length given) y) (padded_rest given less)
+    ∙ set_behind given (drop (suc (length given)) no_slots) None y
+    ∙ sym (padded_more given y)
+
+-- texts at all places
+pub padded_all : (given : Slots) → length given ≡ 16 → padded given ≡ given
+unfolding no_slots
+padded_all given long = ap (λ n. given ++ drop n no_slots) long ∙ append-nil given
+
+-- no more places than all
+pub few_of_slots : (given : Slots) → length (padded given) ≡ 16 → length given ≤ 16
+few_of_slots given long = omega (arith, length-append given (drop (length given) no_slots))
+
 -- one more text is lent
 pub lent_more : (own : List (Option (String Global))) (lent : List (Option (Bor Text))) (i : ℕ) (item : Option (String Global)) (x : Option (Bor Text))
-    → length own ≡ 16 → length lent ≡ 16 → i < length own → item ≡ get_or own i item → option_copied x ≡ option_map string_bytes item
-    → take i (lent_texts lent) ≡ take i (owned_texts own) → take (i + 1) (lent_texts (slice_set lent i x)) ≡ take (i + 1) (owned_texts own)
-lent_more own lent i item x owns lends within at e h =
-    let inside : i < length (lent_texts lent) = omega (arith, length-map lent (option_copied {T = Text})) in
-    ap (take (i + 1)) (map-set option_copied lent i x)
-    ∙ take_more_set (lent_texts lent) i (option_copied x) inside
-    ∙ copied_more (option_map string_bytes) own (take i (lent_texts lent)) i item (option_copied x) within h (e ∙ ap (option_map string_bytes) at)
+    → length own ≤ 16 → i < length own → item ≡ get_or own i item → option_copied x ≡ option_map string_bytes item
+    → lent_texts lent ≡ padded (take i (map (option_map string_bytes) own)) → lent_texts (slice_set lent i x) ≡ padded (take (i + 1) (map (option_map string_bytes) own))
+lent_more own lent i item x few within at e h =
+    let texts = map (option_map string_bytes) own in
+    let some : length (take i texts) ≡ i = length-take-le i texts (omega (arith, length-map own (option_map (string_bytes {Z = Global})))) in
+    map-set option_copied lent i x
+    ∙ ap (λ s. slice_set s i (option_copied x)) h
+    ∙ ap (λ n. slice_set (padded (take i texts)) n (option_copied x)) (sym some)
+    ∙ padded_set (take i texts) (option_copied x) (omega (arith, some))
+    ∙ ap padded (copied_more (option_map string_bytes) own (take i texts) i item (option_copied x) within refl (e ∙ ap (option_map string_bytes) at))
+
+-- all texts are owned
+pub all_owned : (own : List (Option (String Global))) (lent : List (Option (Bor Text))) (used i : ℕ) (given : Slots) → length (take used lent) ≤ i
+    → map (option_map string_bytes) own ≡ take i (lent_texts (take used lent)) → lent_texts lent ≡ given → padded (take used given) ≡ given → owned_texts own ≡ given
+all_owned own lent used i given end h is all =
+    let few : length (lent_texts (take used lent)) ≤ i = omega (arith, end, length-map (take used lent) (option_copied {T = Text})) in
+    ap padded (h ∙ take_all i (lent_texts (take used lent)) few ∙ sym (take-map option_copied used lent) ∙ ap (take used) is) ∙ all
 
 -- all texts are lent
-pub lent_all : (own : List (Option (String Global))) (lent : List (Option (Bor Text))) (i : ℕ) → length own ≡ 16 → length lent ≡ 16 → length own ≤ i
-    → take i (lent_texts lent) ≡ take i (owned_texts own) → lent_texts lent ≡ owned_texts own
-lent_all own lent i owns lends end h =
-    let few : length (lent_texts lent) ≤ i = omega (arith, length-map lent (option_copied {T = Text})) in
-    let few_own : length (owned_texts own) ≤ i = omega (arith, length-map own (option_map (string_bytes {Z = Global}))) in
-    sym (take_all i (lent_texts lent) few) ∙ h ∙ take_all i (owned_texts own) few_own
+pub lent_all : (own : List (Option (String Global))) (lent : List (Option (Bor Text))) (i : ℕ) → length own ≤ i
+    → lent_texts lent ≡ padded (take i (map (option_map string_bytes) own)) → lent_texts lent ≡ owned_texts own
+lent_all own lent i end h =
+    h ∙ ap padded (take_all i (map (option_map string_bytes) own) (omega (arith, length-map own (option_map (string_bytes {Z = Global})))))
 
 -- ---- slots of a key that was bound
 
@@ -78,3 +132,16 @@ text_at_place given place d less = ap option_flatten (slice_get-get_or given pla
 pub same_by_places : (given other : Slots) → length given ≡ 16 → length other ≡ 16 → ((place : ℕ) → place < 16 → text_at place given ≡ text_at place other) → given ≡ other
 same_by_places given other long as_long same = same_lists given other (long ∙ sym as_long) (λ place d less.
     sym (text_at_place given place d less) ∙ same place (omega arith) ∙ text_at_place other place d (omega arith))
+
+-- a place with no text adds nothing
+pub padded_without : (given : Slots) (place : ℕ) → length given ≡ 16 → place < 16 → text_at place given ≡ None → padded (take (place + 1) given) ≡ padded (take place given)
+padded_without given place long less none =
+    let inside : place < length given = omega (arith, long) in
+    let some : length (take place given) ≡ place = length-take-le place given (omega arith) in
+    ap padded (take_more given place None inside ∙ ap (λ x. take place given ++ x ∷ []) (sym (text_at_place given place None inside) ∙ none))
+    ∙ padded_none (take place given) (omega (arith, some))
+
+-- where no text is lent there is none
+pub none_lent : (x : Option (Bor Text)) → is_some x ≡ false → option_copied x ≡ None
+none_lent None is = refl
+none_lent (Some text) is = absurd (true≢false is)

@@ -1,11 +1,11 @@
 -- What slots hold.
-use Rattle.std.specs.Prelude.{◌≡◌, List, map, length, Option, option_map, IsSome, true, false, nat_le, String}
+use Rattle.std.specs.Prelude.{◌≡◌, List, ◌++◌, map, drop, length, Option, option_map, IsSome, true, false, nat_le, String}
 use Rattle.std.specs.Option.{option_copied}
 use Rattle.std.specs.Borrow.{Bor}
 use Rattle.std.specs.String.{string_bytes}
 use Rattle.std.specs.declared.alloc.Global.{Global}
 use Rattle.semantics.specs.Texts.{Text, has_bar}
-use Rattle.semantics.specs.Patterns.{Pattern, Slots, segment_texts}
+use Rattle.semantics.specs.Patterns.{Pattern, Slots, no_slots, segment_texts}
 use Rattle.semantics.specs.PatternLaws.{AreSegmentTexts}
 
 -- a text that a slot may stand for: not empty and without `|`
@@ -26,6 +26,10 @@ lent_texts = map option_copied
 abbrev pub CanFill : Pattern → Slots → Type 0
 CanFill pattern given = IsSome (segment_texts pattern given)
 
--- the texts that are owned
+-- texts at the first of the 16 places, and none at the others
+abbrev pub padded : Slots → Slots
+padded given = given ++ drop (length given) no_slots
+
+-- the texts that are owned, at the first places
 abbrev pub owned_texts : List (Option (String Global)) → Slots
-owned_texts = map (option_map string_bytes)
+owned_texts own = padded (map (option_map string_bytes) own)

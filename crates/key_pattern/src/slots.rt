@@ -1,11 +1,11 @@
 // Texts for the slots of patterns, by place.
-ghost use Rattle.std.specs.Prelude.{◌≡◌, ◌↔◌, IfOk, IsTrue, Some, ◌<◌, slice_set, option_map, true};
+ghost use Rattle.std.specs.Prelude.{◌≡◌, ◌↔◌, IfOk, IsTrue, Some, ◌<◌, ◌≤◌, take, slice_set, option_map, true};
 ghost use Rattle.std.specs.Option.{option_copied};
 ghost use Rattle.std.specs.String.{string_bytes};
 ghost use Rattle.semantics.specs.Patterns.{no_slots, text_at, is_segment};
 ghost use Rattle.key_ranges.specs.Containing.{with_slot, only};
 ghost use Rattle.key_pattern.specs.Plain.{plain_segment};
-ghost use Rattle.key_pattern.specs.Places.{AreSlots, IsSegmentText};
+ghost use Rattle.key_pattern.specs.Places.{AreSlots, IsSegmentText, padded};
 
 use crate::pattern::Pattern;
 use crate::segment::Segment;
@@ -59,6 +59,20 @@ impl<'a> Slots<'a> {
         Slots { texts: self.texts }
     }
 
+    /// The number of places up to the last one that has a text.
+    fn used(&self) -> u8
+        ensures within { result ≤ 16 }
+        ensures all { padded (take result self.now) ≡ self.now }
+    {
+        let mut used = 0;
+        for place in 0..16u8 {
+            if self.at(place).is_some() {
+                used = place + 1;
+            }
+        }
+        used
+    }
+
     /// Gives the text to the place, in place of any that stood there.
     pub(crate) fn set(&mut self, place: u8, text: &'a str)
         requires place { place < 16 }
@@ -95,7 +109,7 @@ impl<'a> Slots<'a> {
     }
 }
 
-/// Slots that own their texts.
+/// Slots that own their texts. They take room for the places up to the last one that has a text.
 #[derive(Debug, Drop)]
 pub struct SlotTexts {
     texts: Vec<Option<String>>,
@@ -117,8 +131,9 @@ impl SlotTexts {
     pub fn of(alloc: Global, slots: &Slots<'_>) -> Result<SlotTexts, OutOfMemory>
         ensures { IfOk result (λ texts. texts ≡ slots.now) }
     {
-        let mut texts = Vec::with_capacity(alloc, 16)?;
-        for text in slots.texts.iter() {
+        let used = usize::from(slots.used());
+        let mut texts = Vec::with_capacity(alloc, used)?;
+        for text in slots.texts[..used].iter() {
             texts.push(own(alloc, *text)?)?;
         }
         Ok(SlotTexts { texts })
@@ -141,20 +156,17 @@ impl SlotTexts {
         ensures text { option_copied result ≡ text_at place self.now }
         ensures slots { AreSlots self.now }
     {
-        let place = usize::from(place);
-        if place < self.texts.len() {
-            lend(&self.texts[place])
-        } else {
-            None
-        }
+        self.lend().at(place)
     }
 
     /// Whether both have the same text at each place. Linear in the texts.
     pub fn is_same(&self, other: &SlotTexts) -> bool
         ensures { IsTrue result ↔ (self.now ≡ other.now) }
     {
+        let one = self.lend();
+        let two = other.lend();
         for place in 0..16u8 {
-            if self.at(place) != other.at(place) {
+            if one.at(place) != two.at(place) {
                 return false;
             }
         }

@@ -4,7 +4,8 @@
 // It stands on `out_of_memory`, `key_space`, `join_types`, `join_eval`, `range_state`, `steps` and, for its definitions and laws,
 // on `semantics`, `growing_history`, `layering`, `lazy_log`, `range_notes` and `kept_ranges`. The layers above may use all that
 // is public here: `serve` a piece from a kept range, or `serve_alone` from one of its own that is let go; `reach` a position
-// alone; `tell` what changed of a kept range's output; and `merge` pairs.
+// alone, or `catch_up` with it where nothing is to be filled, and whether a kept range `is_past` one; `tell` what changed of a
+// kept range's output; and `merge` pairs.
 #![tactic(auto)]
 
 pub mod merging;
@@ -12,5 +13,5 @@ pub mod serving;
 pub mod telling;
 
 pub use merging::merge;
-pub use serving::{reach, serve, serve_alone};
-pub use telling::tell;
+pub use serving::{is_past, reach, serve, serve_alone};
+pub use telling::{catch_up, tell};

@@ -20,8 +20,8 @@ use std::alloc::Global;
 use std::sync::ledger::Ledger;
 use steps::Steps;
 
-/// Whether it stands past a position.
-fn is_past(state: &RangeState, p: u64) -> bool
+/// Whether it stands past a position. Constant.
+pub fn is_past(state: &RangeState, p: u64) -> bool
     ensures yes { result ≡ true → IsPast p state.now }
     ensures no { result ≡ false → IsPast p state.now → ⊥ }
 {

@@ -6,7 +6,7 @@ ghost use Rattle.join_eval.specs.Moves.{Moves};
 ghost use Rattle.kept_ranges.specs.Sound.{IsSound};
 ghost use Rattle.range_state.specs.Ready.{HasSameSubject};
 ghost use Rattle.range_state.specs.Since.{AnswersSince};
-ghost use Rattle.range_serving.specs.Serving.{StandsFrom};
+ghost use Rattle.range_serving.specs.Serving.{IsBroughtTo, StandsFrom};
 ghost use Rattle.range_serving.specs.Telling.{TellsOutput};
 
 use join_eval::{Changed, Reader};
@@ -16,8 +16,11 @@ use range_state::RangeState;
 use std::sync::ledger::Ledger;
 use steps::Steps;
 
-/// Advances it to where p entries stand, where it stands below.
-fn catch_up<R: Reader, L: Ledger>(
+/// Advances it to where p entries stand, where it stands below. Otherwise nothing changes, and that costs nothing.
+///
+/// On `OutOfMemory` it stands where it stood, or at p, or is forgotten, and is right for the reader's list. The reader may
+/// have gone on and steps may have been taken.
+pub fn catch_up<R: Reader, L: Ledger>(
     state: &mut RangeState,
     p: u64,
     reader: &mut R,
@@ -30,6 +33,7 @@ fn catch_up<R: Reader, L: Ledger>(
     requires ranked { state.old.rank ≤ R.top }
     requires sound { IsSound state.old (R.list reader.old) }
     ensures same { HasSameSubject state.old state.new }
+    ensures brought { OnOk result (IsBroughtTo p state.old state.new) }
     ensures reached { OnOk result (StandsFrom p state.new) }
     ensures still { StandsFrom p state.old → state.new ≡ state.old }
     ensures unused { StandsFrom p state.old → reader.new ≡ reader.old }
@@ -75,6 +79,7 @@ pub fn tell<R: Reader, L: Ledger>(
     ensures same { HasSameSubject state.old state.new }
     ensures told { IfOk result (TellsOutput state.old (R.list reader.old) q p range.now) }
     ensures since { IfOk result (AnswersSince q range.now state.new) }
+    ensures brought { OnOk result (IsBroughtTo p state.old state.new) }
     ensures reached { OnOk result (StandsFrom p state.new) }
     ensures still { StandsFrom p state.old → state.new ≡ state.old }
     ensures unused { StandsFrom p state.old → reader.new ≡ reader.old }

@@ -1,5 +1,5 @@
 -- What is said of what changed in the outputs of joins.
-use Rattle.std.specs.Prelude.{◌≡◌, ℕ, List, Contains, true}
+use Rattle.std.specs.Prelude.{◌≡◌, ℕ, List, Contains, true, Option, Some}
 use Rattle.std.specs.List.{AllByRecursion}
 use Rattle.std.specs.List.Sorted.{IsStrictlySortedBy}
 use Rattle.semantics.specs.Texts.{Text, text_cmp, Range, within}
@@ -10,7 +10,9 @@ use Rattle.layering.specs.Standing.{SameOutput}
 use Rattle.join_eval.specs.declared.reading.Changed.{Changed}
 use Rattle.join_eval.specs.declared.reading.Changed.TheVariants.{Keys, All}
 use Rattle.kept_ranges.specs.Sound.{KeptRange}
-use Rattle.range_serving.specs.Serving.{IsPast}
+use Rattle.range_serving.specs.Serving.{IsBroughtTo, IsPast}
+use Rattle.cell_slots.specs.declared.slot.Slot.{Slot}
+use Rattle.cell_slots.specs.declared.slot.Slot.TheVariants.{Held}
 
 -- keys of a range, ascending, each once, among which is every key of the range at which a join's output is not the same at all positions from q to p
 pub record ListsJoin (h : History) (q p rank : ℕ) (j : Join) (range : Range) (keys : List Text) : Type 0 where
@@ -40,3 +42,9 @@ pub record CanTell (rank p : ℕ) (part : Range) (s : KeptRange) : Type 0 where
   pub ranked : s.rank ≡ rank
   pub upto : IsPast p s → ⊥
   pub whole : IsWithin part s.range
+
+-- a slot holds, of the join that was declared at a position, a kept range that was brought to another from what it was
+pub record HoldsBrought (p at : ℕ) (old : KeptRange) (slot : Option Slot) : Type 0 where
+  pub after : KeptRange
+  pub holds : slot ≡ Some (Held at after)
+  pub brought : IsBroughtTo p old after

@@ -1,5 +1,5 @@
 // What changed in the outputs of joins of one rank.
-ghost use Rattle.std.specs.Prelude.{◌≡◌, ℕ, ◌+◌, ◌≤◌, List, length, map, take, slice_get, true, IfOk, Some};
+ghost use Rattle.std.specs.Prelude.{◌≡◌, ℕ, ◌+◌, ◌≤◌, List, length, map, take, slice_get, true, IfOk, OnOk, Some};
 ghost use Rattle.std.specs.List.{AllByRecursion};
 ghost use Rattle.std.specs.List.Sorted.{IsStrictlySortedBy};
 ghost use Rattle.semantics.specs.Texts.{text_cmp, Range as Bounds, within};
@@ -13,7 +13,7 @@ ghost use Rattle.kept_ranges.specs.Sound.{KeptRange};
 ghost use Rattle.range_state.specs.Since.{AnswersSince};
 ghost use Rattle.cell_slots.specs.declared.slot.Slot.TheVariants.{Held};
 ghost use Rattle.cell_slots.specs.Slots.{Frame, StandsAs};
-ghost use Rattle.rank_layers.specs.Telling.{AddsChanges, CanTell, TellsJoin};
+ghost use Rattle.rank_layers.specs.Telling.{AddsChanges, CanTell, HoldsBrought, TellsJoin};
 
 use crate::keys::united;
 use crate::part::Asked;
@@ -47,6 +47,8 @@ fn tell_part<R: Cells, L: Ledger>(
         TellsJoin (R.list reader.old) since asked.p asked.rank j part.now.range told) }
     ensures since { (id : ℕ) (held : KeptRange) → part.now.cell ≡ Some id → slice_get (R.holdings reader.old).slots id ≡ Some (Held asked.at held) → CanTell asked.rank asked.p part.now.range held →
         IfOk result (λ told. (after : KeptRange) → slice_get (R.holdings reader.new).slots id ≡ Some (Held asked.at after) → AnswersSince since part.now.range after told) }
+    ensures brought { (id : ℕ) (held : KeptRange) → part.now.cell ≡ Some id → slice_get (R.holdings reader.old).slots id ≡ Some (Held asked.at held) → CanTell asked.rank asked.p part.now.range held →
+        OnOk result (HoldsBrought asked.p asked.at held (slice_get (R.holdings reader.new).slots id)) }
     ensures moves { Moves R.list R.floor (λ a b. Frame (asked.rank + 1) (R.holdings a) (R.holdings b)) reader.old reader.new }
     ensures counted { steps.old ≤ steps.new }
 {

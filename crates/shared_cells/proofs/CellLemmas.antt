@@ -1,6 +1,7 @@
 -- What a cell keeps, over longer histories, and as the join's that is asked for.
-use Rattle.std.proofs.Common.{◌≡◌, ℕ, zero, suc, ◌-◌, ◌<◌, ◌≤◌, List, [], ◌∷◌, ◌++◌, length, take, slice_get, Option, IfSome, Some, None, refl, sym, ap, ◌∙◌, subst, arith}
-use Rattle.std.proofs.lemmas.Option.{none-some}
+use Rattle.std.proofs.Common.{◌≡◌, ℕ, zero, suc, ◌-◌, ◌<◌, ◌≤◌, List, [], ◌∷◌, ◌++◌, length, take, slice_get, Bool, true, false, nat_eq, eqb-true, eq-eqb, Option, IfSome, Some, None, refl, sym, ap, ◌∙◌, subst, arith}
+use Rattle.std.proofs.lemmas.Bool.{true≢false}
+use Rattle.std.proofs.lemmas.Option.{none-some, same_Some}
 use Rattle.std.specs.Option.{IsSomeAnd}
 use Rattle.atomic_table.specs.Seated.{TableId}
 use Rattle.semantics.specs.Texts.{Table, Range, value_at, pairs_within}
@@ -19,12 +20,12 @@ use Rattle.kept_ranges.specs.Sound.{KeptRange, IsSound, IsSoundAt}
 use Rattle.kept_ranges.proofs.SoundLemmas.{sound_over_longer}
 use Rattle.range_state.specs.Held.{forgotten}
 use Rattle.range_state.specs.Ready.{HasSameSubject, StandsAt}
-use Rattle.range_serving.specs.Serving.{IsPast, StandsFrom, output_within}
+use Rattle.range_serving.specs.Serving.{IsBroughtTo, IsPast, output_within}
 use Rattle.range_serving.specs.Telling.{TellsOutput}
 use Rattle.cell_slots.specs.Slots.{IsDeclared, IsRightFor, StandsAs}
 use Rattle.rank_layers.specs.Telling.{TellsJoin}
 use Rattle.rank_layers.proofs.PartLemmas.{declared_over_longer, declared_once, stands_over}
-use Rattle.shared_cells.specs.Bringing.{BringsTo, IsBroughtTo, IsRankOf}
+use Rattle.shared_cells.specs.Bringing.{BringsTo, IsRankOf}
 use Rattle.shared_cells.specs.Cells.{CellView, IsRightIn, IsCell, IsLentFor, IsOutput}
 
 -- ---- over longer histories
@@ -147,7 +148,29 @@ lets_go p rank None left found none empty kept = empty
 lets_go p rank (Some s) left found none empty kept = ((λ same. absurd (none-some s (sym none ∙ kept s refl same))), (λ other. empty))
 
 -- what was kept with this rank is brought there
-pub brings : (p rank : ℕ) (held after : Option KeptRange) (s t : KeptRange) → held ≡ Some s → s.rank ≡ rank → after ≡ Some t → HasSameSubject s t → StandsFrom p t → (StandsFrom p s → t ≡ s) → BringsTo p (Some rank) held after
-brings p rank held after s t is ranked gives same from still =
+pub brings : (p rank : ℕ) (held after : Option KeptRange) (s t : KeptRange) → held ≡ Some s → s.rank ≡ rank → after ≡ Some t → IsBroughtTo p s t → BringsTo p (Some rank) held after
+brings p rank held after s t is ranked gives brought =
     subst (λ (o : Option KeptRange). BringsTo p (Some rank) o after) (sym is)
-    ((λ r. subst (λ (o : Option KeptRange). IsSomeAnd o (IsBroughtTo p s)) (sym gives) (record { same = same; from = from; still = still })), (λ other. absurd (other ranked)))
+    ((λ r. subst (λ (o : Option KeptRange). IsSomeAnd o (IsBroughtTo p s)) (sym gives) brought), (λ other. absurd (other ranked)))
+
+-- ---- what can be served
+
+-- what stands nowhere stands past no position
+nowhere_is_not_past : (p : ℕ) (s : KeptRange) → s.position ≡ None → IsPast p s → ⊥
+nowhere_is_not_past p s is past = subst (λ (o : Option ℕ). IsSomeAnd o (λ q. p < q)) is past
+
+not_past_by : (b : Bool) (rank p : ℕ) (s state : KeptRange) → nat_eq s.rank rank ≡ b → (s.rank ≡ rank → state ≡ s) → ((s.rank ≡ rank → ⊥) → state.position ≡ None) →
+    (s.rank ≡ rank → IsPast p s → ⊥) → IsPast p state → ⊥
+not_past_by true rank p s state is kept fresh upto past =
+    let same = eqb-true s.rank rank is in
+    upto same (subst (IsPast p) (kept same) past)
+not_past_by false rank p s state is kept fresh upto past =
+    nowhere_is_not_past p state (fresh (λ same. absurd (true≢false (sym (eq-eqb s.rank rank same) ∙ is)))) past
+
+-- what is taken out does not stand past a position, where nothing that was kept with this rank does
+pub taken_is_not_past : (held : Option KeptRange) (rank p : ℕ) (state : KeptRange) → ((s : KeptRange) → held ≡ Some s → s.rank ≡ rank → state ≡ s) →
+    (((s : KeptRange) → held ≡ Some s → s.rank ≡ rank → ⊥) → state.position ≡ None) → IfSome held (λ s. s.rank ≡ rank → IsPast p s → ⊥) → IsPast p state → ⊥
+taken_is_not_past None rank p state kept fresh upto past = nowhere_is_not_past p state (fresh (λ s is ranked. absurd (none-some s is))) past
+taken_is_not_past (Some s) rank p state kept fresh upto past =
+    not_past_by (nat_eq s.rank rank) rank p s state refl (kept s refl)
+    (λ other. fresh (λ t is ranked. other (subst (λ (u : KeptRange). u.rank ≡ rank) (sym (same_Some s t is)) ranked))) upto past

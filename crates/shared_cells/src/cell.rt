@@ -11,11 +11,11 @@ ghost use Rattle.join_eval.specs.Moves.{Moves};
 ghost use Rattle.kept_ranges.specs.Sound.{IsSound, KeptRange};
 ghost use Rattle.range_state.specs.Ready.{HasSameSubject, IsReady};
 ghost use Rattle.range_state.specs.Since.{AnswersSince};
-ghost use Rattle.range_serving.specs.Serving.{IsPast, StandsFrom, output_within};
+ghost use Rattle.range_serving.specs.Serving.{IsBroughtTo, IsPast, StandsFrom, output_within};
 ghost use Rattle.cell_slots.specs.Slots.{IsDeclared, IsRightFor, StandsAs};
 ghost use Rattle.rank_layers.specs.Telling.{TellsJoin};
 ghost use Rattle.shared_cells.specs.Bringing.{BringsTo, IsRankOf};
-ghost use Rattle.shared_cells.specs.Cells.{CanBeLent, HasSamePlace, IsLentFor, IsOutput, IsReadyCell, IsRightIn};
+ghost use Rattle.shared_cells.specs.Cells.{CanBeLent, CanServe, HasSamePlace, IsLentFor, IsOutput, IsReadyCell, IsRightIn};
 
 use base_shards::Naming;
 use join_eval::{Changed, Reader};
@@ -23,7 +23,7 @@ use join_types::Pair;
 use key_space::Range;
 use out_of_memory::OutOfMemory;
 use pq_io::Gate;
-use range_serving::{reach, tell};
+use range_serving::{catch_up, is_past, reach, tell};
 use range_state::RangeState;
 use shared_reader::{Followed, Stacked};
 use std::alloc::Global;
@@ -70,17 +70,6 @@ fn is_within(part: &Range, range: &Range) -> bool
     ensures no { IsWithin part.now range.now → result ≡ true }
 {
     range.lo() <= part.lo() && part.hi() <= range.hi()
-}
-
-/// Whether it stands past a position.
-fn is_past(state: &RangeState, p: u64) -> bool
-    ensures yes { result ≡ true → IsPast p state.now }
-    ensures no { result ≡ false → IsPast p state.now → ⊥ }
-{
-    match state.position() {
-        None => false,
-        Some(at) => p < at,
-    }
 }
 
 /// Brings it to where p entries stand, and mends it where something pending meets the part. The gate is passed before it is
@@ -151,39 +140,6 @@ fn read_kept<R: Reader, G: Gate, L: Ledger>(
 {
     make_ready(state, p, part, gate, reader, steps)?;
     state.read(part, steps)
-}
-
-/// Advances it to where p entries stand, where it stands below.
-///
-/// On `OutOfMemory` it stands where it stood, or at p, or is forgotten, and is right for the reader's list.
-fn advance_below<R: Reader, L: Ledger>(
-    state: &mut RangeState,
-    p: u64,
-    reader: &mut R,
-    steps: &mut Steps<L>,
-) -> Result<(), OutOfMemory>
-    requires within { p ≤ length (R.list reader.old) }
-    requires from { StandsFrom (R.floor reader.old) state.old }
-    requires entered { HasEntered (R.list reader.old) }
-    requires stands { HasRank (joins_of (take p (R.list reader.old))) state.old.join state.old.rank }
-    requires ranked { state.old.rank ≤ R.top }
-    requires sound { IsSound state.old (R.list reader.old) }
-    ensures same { HasSameSubject state.old state.new }
-    ensures reached { OnOk result (StandsFrom p state.new) }
-    ensures still { StandsFrom p state.old → state.new ≡ state.old }
-    ensures sound { IsSound state.new (R.list reader.new) }
-    ensures moves { Moves R.list R.floor R.went reader.old reader.new }
-    ensures counted { steps.old ≤ steps.new }
-{
-    match state.position() {
-        None => Ok(()),
-        Some(at) => {
-            if at < p {
-                return state.advance(p, reader, steps);
-            }
-            Ok(())
-        }
-    }
 }
 
 impl<N: Naming> Cell<N> {
@@ -275,6 +231,7 @@ impl<N: Naming> Cell<N> {
         ensures right { IfOk result (IsRightIn self.new.at self.new.range self.new.pass) }
         ensures ranked { IfOk result (λ state. state.rank ≡ asked.rank) }
         ensures kept { (s : KeptRange) → self.old.held ≡ Some s → s.rank ≡ asked.rank → IfOk result (λ state. state ≡ s) }
+        ensures fresh { ((s : KeptRange) → self.old.held ≡ Some s → s.rank ≡ asked.rank → ⊥) → IfOk result (λ state. state.position ≡ None) }
         ensures same_place { HasSamePlace self.old self.new }
         ensures met { self.new.pass.view ≡ R.list reader.new }
         ensures entered { HasEntered (R.list reader.old) → HasEntered (R.list reader.new) }
@@ -305,6 +262,7 @@ impl<N: Naming> Cell<N> {
         requires { (j : PlainJoin) × IsDeclared (R.list reader.old) asked.at j }
         ensures lent { IfOk result (λ found. IfSome found (IsLentFor self.new asked.at asked.rank asked.p part.now)) }
         ensures kept { (s : KeptRange) → CanBeLent self.old asked.at asked.rank asked.p part.now s → IfOk result (λ found. found ≡ Some s) }
+        ensures served { CanServe self.old asked.at asked.rank asked.p part.now → IfOk result (λ found. found ≡ None → ⊥) }
         ensures ready { IsReadyCell self.old asked.at asked.rank asked.p part.now → IfOk result (λ found. found ≡ self.old.held) }
         ensures same_place { HasSamePlace self.old self.new }
         ensures met { self.new.pass.view ≡ R.list reader.new }
@@ -357,6 +315,7 @@ impl<N: Naming> Cell<N> {
         requires stands { (j : PlainJoin) × StandsAs (R.list reader.old) asked.p asked.at asked.rank j }
         requires ranked { asked.rank ≤ R.top }
         ensures output { IfOk result (λ found. IfSome found (λ pairs. IsOutput (R.list reader.old) asked.p asked.at asked.rank part.now pairs.items)) }
+        ensures served { CanServe self.old asked.at asked.rank asked.p part.now → IfOk result (λ found. found ≡ None → ⊥) }
         ensures ready { IfOk result (λ found. IfSome found (λ _. IsReadyCell self.new asked.at asked.rank asked.p part.now)) }
         ensures same_place { HasSamePlace self.old self.new }
         ensures met { self.new.pass.view ≡ R.list reader.new }
@@ -375,9 +334,10 @@ impl<N: Naming> Cell<N> {
     }
 
     /// What changed in the join's output in a part between two positions, as what is kept says: it is advanced to the later one
-    /// where it stands below. `All` comes exactly where the cell is for another join or has not the whole part, where nothing is
-    /// kept with this rank, and where what is kept stands past the later position or then does not know it, as
-    /// `RangeState::changed_since` says.
+    /// where it stands below, and stays where it stands there or is forgotten. Then `All` comes exactly where it does not know,
+    /// as `RangeState::changed_since` says. `All` may also come where what is kept cannot be lent: where the cell is for another
+    /// join or has not the whole part, where nothing is kept with this rank, and where what is kept stands past the later
+    /// position.
     ///
     /// The cell's pass and the reader see what either has seen.
     ///
@@ -396,8 +356,9 @@ impl<N: Naming> Cell<N> {
         requires ranked { asked.rank ≤ R.top }
         ensures told { IfOk result (λ told. (j : PlainJoin) → StandsAs (R.list reader.old) asked.p asked.at asked.rank j →
             TellsJoin (R.list reader.old) since asked.p asked.rank j part.now told) }
+        ensures brought { (s : KeptRange) → CanBeLent self.old asked.at asked.rank asked.p part.now s → OnOk result (IsSomeAnd self.new.held (IsBroughtTo asked.p s)) }
         ensures since { (s : KeptRange) → CanBeLent self.old asked.at asked.rank asked.p part.now s →
-            IfOk result (λ told. IfSome self.new.held (λ after. AnswersSince since part.now after told)) }
+            IfOk result (λ told. IsSomeAnd self.new.held (λ after. AnswersSince since part.now after told)) }
         ensures same_place { HasSamePlace self.old self.new }
         ensures met { self.new.pass.view ≡ R.list reader.new }
         ensures moves { Moves R.list R.floor R.went reader.old reader.new }
@@ -464,7 +425,7 @@ impl<N: Naming> Cell<N> {
             return Ok(());
         };
         let mut state = state;
-        let advanced = advance_below(&mut state, p, reader, steps);
+        let advanced = catch_up(&mut state, p, reader, steps);
         self.give_back(state, reader);
         advanced
     }

@@ -1,9 +1,10 @@
 use Rattle.std.proofs.Common.{◌≡◌, ℕ, Option, Some, slice_get, sym, ap, ◌∙◌, subst}
 use Rattle.std.proofs.lemmas.Option.{MatchOption-at_some, none-some, same_Some}
-use Rattle.std.proofs.lemmas.Result.{IfOk-weaker}
+use Rattle.std.proofs.lemmas.Result.{IfOk-weaker, on_ok_weaker}
 use Rattle.semantics.specs.Histories.{IsPrefix}
 use Rattle.kept_ranges.specs.Sound.{KeptRange}
 use Rattle.range_state.specs.Since.{AnswersSince}
+use Rattle.range_serving.specs.Serving.{IsBroughtTo}
 use Rattle.cell_slots.specs.declared.slot.Slot.{Slot}
 use Rattle.cell_slots.specs.declared.slot.Slot.TheVariants.{Lent, Held}
 use Rattle.cell_slots.specs.Slots.{Frame}
@@ -64,3 +65,21 @@ returns-clause-since g c = λ id held cell stands can.
     subst (λ s. AnswersSince c.args.since c.args.part.now.range s told)
     (held_once c.args.asked.at c.tell-told.new.state after (sym (given_back (g.R.Cells.holdings c.tell-told.new.reader) (g.R.Cells.holdings c.give_back.new.self) c.in-Some.id (Held c.args.asked.at c.tell-told.new.state)
     (Lent c.args.asked.at c.tell-told.new.state.range) lent c.give_back.ensures.held) ∙ ap (slice_get (g.R.Cells.holdings c.give_back.new.self).slots) same ∙ there)) since) c.tell-told.ensures.since
+
+pub returns-clause-brought : goal.returns-clause-brought
+returns-clause-brought g c = λ id held cell stands can.
+    let same : c.in-Some.id ≡ id = same_Some c.in-Some.id id (sym c.in-Some.is ∙ cell) in
+    let takes = MatchOption-at_some _ _ c.in-Some-2.state c.in-Some-2.is c.in_ok-state.ensures.taken in
+    let found = c.in_ok-state.ensures.held held (ap (slice_get (g.R.Cells.holdings c.args.reader.now).slots) same ∙ stands) can.ranked can.upto can.whole in
+    let was : c.in-Some-2.state ≡ held = same_Some c.in-Some-2.state held (sym c.in-Some-2.is ∙ found) in
+    let lent =
+    place_lent (g.R.Reader.list c.args.reader.now) (g.R.Reader.floor c.args.reader.now) (g.R.Cells.holdings c.args.reader.now) (g.R.Cells.holdings c.lend.new.self) (g.R.Cells.holdings c.tell-told.new.reader)
+    c.in-Some.id c.args.asked.at c.args.asked.rank c.args.asked.p c.args.part.now.range c.in-Some-2.state c.tell-told.new.state takes
+    (subst (λ t. Frame t (g.R.Cells.holdings c.lend.new.self) (g.R.Cells.holdings c.tell-told.new.reader)) c.requires.next (g.met.R.Cells.went_frame c.lend.new.self c.tell-told.new.reader c.tell-told.ensures.moves.on))
+    c.tell-told.ensures.same in
+    on_ok_weaker c.tell-told.result (λ brought. record {
+      after = c.tell-told.new.state;
+      holds = ap (slice_get (g.R.Cells.holdings c.give_back.new.self).slots) (sym same)
+          ∙ given_back (g.R.Cells.holdings c.tell-told.new.reader) (g.R.Cells.holdings c.give_back.new.self) c.in-Some.id (Held c.args.asked.at c.tell-told.new.state) (Lent c.args.asked.at c.tell-told.new.state.range) lent c.give_back.ensures.held;
+      brought = subst (λ (s : KeptRange). IsBroughtTo c.args.asked.p s c.tell-told.new.state) was brought;
+    }) c.tell-told.ensures.brought

@@ -5,5 +5,4 @@ use Rattle.key_pattern.proofs.slots.SlotTexts.is_same.Goals as goal
 pub returns : goal.returns
 returns c =
     let all : c.loop-place.place ≡ 16 = omega arith in
-    let long = c.loop-place.invariant.long (omega arith) in
-    (λ _. same_by_places c.args.self.now c.args.other.now long.0 long.1 (λ k less. c.loop-place.invariant.same k (omega arith)), λ _. refl)
+    (λ _. same_by_places c.args.self.now c.args.other.now c.lend-one.ensures.slots.places c.lend-two.ensures.slots.places (λ k less. c.loop-place.invariant k (omega arith)), λ _. refl)

@@ -1,9 +1,7 @@
-use Rattle.std.proofs.Common.{◌≡◌, take, length}
-use Rattle.key_pattern.specs.Places.{lent_texts, owned_texts}
+use Rattle.std.proofs.Common.{◌≡◌, take, map, option_map}
+use Rattle.std.specs.String.{string_bytes}
+use Rattle.key_pattern.specs.Places.{lent_texts, padded}
 use Rattle.key_pattern.proofs.slots.SlotTexts.lend.Given as goal
 
 abbrev pub invariant-loop-place : goal.invariant-loop-place
-invariant-loop-place l = record {
-  copied : take l.place (lent_texts l.texts) ≡ take l.place (owned_texts l.text-items);
-  places : length l.texts ≡ 16;
-}
+invariant-loop-place l = lent_texts l.texts ≡ padded (take l.place (map (option_map string_bytes) l.text-items))

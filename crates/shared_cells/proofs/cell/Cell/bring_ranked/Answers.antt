@@ -13,8 +13,8 @@ returns-in_default-clause-brought g c =
     subst (λ (o : Option KeptRange). BringsTo c.args.p (Some c.args.rank) o c.take_kept.new.self.held) c.meet.ensures.held
     (lets_go c.args.p c.args.rank c.meet.new.self.held c.take_kept.new.self.held c.take_kept.result c.in_default.is c.take_kept.ensures.left c.take_kept.ensures.kept)
 
-pub advance_below-advanced-requires-clause-stands : goal.advance_below-advanced-requires-clause-stands
-advance_below-advanced-requires-clause-stands g c =
+pub catch_up-advanced-requires-clause-stands : goal.catch_up-advanced-requires-clause-stands
+catch_up-advanced-requires-clause-stands g c =
     let list = g.R.Reader.list in
     let met = ap (λ (p : PassView). p.view) c.take_kept.ensures.pass ∙ c.meet.ensures.met in
     let place = c.take_kept.ensures.same_place.at ∙ c.meet.ensures.same_place.at in
@@ -25,21 +25,21 @@ pub give_back-requires-clause-right : goal.give_back-requires-clause-right
 give_back-requires-clause-right g c =
     let list = g.R.Reader.list in
     let met = ap (λ (p : PassView). p.view) c.take_kept.ensures.pass ∙ c.meet.ensures.met in
-    right_after (list c.meet.new.reader) (list c.advance_below-advanced.new.reader) c.take_kept.new.self.at c.in-Some.state c.advance_below-advanced.new.state c.advance_below-advanced.ensures.moves.kept
+    right_after (list c.meet.new.reader) (list c.catch_up-advanced.new.reader) c.take_kept.new.self.at c.in-Some.state c.catch_up-advanced.new.state c.catch_up-advanced.ensures.moves.kept
     (right_here c.take_kept.new.self (list c.meet.new.reader) c.take_kept.new.self.at c.in-Some.state met (λ i. c.take_kept.new.self.at) c.in-Some.ensures.right)
-    c.advance_below-advanced.ensures.same c.advance_below-advanced.ensures.sound
+    c.catch_up-advanced.ensures.same c.catch_up-advanced.ensures.sound
 
 pub returns-clause-brought : goal.returns-clause-brought
 returns-clause-brought g c =
-    let advanced = c.advance_below-advanced in
-    on_ok_weaker advanced.result (λ reached.
+    let advanced = c.catch_up-advanced in
+    on_ok_weaker advanced.result (λ brought.
     subst (λ (o : Option KeptRange). BringsTo c.args.p (Some c.args.rank) o c.give_back.new.self.held) c.meet.ensures.held
-    (brings c.args.p c.args.rank c.meet.new.self.held c.give_back.new.self.held c.in-Some.state advanced.new.state c.in-Some.ensures.was c.in-Some.ensures.ranked c.give_back.ensures.held advanced.ensures.same reached advanced.ensures.still))
-    advanced.ensures.reached
+    (brings c.args.p c.args.rank c.meet.new.self.held c.give_back.new.self.held c.in-Some.state advanced.new.state c.in-Some.ensures.was c.in-Some.ensures.ranked c.give_back.ensures.held brought))
+    advanced.ensures.brought
 
 pub returns-clause-moves : goal.returns-clause-moves
 returns-clause-moves g c =
     let list = g.R.Reader.list in let floor = g.R.Reader.floor in let went = g.R.Reader.went in
     moves_trans list floor went c.args.reader.now c.meet.new.reader c.give_back.new.reader (g.met.R.Reader.went_trans c.args.reader.now c.meet.new.reader c.give_back.new.reader) c.meet.ensures.moves
-    (moves_trans list floor went c.meet.new.reader c.advance_below-advanced.new.reader c.give_back.new.reader (g.met.R.Reader.went_trans c.meet.new.reader c.advance_below-advanced.new.reader c.give_back.new.reader)
-    c.advance_below-advanced.ensures.moves c.give_back.ensures.moves)
+    (moves_trans list floor went c.meet.new.reader c.catch_up-advanced.new.reader c.give_back.new.reader (g.met.R.Reader.went_trans c.meet.new.reader c.catch_up-advanced.new.reader c.give_back.new.reader)
+    c.catch_up-advanced.ensures.moves c.give_back.ensures.moves)

@@ -4,7 +4,7 @@ use Rattle.rank_layers.proofs.PartLemmas.{declared_over_longer}
 use Rattle.kept_ranges.specs.Sound.{KeptRange}
 use Rattle.range_serving.specs.Serving.{IsPast}
 use Rattle.shared_cells.specs.Cells.{CellView}
-use Rattle.shared_cells.proofs.CellLemmas.{cell_goes_on, not_past}
+use Rattle.shared_cells.proofs.CellLemmas.{cell_goes_on, not_past, taken_is_not_past}
 use Rattle.shared_cells.proofs.cell.Cell.lend.Goals as goal
 
 pub invariant_of-self : goal.invariant_of-self
@@ -46,3 +46,10 @@ returns-then-is_past-clause-ready g c = λ ready.
 pub returns-clause-ready : goal.returns-clause-ready
 returns-clause-ready g c = λ ready.
     ap (λ (s : KeptRange). Some s) (c.in_ok-state.ensures.kept ready.state (ap (λ (cell : CellView). cell.held) c.self.view_is ∙ ready.holds) ready.ranked) ∙ sym ready.holds
+
+pub returns-then-is_past-clause-served : goal.returns-then-is_past-clause-served
+returns-then-is_past-clause-served g c = λ can none.
+    absurd (taken_is_not_past c.args.self.now.held c.args.asked.rank c.args.asked.p c.in_ok-state.state
+    (λ s is ranked. c.in_ok-state.ensures.kept s (ap (λ (cell : CellView). cell.held) c.self.view_is ∙ is) ranked)
+    (λ other. c.in_ok-state.ensures.fresh (λ s is ranked. other s (ap (λ (cell : CellView). cell.held) (sym c.self.view_is) ∙ is) ranked))
+    can.upto (c.if-is_past.ensures.yes refl))

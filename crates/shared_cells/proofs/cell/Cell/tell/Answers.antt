@@ -1,9 +1,12 @@
-use Rattle.std.proofs.Common.{IfSome, sym, ◌∙◌, subst}
-use Rattle.std.proofs.lemmas.Result.{IfOk-weaker}
+use Rattle.std.proofs.Common.{◌≡◌, IfSome, sym, ◌∙◌, subst}
+use Rattle.std.specs.Option.{IsSomeAnd}
+use Rattle.std.proofs.lemmas.Result.{IfOk-weaker, on_ok_weaker}
 use Rattle.join_eval.proofs.MovesLemmas.{moves_trans}
-use Rattle.std.proofs.lemmas.Option.{none-some}
+use Rattle.std.proofs.lemmas.Option.{none-some, same_Some}
 use Rattle.rank_layers.proofs.PartLemmas.{right_after}
+use Rattle.kept_ranges.specs.Sound.{KeptRange}
 use Rattle.range_state.specs.Since.{AnswersSince}
+use Rattle.range_serving.specs.Serving.{IsBroughtTo}
 use Rattle.shared_cells.specs.Cells.{IsLentFor}
 use Rattle.shared_cells.proofs.CellLemmas.{right_of_lent, rank_of_lent, told_of_lent}
 use Rattle.shared_cells.proofs.cell.Cell.tell.Goals as goal
@@ -41,4 +44,11 @@ returns-in_default-clause-since g c = λ s can. absurd (none-some s (sym c.in_de
 
 pub returns-clause-since : goal.returns-clause-since
 returns-clause-since g c = λ s can.
-    IfOk-weaker c.tell-told.result _ _ (λ told answers. subst (λ held. IfSome held (λ after. AnswersSince c.args.since c.args.part.now after told)) (sym c.give_back.ensures.held) answers) c.tell-told.ensures.since
+    IfOk-weaker c.tell-told.result _ _ (λ told answers. subst (λ held. IsSomeAnd held (λ after. AnswersSince c.args.since c.args.part.now after told)) (sym c.give_back.ensures.held) answers) c.tell-told.ensures.since
+
+pub returns-clause-brought : goal.returns-clause-brought
+returns-clause-brought g c = λ s can.
+    let lent : c.in-Some.state ≡ s = same_Some c.in-Some.state s (sym c.in-Some.is ∙ c.in_ok-state.ensures.kept s can) in
+    on_ok_weaker c.tell-told.result (λ brought.
+    subst (λ held. IsSomeAnd held (IsBroughtTo c.args.asked.p s)) (sym c.give_back.ensures.held)
+    (subst (λ (t : KeptRange). IsBroughtTo c.args.asked.p t c.tell-told.new.state) lent brought)) c.tell-told.ensures.brought

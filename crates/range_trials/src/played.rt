@@ -15,13 +15,13 @@ use std::sync::ledger::{Blank, Ledger};
 use std::test::Fail;
 use steps::Steps;
 
-/// What calls on a kept range of the history's last join answer, where steps are counted by this ledger: a range, which is
-/// kept and asked for, and a script of calls with commas between them.
+/// What calls on a kept range of the history's last join answer, where steps are counted by this ledger: the range that is
+/// kept, the one that is asked for, and a script of calls with commas between them.
 fn play<L: Ledger>(
     rt: &impl Abort,
     alloc: Global,
     told: Told,
-    calls: (&Range, &str),
+    calls: (&Range, &Range, &str),
     blank: Blank,
 ) -> Result<String, Fail>
     requires entered { AllEntered told.entries.items }
@@ -30,12 +30,12 @@ fn play<L: Ledger>(
     requires parts { blank.parts ≡ L.parts }
     requires some { 0 < blank.parts }
 {
-    let (range, script) = calls;
-    let mut trial = start(rt, alloc, told, range)?;
+    let (kept, asked, script) = calls;
+    let mut trial = start(rt, alloc, told, kept)?;
     let mut steps: Steps<L> = Steps::open(blank);
     let mut text = String::new(alloc);
     for words in script.split(", ") {
-        call(rt, alloc, &mut trial, range, words, &mut steps, &mut text)?;
+        call(rt, alloc, &mut trial, asked, words, &mut steps, &mut text)?;
     }
     Ok(text)
 }
@@ -242,8 +242,81 @@ fn worked_rows(rt: HostRuntime) -> Result<(), Fail> {
     for row in ROWS.iter() {
         let range = read_range(&rt, alloc, row.low, row.high);
         let told = tell(&rt, alloc, row.lines)?;
-        let shown = play::<Brand>(&rt, alloc, told, (&range, row.script), Blank::new(1))?;
+        let shown = play::<Brand>(
+            &rt,
+            alloc,
+            told,
+            (&range, &range, row.script),
+            Blank::new(1),
+        )?;
         assert_eq!(rt; shown.as_str(), row.wanted, "{}", row.script);
+    }
+    Ok(())
+}
+
+/// A history by its lines, the bounds of the range that is kept and of the one that is asked for, calls, and what they answer.
+struct Part {
+    lines: &'static str,
+    kept: [&'static str; 2],
+    asked: [&'static str; 2],
+    script: &'static str,
+    wanted: &'static str,
+}
+
+const PARTS: [Part; 5] = [
+    Part {
+        lines: TIMELINE,
+        kept: ["t|ann|120", "t|ann}"],
+        asked: ["t|ann|", "t|ann}"],
+        script: "fill 6, read",
+        wanted: " t|ann|130|bob=No;",
+    },
+    Part {
+        lines: TIMELINE,
+        kept: ["t|ann|", "t|ann}"],
+        asked: ["t|ann|1", "t|ann|12"],
+        script: "fill 6, read",
+        wanted: " t|ann|100|bob=Hi;",
+    },
+    Part {
+        lines: TIMELINE,
+        kept: ["t|ann|", "t|ann}"],
+        asked: ["t|ann|1", "t|ann|12"],
+        script: "fill 3, advance 4, mend, read, advance 6, mend, read",
+        wanted: "; t|ann|100|bob=Hi;",
+    },
+    Part {
+        lines: KARMA,
+        kept: ["karma|", "karma}"],
+        asked: ["karma|a", "karma|b"],
+        script: "fill 1, advance 4, since 1, read",
+        wanted: ";;",
+    },
+    Part {
+        lines: KARMA,
+        kept: ["karma|b", "karma|c"],
+        asked: ["karma|", "karma}"],
+        script: "fill 1, advance 4, since 1, read",
+        wanted: " karma|bob; karma|bob=2;",
+    },
+];
+
+/// Of what is asked for and what is kept the common part is answered, be the one or the other wider.
+#[test]
+fn worked_parts(rt: HostRuntime) -> Result<(), Fail> {
+    let alloc = rt.alloc();
+    for part in PARTS.iter() {
+        let kept = read_range(&rt, alloc, part.kept[0], part.kept[1]);
+        let asked = read_range(&rt, alloc, part.asked[0], part.asked[1]);
+        let told = tell(&rt, alloc, part.lines)?;
+        let shown = play::<Brand>(
+            &rt,
+            alloc,
+            told,
+            (&kept, &asked, part.script),
+            Blank::new(1),
+        )?;
+        assert_eq!(rt; shown.as_str(), part.wanted, "{}", part.script);
     }
     Ok(())
 }
@@ -263,7 +336,7 @@ fn worked_steps(rt: HostRuntime) -> Result<(), Fail> {
     let range = read_range(&rt, alloc, "t|ann|", "t|ann}");
     let told = tell(&rt, alloc, lines.as_str())?;
     let script = "fill 102, count, advance 103, count, forget, fill 103, count";
-    let shown = play::<Brand>(&rt, alloc, told, (&range, script), Blank::new(1))?;
+    let shown = play::<Brand>(&rt, alloc, told, (&range, &range, script), Blank::new(1))?;
     assert_eq!(rt; shown.as_str(), " 103; 5; 104;");
     Ok(())
 }
@@ -284,7 +357,7 @@ fn worked_narrow_steps(rt: HostRuntime) -> Result<(), Fail> {
     let range = read_range(&rt, alloc, "t|0001|00000110", "t|0001|00000120");
     let told = tell(&rt, alloc, lines.as_str())?;
     let script = "fill 102, count, advance 103, count, advance 104, count, forget, fill 104, count";
-    let shown = play::<Brand>(&rt, alloc, told, (&range, script), Blank::new(1))?;
+    let shown = play::<Brand>(&rt, alloc, told, (&range, &range, script), Blank::new(1))?;
     assert_eq!(rt; shown.as_str(), " 13; 2; 5; 13;");
     Ok(())
 }
@@ -311,7 +384,13 @@ fn worked_notes(rt: HostRuntime) -> Result<(), Fail> {
     wanted.push_str("; 1029;")?;
     let range = read_range(&rt, alloc, "b|", "b}");
     let told = tell(&rt, alloc, lines.as_str())?;
-    let shown = play::<Brand>(&rt, alloc, told, (&range, script.as_str()), Blank::new(1))?;
+    let shown = play::<Brand>(
+        &rt,
+        alloc,
+        told,
+        (&range, &range, script.as_str()),
+        Blank::new(1),
+    )?;
     assert_eq!(rt; shown.as_str(), wanted.as_str());
     Ok(())
 }
@@ -322,7 +401,7 @@ fn generated_histories(rt: HostRuntime) -> Result<(), Fail> {
     let alloc = rt.alloc();
     let range = read_range(&rt, alloc, "t|ann|", "t|ann}");
     let mut dice = Dice { state: 7 };
-    for round in 0..120_u64 {
+    for round in 0..3_000_u64 {
         let lines = match round % 3 {
             0 => &POSTS,
             1 => &GROUPS,
@@ -331,7 +410,13 @@ fn generated_histories(rt: HostRuntime) -> Result<(), Fail> {
         let text = roll_lines(alloc, lines, &mut dice)?;
         let told = tell(&rt, alloc, text.as_str())?;
         let (script, wanted) = roll_script(&rt, alloc, &told, &range, &mut dice)?;
-        let shown = play::<Brand>(&rt, alloc, told, (&range, script.as_str()), Blank::new(1))?;
+        let shown = play::<Brand>(
+            &rt,
+            alloc,
+            told,
+            (&range, &range, script.as_str()),
+            Blank::new(1),
+        )?;
         assert_eq!(rt; shown.as_str(), wanted.as_str(), "round {round}");
     }
     Ok(())

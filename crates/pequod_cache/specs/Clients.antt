@@ -35,7 +35,7 @@ pub record IsUpdater (history : TableId) (pass : Option PassView) (joins : Summa
   pub recorded : IsRecorded has.writers has.view
   pub kept : KeepsJoins joins has.view
 
--- a range was read after all entries that the client had seen, and those that it saw then: between what it has seen before and after, it has written nothing
+-- a range was read after all entries that the client had seen, and others that it saw then
 pub record IsFound (before after : PassView) (range : Range) (position : ℕ) (pairs : Table) : Type 0 where
   pub seen : History
   pub begins : IsPrefix before.view seen

@@ -1,6 +1,7 @@
 #!/usr/bin/env python3
 """Prints what memory the built program takes as a server, by its resident memory: at the start, for each cell, for an idle
-connection, for each kind of write, and for each row that is kept. It writes with the client of clients/python.
+connection, for each kind of write, for each row that is kept, for each pair of which an aggregate is kept, and for each range
+of stored pairs that a kept range was made of. It writes with the client of clients/python.
 
 Usage: bench/memory.py PROGRAM
 It wants Linux, whose /proc tells the memory of a process, and about 1 GB of memory.
@@ -15,10 +16,14 @@ sys.path.insert(0, str(pathlib.Path(__file__).resolve().parent.parent / "clients
 import pequod  # noqa: E402
 
 JOIN = "t|<user>|<time>|<poster> = check s|<user>|<poster> copy p|<poster>|<time>"
+COUNT = "karma|<author> = count v|<author>|<voter>"
 WRITES = 200_000
 BATCH = 5_000
 READERS = 200
 POSTS = 5_000
+AUTHORS = 200
+VOTERS = 100
+POSTERS = 100
 
 
 class Server:
@@ -116,10 +121,32 @@ def measure_rows(path):
         print(f"a kept row of a key of 20 bytes and a copied value of 50: {each:.0f} bytes, over {rows} rows")
 
 
+def measure_sources(path):
+    with Server(path, "--cells", "65536", "--rows", "1000000000") as server, server.connect() as client:
+        client.join(COUNT)
+        votes = do_all(client, lambda to, number: to.put(f"v|{number % AUTHORS:04}|{number // AUTHORS:04}", "1"), AUTHORS * VOTERS)
+        before = server.kilobytes()
+        for author in range(AUTHORS):
+            client.get(f"karma|{author:04}")
+        each = (server.kilobytes() - before) * 1024 / votes
+        print(f"a pair of which a count is kept, with a key of 11 bytes: {each:.0f} bytes, over {votes} pairs in {AUTHORS} counts")
+
+
+def measure_ranges(path):
+    with Server(path, "--cells", "65536", "--rows", "1000000000") as server, server.connect() as client:
+        client.join(JOIN)
+        ranges = do_all(client, lambda to, number: to.put(f"s|{number % READERS:04}|{number // READERS:04}", "1"), READERS * POSTERS)
+        before = server.kilobytes()
+        for reader in range(READERS):
+            client.scan_prefix(f"t|{reader:04}|")
+        each = (server.kilobytes() - before) * 1024 / ranges
+        print(f"a range that a kept range was made of, that of a followed poster with no posts: {each:.0f} bytes, over {ranges} ranges")
+
+
 def main():
     if len(sys.argv) != 2:
         sys.exit(__doc__)
-    for measure in (measure_start, measure_connections, measure_writes, measure_rows):
+    for measure in (measure_start, measure_connections, measure_writes, measure_rows, measure_sources, measure_ranges):
         measure(sys.argv[1])
 
 

@@ -1,6 +1,5 @@
 -- What kept ranges of the same subject give.
-use Rattle.std.proofs.Common.{◌≡◌, ℕ, ◌<◌, ◌≤◌, Bool, true, false, cond, Option, None, Some, IfSome, List, [], ◌∷◌, length, take, refl, ap, ◌∙◌, arith}
-use Rattle.std.specs.Option.{IsSomeAnd}
+use Rattle.std.proofs.Common.{◌≡◌, ℕ, ◌≤◌, Bool, true, false, cond, List, [], ◌∷◌, length, take, refl, ap, ◌∙◌}
 use Rattle.semantics.specs.Texts.{Text, Table, Range, within, pairs_within}
 use Rattle.semantics.specs.Joins.{Join}
 use Rattle.semantics.specs.Histories.{History, IsPrefix}
@@ -9,8 +8,8 @@ use Rattle.semantics.specs.States.{below}
 use Rattle.growing_history.proofs.PrefixLemmas.{take_prefix}
 use Rattle.kept_ranges.specs.Sound.{KeptRange}
 use Rattle.range_state.specs.Held.{forgotten}
-use Rattle.range_state.specs.Ready.{HasSameSubject, StandsAt}
-use Rattle.range_serving.specs.Serving.{IsBroughtTo, StandsBelow, StandsFrom, output_within}
+use Rattle.range_state.specs.Ready.{HasSameSubject}
+use Rattle.range_serving.specs.Serving.{output_within}
 
 -- kept ranges of one subject give the same over a list and a longer one
 pub same_output : (old new : KeptRange) (h more : History) (p : ℕ) (piece : Range) → HasSameSubject old new → p ≤ length h → IsPrefix h more →
@@ -35,26 +34,3 @@ whole_output j rank range piece new h more p is same less prefix =
     same_output (forgotten j rank range) new h more p piece same less prefix
     ∙ ap (λ r. pairs_within r (pairs_within range (out j (below (take p h) rank)))) is
     ∙ within_again range (out j (below (take p h) rank))
-
--- ---- bringing to a position
-
--- nothing stands below a position and not below it
-below_and_from : (o : Option ℕ) (p : ℕ) → IfSome o (λ q. p ≤ q) → IsSomeAnd o (λ q. q < p) → ⊥
-below_and_from None p from below = below
-below_and_from (Some q) p from below = absurd (omega (arith, from, below))
-
--- what does not stand below a position is brought there as it is
-pub brought_as_it_is : (p : ℕ) (s : KeptRange) → StandsFrom p s → IsBroughtTo p s s
-brought_as_it_is p s from = record {
-  same = record { join = refl; rank = refl; range = refl };
-  at = λ below. absurd (below_and_from s.position p from below);
-  still = λ from. refl;
-}
-
--- what stood below a position is brought there once it stands there
-pub brought_from_below : (p : ℕ) (old new : KeptRange) → HasSameSubject old new → StandsBelow p old → StandsAt p new → IsBroughtTo p old new
-brought_from_below p old new same below at = record {
-  same = same;
-  at = λ below. at;
-  still = λ from. absurd (below_and_from old.position p from below);
-}

@@ -20,7 +20,7 @@ StandsBelow p s = IsSomeAnd s.position (λ q. q < p)
 abbrev pub StandsFrom : ℕ → KeptRange → Type 0
 StandsFrom floor s = IfSome s.position (λ q. floor ≤ q)
 
--- a kept range that stood below a position stands there, and one that did not is as it was
+-- a kept range of the same subject: where it stood below a position it stands there, and otherwise it is as it was
 pub record IsBroughtTo (p : ℕ) (old new : KeptRange) : Type 0 where
   pub same : HasSameSubject old new
   pub at : StandsBelow p old → StandsAt p new

@@ -1,11 +1,13 @@
 // What changed in the output of a kept range.
-ghost use Rattle.std.specs.Prelude.{◌≡◌, ◌≤◌, length, take, IfOk, OnOk, None};
+ghost use Rattle.std.specs.Prelude.{◌≡◌, ℕ, ◌<◌, ◌≤◌, length, take, IfOk, OnOk, OnErr, None};
 ghost use Rattle.semantics.specs.Histories.{joins_of};
 ghost use Rattle.growing_history.specs.Entered.{HasEntered, HasRank};
 ghost use Rattle.join_eval.specs.Moves.{Moves};
 ghost use Rattle.kept_ranges.specs.Sound.{IsSound};
-ghost use Rattle.range_state.specs.Ready.{HasSameSubject};
+ghost use Rattle.range_state.specs.Ready.{HasSameSubject, StandsAt, StandsOrIsForgotten};
 ghost use Rattle.range_state.specs.Since.{AnswersSince};
+ghost use Rattle.range_state.specs.Work.{TouchesLittle};
+ghost use Rattle.source_changes.specs.Asking.{AreBareThroughout};
 ghost use Rattle.range_serving.specs.Serving.{IsBroughtTo, StandsFrom};
 ghost use Rattle.range_serving.specs.Telling.{TellsOutput};
 
@@ -16,10 +18,10 @@ use range_state::RangeState;
 use std::sync::ledger::Ledger;
 use steps::Steps;
 
-/// Advances it to where p entries stand, where it stands below. Otherwise nothing changes, and that costs nothing.
+/// Advances it to where p entries stand, where it stands below. Otherwise nothing changes, and no step is taken.
 ///
-/// On `OutOfMemory` it stands where it stood, or at p, or is forgotten, and is right for the reader's list. The reader may
-/// have gone on and steps may have been taken.
+/// On `OutOfMemory` it stands where it stood, or is forgotten, and is right for the reader's list. The reader may have gone
+/// on and steps may have been taken.
 pub fn catch_up<R: Reader, L: Ledger>(
     state: &mut RangeState,
     p: u64,
@@ -37,6 +39,10 @@ pub fn catch_up<R: Reader, L: Ledger>(
     ensures reached { OnOk result (StandsFrom p state.new) }
     ensures still { StandsFrom p state.old → state.new ≡ state.old }
     ensures unused { StandsFrom p state.old → reader.new ≡ reader.old }
+    ensures free { StandsFrom p state.old → steps.new ≡ steps.old }
+    ensures little { (at : ℕ) → StandsAt at state.old → at < p → AreBareThroughout (R.list reader.old) at p state.old.kept.needs →
+        OnOk result (TouchesLittle (R.list reader.old) at p state.old state.new) }
+    ensures err { OnErr result (StandsOrIsForgotten state.old state.new) }
     ensures sound { IsSound state.new (R.list reader.new) }
     ensures moves { Moves R.list R.floor R.went reader.old reader.new }
     ensures counted { steps.old ≤ steps.new }
@@ -80,9 +86,11 @@ pub fn tell<R: Reader, L: Ledger>(
     ensures told { IfOk result (TellsOutput state.old (R.list reader.old) q p range.now) }
     ensures since { IfOk result (AnswersSince q range.now state.new) }
     ensures brought { OnOk result (IsBroughtTo p state.old state.new) }
-    ensures reached { OnOk result (StandsFrom p state.new) }
     ensures still { StandsFrom p state.old → state.new ≡ state.old }
     ensures unused { StandsFrom p state.old → reader.new ≡ reader.old }
+    ensures free { StandsFrom p state.old → steps.new ≡ steps.old }
+    ensures little { (at : ℕ) → StandsAt at state.old → at < p → AreBareThroughout (R.list reader.old) at p state.old.kept.needs →
+        OnOk result (TouchesLittle (R.list reader.old) at p state.old state.new) }
     ensures sound { IsSound state.new (R.list reader.new) }
     ensures moves { Moves R.list R.floor R.went reader.old reader.new }
     ensures counted { steps.old ≤ steps.new }

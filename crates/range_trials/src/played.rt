@@ -15,8 +15,8 @@ use std::sync::ledger::{Blank, Ledger};
 use std::test::Fail;
 use steps::Steps;
 
-/// What calls on a kept range of the history's last join answer, where steps are counted by this ledger: the range that is
-/// kept, the one that is asked for, and a script of calls with commas between them.
+/// What calls on a kept range of the history's last join answer, where steps are counted by this ledger. `calls` is the range
+/// that is kept, the one that is asked for, and a script of calls with commas between them.
 fn play<L: Ledger>(
     rt: &impl Abort,
     alloc: Global,
@@ -263,7 +263,7 @@ struct Part {
     wanted: &'static str,
 }
 
-const PARTS: [Part; 5] = [
+const PARTS: [Part; 7] = [
     Part {
         lines: TIMELINE,
         kept: ["t|ann|120", "t|ann}"],
@@ -289,6 +289,20 @@ const PARTS: [Part; 5] = [
         lines: KARMA,
         kept: ["karma|", "karma}"],
         asked: ["karma|a", "karma|b"],
+        script: "fill 1, advance 4, since 1, read",
+        wanted: ";;",
+    },
+    Part {
+        lines: TIMELINE,
+        kept: ["t|ann|110", "t|ann}"],
+        asked: ["t|ann|", "t|ann|14"],
+        script: "fill 6, read",
+        wanted: " t|ann|130|bob=No;",
+    },
+    Part {
+        lines: KARMA,
+        kept: ["karma|c", "karma|d"],
+        asked: ["karma|", "karma}"],
         script: "fill 1, advance 4, since 1, read",
         wanted: ";;",
     },

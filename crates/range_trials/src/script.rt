@@ -43,7 +43,9 @@ fn show_memory(text: &mut String, done: Result<(), OutOfMemory>) -> Result<(), F
     Ok(())
 }
 
-/// Makes the call that the words say, over the range, and shows what it answers behind a semicolon.
+/// Makes the call that the words say; `mend`, `read` and `since` over the range that is asked for. What `read`, `since` and
+/// `count` answer is shown with a semicolon behind it, and of the others only that no memory was found. `again` fills where
+/// nothing is kept, and `refuse` and a number say at which call from now on the reader finds no memory.
 pub fn call<L: Ledger>(
     rt: &impl Abort,
     alloc: Global,

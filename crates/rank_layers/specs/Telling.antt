@@ -43,7 +43,7 @@ pub record CanTell (rank p : ℕ) (part : Range) (s : KeptRange) : Type 0 where
   pub upto : IsPast p s → ⊥
   pub whole : IsWithin part s.range
 
--- a slot holds, of the join that was declared at a position, a kept range that was brought to another from what it was
+-- a slot holds, for the join that was declared at a position, what became of a kept range when it was brought to p
 pub record HoldsBrought (p at : ℕ) (old : KeptRange) (slot : Option Slot) : Type 0 where
   pub after : KeptRange
   pub holds : slot ≡ Some (Held at after)

@@ -26,7 +26,7 @@ use Rattle.cell_slots.specs.Slots.{IsDeclared, IsRightFor, StandsAs}
 use Rattle.rank_layers.specs.Telling.{TellsJoin}
 use Rattle.rank_layers.proofs.PartLemmas.{declared_over_longer, declared_once, stands_over}
 use Rattle.shared_cells.specs.Bringing.{BringsTo, IsRankOf}
-use Rattle.shared_cells.specs.Cells.{CellView, IsRightIn, IsCell, IsLentFor, IsOutput}
+use Rattle.shared_cells.specs.Cells.{CanBeLent, CanServe, CellView, IsRightIn, IsCell, IsLentFor, IsOutput, IsReadyCell}
 
 -- ---- over longer histories
 
@@ -160,17 +160,39 @@ nowhere_is_not_past : (p : ℕ) (s : KeptRange) → s.position ≡ None → IsPa
 nowhere_is_not_past p s is past = subst (λ (o : Option ℕ). IsSomeAnd o (λ q. p < q)) is past
 
 not_past_by : (b : Bool) (rank p : ℕ) (s state : KeptRange) → nat_eq s.rank rank ≡ b → (s.rank ≡ rank → state ≡ s) → ((s.rank ≡ rank → ⊥) → state.position ≡ None) →
-    (s.rank ≡ rank → IsPast p s → ⊥) → IsPast p state → ⊥
-not_past_by true rank p s state is kept fresh upto past =
-    let same = eqb-true s.rank rank is in
-    upto same (subst (IsPast p) (kept same) past)
+    (IsPast p s → ⊥) → IsPast p state → ⊥
+not_past_by true rank p s state is kept fresh upto past = upto (subst (IsPast p) (kept (eqb-true s.rank rank is)) past)
 not_past_by false rank p s state is kept fresh upto past =
     nowhere_is_not_past p state (fresh (λ same. absurd (true≢false (sym (eq-eqb s.rank rank same) ∙ is)))) past
 
--- what is taken out does not stand past a position, where nothing that was kept with this rank does
+-- what is taken out does not stand past a position, where what was kept does not
 pub taken_is_not_past : (held : Option KeptRange) (rank p : ℕ) (state : KeptRange) → ((s : KeptRange) → held ≡ Some s → s.rank ≡ rank → state ≡ s) →
-    (((s : KeptRange) → held ≡ Some s → s.rank ≡ rank → ⊥) → state.position ≡ None) → IfSome held (λ s. s.rank ≡ rank → IsPast p s → ⊥) → IsPast p state → ⊥
+    (((s : KeptRange) → held ≡ Some s → s.rank ≡ rank → ⊥) → state.position ≡ None) → IfSome held (λ s. IsPast p s → ⊥) → IsPast p state → ⊥
 taken_is_not_past None rank p state kept fresh upto past = nowhere_is_not_past p state (fresh (λ s is ranked. absurd (none-some s is))) past
 taken_is_not_past (Some s) rank p state kept fresh upto past =
     not_past_by (nat_eq s.rank rank) rank p s state refl (kept s refl)
     (λ other. fresh (λ t is ranked. other (subst (λ (u : KeptRange). u.rank ≡ rank) (sym (same_Some s t is)) ranked))) upto past
+
+-- a cell can serve what it can serve under another pass
+pub serves_alike : (old new : CellView) (at p : ℕ) (part : Range) → new.at ≡ old.at → new.range ≡ old.range → new.held ≡ old.held → CanServe old at p part → CanServe new at p part
+serves_alike old new at p part place range held can = record {
+  is_of = place ∙ can.is_of;
+  whole = subst (IsWithin part) (sym range) can.whole;
+  upto = subst (λ (o : Option KeptRange). IfSome o (λ s. IsPast p s → ⊥)) (sym held) can.upto;
+}
+
+-- it can serve where what it keeps can be lent
+pub serves_lent : (cell : CellView) (at rank p : ℕ) (part : Range) (s : KeptRange) → CanBeLent cell at rank p part s → CanServe cell at p part
+serves_lent cell at rank p part s can = record {
+  is_of = can.is_of;
+  whole = can.whole;
+  upto = subst (λ (o : Option KeptRange). IfSome o (λ t. IsPast p t → ⊥)) (sym can.holds) can.upto;
+}
+
+-- and where it can be read at once
+pub serves_ready : (cell : CellView) (at rank p : ℕ) (part : Range) → IsReadyCell cell at rank p part → CanServe cell at p part
+serves_ready cell at rank p part ready = record {
+  is_of = ready.is_of;
+  whole = ready.whole;
+  upto = subst (λ (o : Option KeptRange). IfSome o (λ t. IsPast p t → ⊥)) (sym ready.holds) (not_past p ready.state ready.ready.stands);
+}

@@ -47,11 +47,11 @@ pub record IsLentFor (cell : CellView) (at rank p : ℕ) (part : Range) (s : Kep
   pub upto : IsPast p s → ⊥
   pub whole : IsWithin part cell.range
 
--- a cell can serve a part at a position: it is for the join that was declared at a position, it has the whole part, and what it keeps with this rank does not stand past the position
-pub record CanServe (cell : CellView) (at rank p : ℕ) (part : Range) : Type 0 where
+-- a cell can serve a part at a position: it is for the join that was declared at a position, it has the whole part, and what it keeps does not stand past the position
+pub record CanServe (cell : CellView) (at p : ℕ) (part : Range) : Type 0 where
   pub is_of : cell.at ≡ at
   pub whole : IsWithin part cell.range
-  pub upto : IfSome cell.held (λ s. s.rank ≡ rank → IsPast p s → ⊥)
+  pub upto : IfSome cell.held (λ s. IsPast p s → ⊥)
 
 -- what a cell keeps can be taken out of it for a part and a position: it is of the join that was declared at a position, was kept while the join had this rank and does not stand past the position, and the cell has the whole part
 pub record CanBeLent (cell : CellView) (at rank p : ℕ) (part : Range) (s : KeptRange) : Type 0 where

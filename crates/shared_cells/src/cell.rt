@@ -207,13 +207,24 @@ impl<N: Naming> Cell<N> {
         }
     }
 
-    /// Whether it is for the join, and for a range that has the whole part.
-    fn has(&self, at: u64, part: &Range) -> bool
-        ensures is_of { result ≡ true → self.now.at ≡ at }
-        ensures whole { result ≡ true → IsWithin part.now self.now.range }
-        ensures both { self.now.at ≡ at → IsWithin part.now self.now.range → result ≡ true }
+    /// Whether what is kept stands past a position.
+    fn is_past(&self, p: u64) -> bool
+        ensures yes { result ≡ true → IsSomeAnd self.now.held (IsPast p) }
+        ensures no { result ≡ false → IfSome self.now.held (λ s. IsPast p s → ⊥) }
     {
-        self.at == at && is_within(part, &self.range)
+        match &self.held {
+            Some(state) => is_past(state, p),
+            None => false,
+        }
+    }
+
+    /// Whether it is for the join that was declared at a position, for a range that has the whole part, and keeps nothing that
+    /// stands past p.
+    fn can_serve(&self, at: u64, p: u64, part: &Range) -> bool
+        ensures yes { result ≡ true → CanServe self.now at p part.now }
+        ensures no { CanServe self.now at p part.now → result ≡ true }
+    {
+        self.at == at && is_within(part, &self.range) && !self.is_past(p)
     }
 
     /// Takes out what is kept, where it was kept while the join had this rank; otherwise it is let go, and nothing is kept yet
@@ -248,9 +259,9 @@ impl<N: Naming> Cell<N> {
         Ok(RangeState::new(asked.alloc, join?, asked.rank, range))
     }
 
-    /// Takes out what is kept, to read it over a part. None where the cell is for another join or has not the whole part, and
-    /// where what is kept stands past the position: then it is kept on. Where nothing is kept with this rank, what is given
-    /// keeps nothing yet. The pass and the reader see what either has seen.
+    /// Takes out what is kept, to read it over a part. None exactly where the cell cannot serve the part at the position: then
+    /// what is kept stays. Where nothing is kept with this rank, what is given keeps nothing yet. The pass and the reader see
+    /// what either has seen.
     ///
     /// On `OutOfMemory` nothing is kept.
     fn lend<R: Stacked<N>>(
@@ -262,7 +273,9 @@ impl<N: Naming> Cell<N> {
         requires { (j : PlainJoin) × IsDeclared (R.list reader.old) asked.at j }
         ensures lent { IfOk result (λ found. IfSome found (IsLentFor self.new asked.at asked.rank asked.p part.now)) }
         ensures kept { (s : KeptRange) → CanBeLent self.old asked.at asked.rank asked.p part.now s → IfOk result (λ found. found ≡ Some s) }
-        ensures served { CanServe self.old asked.at asked.rank asked.p part.now → IfOk result (λ found. found ≡ None → ⊥) }
+        ensures served { CanServe self.old asked.at asked.p part.now → IfOk result (λ found. found ≡ None → ⊥) }
+        ensures none { (CanServe self.old asked.at asked.p part.now → ⊥) → IfOk result (λ found. found ≡ None) }
+        ensures left { (CanServe self.old asked.at asked.p part.now → ⊥) → self.new.held ≡ self.old.held }
         ensures ready { IsReadyCell self.old asked.at asked.rank asked.p part.now → IfOk result (λ found. found ≡ self.old.held) }
         ensures same_place { HasSamePlace self.old self.new }
         ensures met { self.new.pass.view ≡ R.list reader.new }
@@ -270,14 +283,10 @@ impl<N: Naming> Cell<N> {
         ensures moves { Moves R.list R.floor R.went reader.old reader.new }
     {
         reader.meet(&mut self.pass);
-        if !self.has(asked.at, part) {
+        if !self.can_serve(asked.at, asked.p, part) {
             return Ok(None);
         }
         let state = self.take_state(asked, reader)?;
-        if is_past(&state, asked.p) {
-            self.held = Some(state);
-            return Ok(None);
-        }
         Ok(Some(state))
     }
 
@@ -294,10 +303,10 @@ impl<N: Naming> Cell<N> {
         self.held = Some(state);
     }
 
-    /// What the join gives in a part after p entries, from what is kept. None where the cell is for another join or has not the
-    /// whole part, and where what is kept stands past p. Where nothing is kept the cell's whole range is filled; where it stands
-    /// below p it is advanced, and where something pending meets the part it is mended there. The gate is passed before a fill
-    /// and before a mend.
+    /// What the join gives in a part after p entries, from what is kept. None, and then what is kept stays, exactly where the cell
+    /// is for another join or has not the whole part, and where what is kept stands past p. Where nothing is kept with this rank
+    /// the cell's whole range is filled; where it stands below p it is advanced, and where something pending meets the part it is
+    /// mended there. The gate is passed before a fill and before a mend.
     ///
     /// The cell's pass and the reader see what either has seen. Where the cell can be read over the part at once, it takes one
     /// step and one for each pair; where it gave pairs, it can be so read afterwards.
@@ -315,7 +324,9 @@ impl<N: Naming> Cell<N> {
         requires stands { (j : PlainJoin) × StandsAs (R.list reader.old) asked.p asked.at asked.rank j }
         requires ranked { asked.rank ≤ R.top }
         ensures output { IfOk result (λ found. IfSome found (λ pairs. IsOutput (R.list reader.old) asked.p asked.at asked.rank part.now pairs.items)) }
-        ensures served { CanServe self.old asked.at asked.rank asked.p part.now → IfOk result (λ found. found ≡ None → ⊥) }
+        ensures served { CanServe self.old asked.at asked.p part.now → IfOk result (λ found. found ≡ None → ⊥) }
+        ensures none { (CanServe self.old asked.at asked.p part.now → ⊥) → IfOk result (λ found. found ≡ None) }
+        ensures left { (CanServe self.old asked.at asked.p part.now → ⊥) → self.new.held ≡ self.old.held }
         ensures ready { IfOk result (λ found. IfSome found (λ _. IsReadyCell self.new asked.at asked.rank asked.p part.now)) }
         ensures same_place { HasSamePlace self.old self.new }
         ensures met { self.new.pass.view ≡ R.list reader.new }
@@ -334,10 +345,10 @@ impl<N: Naming> Cell<N> {
     }
 
     /// What changed in the join's output in a part between two positions, as what is kept says: it is advanced to the later one
-    /// where it stands below, and stays where it stands there or is forgotten. Then `All` comes exactly where it does not know,
-    /// as `RangeState::changed_since` says. `All` may also come where what is kept cannot be lent: where the cell is for another
-    /// join or has not the whole part, where nothing is kept with this rank, and where what is kept stands past the later
-    /// position.
+    /// where it stands below; where it stands there already, or is forgotten, it is left as it is. Then `All` comes exactly where
+    /// it does not know, as `RangeState::changed_since` says. `All` may also come where the cell is for another join or has not
+    /// the whole part, and where what is kept stands past the later position: then it stays. It comes too where nothing is kept
+    /// with this rank; what was kept with another is let go.
     ///
     /// The cell's pass and the reader see what either has seen.
     ///
@@ -359,6 +370,7 @@ impl<N: Naming> Cell<N> {
         ensures brought { (s : KeptRange) → CanBeLent self.old asked.at asked.rank asked.p part.now s → OnOk result (IsSomeAnd self.new.held (IsBroughtTo asked.p s)) }
         ensures since { (s : KeptRange) → CanBeLent self.old asked.at asked.rank asked.p part.now s →
             IfOk result (λ told. IsSomeAnd self.new.held (λ after. AnswersSince since part.now after told)) }
+        ensures left { (CanServe self.old asked.at asked.p part.now → ⊥) → self.new.held ≡ self.old.held }
         ensures same_place { HasSamePlace self.old self.new }
         ensures met { self.new.pass.view ≡ R.list reader.new }
         ensures moves { Moves R.list R.floor R.went reader.old reader.new }
@@ -431,8 +443,8 @@ impl<N: Naming> Cell<N> {
     }
 
     /// Brings what is kept to where the first p entries stand, where it stands below: it is advanced. What is pending then
-    /// stays so, what is forgotten stays so, and what stands past p stays there. The rank is the one that the join has after
-    /// p entries; what was kept while it had another is let go. Where no rank is given, nothing changes but what the cell's
+    /// stays so. The rank is the one that the join has after p entries. What was kept with it and is forgotten stays so, and
+    /// what stands past p stays there; what was kept while the join had another rank is let go. Where no rank is given, nothing changes but what the cell's
     /// pass has seen: it and the reader see what either has seen.
     ///
     /// On `OutOfMemory` what is kept stands where it stood, or at p, or nothing is kept.

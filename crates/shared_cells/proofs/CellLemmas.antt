@@ -19,14 +19,14 @@ use Rattle.join_eval.specs.declared.reading.Changed.TheVariants.{Keys, All}
 use Rattle.kept_ranges.specs.Sound.{KeptRange, IsSound, IsSoundAt}
 use Rattle.kept_ranges.proofs.SoundLemmas.{sound_over_longer}
 use Rattle.range_state.specs.Held.{forgotten}
-use Rattle.range_state.specs.Ready.{HasSameSubject, StandsAt}
+use Rattle.range_state.specs.Ready.{HasSameSubject}
 use Rattle.range_serving.specs.Serving.{IsBroughtTo, IsPast, output_within}
 use Rattle.range_serving.specs.Telling.{TellsOutput}
 use Rattle.cell_slots.specs.Slots.{IsDeclared, IsRightFor, StandsAs}
 use Rattle.rank_layers.specs.Telling.{TellsJoin}
 use Rattle.rank_layers.proofs.PartLemmas.{declared_over_longer, declared_once, stands_over}
 use Rattle.shared_cells.specs.Bringing.{BringsTo, IsRankOf}
-use Rattle.shared_cells.specs.Cells.{CanBeLent, CanServe, CellView, IsRightIn, IsCell, IsLentFor, IsOutput, IsReadyCell}
+use Rattle.shared_cells.specs.Cells.{CellView, IsRightIn, IsCell, IsLentFor, IsOutput}
 
 -- ---- over longer histories
 
@@ -57,10 +57,6 @@ new_is_right h pass at asked rank range copied j s prefix place same declared is
       right = record { declared = subst (λ (n : ℕ). IsDeclared pass.view n j) (sym place) (declared_over_longer h pass.view asked j prefix declared); sound = tt };
       just = same;
     })
-
--- where a kept range stands at a position, it does not stand past it
-pub not_past : (p : ℕ) (s : KeptRange) → StandsAt p s → IsPast p s → ⊥
-not_past p s stands past = let less : p < p = subst (λ (o : Option ℕ). IsSomeAnd o (λ q. p < q)) stands past in omega arith
 
 -- ---- the join that is asked for
 
@@ -172,27 +168,3 @@ taken_is_not_past None rank p state kept fresh upto past = nowhere_is_not_past p
 taken_is_not_past (Some s) rank p state kept fresh upto past =
     not_past_by (nat_eq s.rank rank) rank p s state refl (kept s refl)
     (λ other. fresh (λ t is ranked. other (subst (λ (u : KeptRange). u.rank ≡ rank) (sym (same_Some s t is)) ranked))) upto past
-
--- a cell can serve what it can serve under another pass
-pub serves_alike : (old new : CellView) (at p : ℕ) (part : Range) → new.at ≡ old.at → new.range ≡ old.range → new.held ≡ old.held → CanServe old at p part → CanServe new at p part
-serves_alike old new at p part place range held can = record {
-  is_of = place ∙ can.is_of;
-  whole = subst (IsWithin part) (sym range) can.whole;
-  upto = subst (λ (o : Option KeptRange). IfSome o (λ s. IsPast p s → ⊥)) (sym held) can.upto;
-}
-
--- it can serve where what it keeps can be lent
-pub serves_lent : (cell : CellView) (at rank p : ℕ) (part : Range) (s : KeptRange) → CanBeLent cell at rank p part s → CanServe cell at p part
-serves_lent cell at rank p part s can = record {
-  is_of = can.is_of;
-  whole = can.whole;
-  upto = subst (λ (o : Option KeptRange). IfSome o (λ t. IsPast p t → ⊥)) (sym can.holds) can.upto;
-}
-
--- and where it can be read at once
-pub serves_ready : (cell : CellView) (at rank p : ℕ) (part : Range) → IsReadyCell cell at rank p part → CanServe cell at p part
-serves_ready cell at rank p part ready = record {
-  is_of = ready.is_of;
-  whole = ready.whole;
-  upto = subst (λ (o : Option KeptRange). IfSome o (λ t. IsPast p t → ⊥)) (sym ready.holds) (not_past p ready.state ready.ready.stands);
-}

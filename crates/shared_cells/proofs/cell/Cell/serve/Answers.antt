@@ -1,4 +1,5 @@
-use Rattle.std.proofs.Common.{IfSome, subst}
+use Rattle.std.proofs.Common.{IfSome, sym, ◌∙◌, subst}
+use Rattle.std.proofs.lemmas.Option.{none-some}
 use Rattle.join_eval.proofs.MovesLemmas.{moves_trans}
 use Rattle.rank_layers.proofs.PartLemmas.{right_after}
 use Rattle.shared_cells.specs.Cells.{IsLentFor}
@@ -38,3 +39,6 @@ returns-clause-moves g c =
     moves_trans list floor went c.args.reader.now c.lend.new.reader c.give_back.new.reader (g.met.R.Reader.went_trans c.args.reader.now c.lend.new.reader c.give_back.new.reader) c.lend.ensures.moves
     (moves_trans list floor went c.lend.new.reader c.read_kept-read.new.reader c.give_back.new.reader (g.met.R.Reader.went_trans c.lend.new.reader c.read_kept-read.new.reader c.give_back.new.reader)
     c.read_kept-read.ensures.moves c.give_back.ensures.moves)
+
+pub returns-in_err-read-clause-left : goal.returns-in_err-read-clause-left
+returns-in_err-read-clause-left g c = λ cannot. absurd (none-some c.in-Some.state (sym (c.in_ok-state.ensures.none cannot) ∙ c.in-Some.is))

@@ -52,3 +52,6 @@ returns-clause-brought g c = λ s can.
     on_ok_weaker c.tell-told.result (λ brought.
     subst (λ held. IsSomeAnd held (IsBroughtTo c.args.asked.p s)) (sym c.give_back.ensures.held)
     (subst (λ (t : KeptRange). IsBroughtTo c.args.asked.p t c.tell-told.new.state) lent brought)) c.tell-told.ensures.brought
+
+pub returns-clause-left : goal.returns-clause-left
+returns-clause-left g c = λ cannot. absurd (none-some c.in-Some.state (sym (c.in_ok-state.ensures.none cannot) ∙ c.in-Some.is))

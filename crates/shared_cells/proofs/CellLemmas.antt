@@ -19,7 +19,6 @@ use Rattle.join_eval.specs.declared.reading.Changed.TheVariants.{Keys, All}
 use Rattle.kept_ranges.specs.Sound.{KeptRange, IsSound, IsSoundAt}
 use Rattle.kept_ranges.proofs.SoundLemmas.{sound_over_longer}
 use Rattle.range_state.specs.Held.{forgotten}
-use Rattle.range_state.specs.Ready.{HasSameSubject}
 use Rattle.range_serving.specs.Serving.{IsBroughtTo, IsPast, output_within}
 use Rattle.range_serving.specs.Telling.{TellsOutput}
 use Rattle.cell_slots.specs.Slots.{IsDeclared, IsRightFor, StandsAs}

@@ -1,5 +1,5 @@
 -- Slots after a text was given to a place, and slots that are copied one by one.
-use Rattle.std.proofs.Common.{◌≡◌, ℕ, zero, suc, ◌+◌, ◌<◌, ◌≤◌, true, false, List, [], ◌∷◌, ◌++◌, length, map, take, drop, replicate, get_or, nat_le, Option, None, Some, is_some, option_map, slice_set, String, refl, subst, sym, ap, ◌∙◌, arith, ⊎_elim, append_assoc, append-nil, length-append}
+use Rattle.std.proofs.Common.{◌≡◌, ℕ, zero, suc, ◌+◌, ◌<◌, ◌≤◌, true, false, List, [], ◌∷◌, ◌++◌, length, map, take, drop, replicate, get_or, nat_le, Option, None, Some, is_some, IsSome, option_map, slice_set, String, refl, subst, sym, ap, ◌∙◌, arith, ⊎_elim, append_assoc, append-nil, length-append}
 use Rattle.std.specs.Borrow.{Bor}
 use Rattle.std.specs.Option.{option_copied, option_flatten}
 use Rattle.std.specs.String.{string_bytes}
@@ -140,6 +140,13 @@ padded_without given place long less none =
     let some : length (take place given) ≡ place = length-take-le place given (omega arith) in
     ap padded (take_more given place None inside ∙ ap (λ x. take place given ++ x ∷ []) (sym (text_at_place given place None inside) ∙ none))
     ∙ padded_none (take place given) (omega (arith, some))
+
+-- a place at which a text was seen is the last one of those up to it
+pub last_has : (given : Slots) (place n : ℕ) (x : Option (Bor Text)) → option_copied x ≡ text_at place given → is_some x ≡ true → place + 1 ≡ n + 1 → IsSome (text_at n given)
+last_has given place n None at is same = absurd (true≢false (sym is))
+last_has given place n (Some text) at is same =
+    let n_is : place ≡ n = omega (arith, same) in
+    ap is_some (sym (at ∙ ap (λ i. text_at i given) n_is))
 
 -- where no text is lent there is none
 pub none_lent : (x : Option (Bor Text)) → is_some x ≡ false → option_copied x ≡ None

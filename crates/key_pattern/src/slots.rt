@@ -1,5 +1,5 @@
 // Texts for the slots of patterns, by place.
-ghost use Rattle.std.specs.Prelude.{◌≡◌, ◌↔◌, IfOk, IsTrue, Some, ◌<◌, ◌≤◌, take, slice_set, option_map, true};
+ghost use Rattle.std.specs.Prelude.{◌≡◌, ◌↔◌, IfOk, IsTrue, IsSome, Some, ◌<◌, ◌≤◌, ◌+◌, ℕ, take, slice_set, option_map, true};
 ghost use Rattle.std.specs.Option.{option_copied};
 ghost use Rattle.std.specs.String.{string_bytes};
 ghost use Rattle.semantics.specs.Patterns.{no_slots, text_at, is_segment};
@@ -63,6 +63,7 @@ impl<'a> Slots<'a> {
     fn used(&self) -> u8
         ensures within { result ≤ 16 }
         ensures all { padded (take result self.now) ≡ self.now }
+        ensures last { (n : ℕ) → result ≡ n + 1 → IsSome (text_at n self.now) }
     {
         let mut used = 0;
         for place in 0..16u8 {

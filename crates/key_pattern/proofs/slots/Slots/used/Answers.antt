@@ -1,7 +1,7 @@
 use Rattle.std.proofs.Common.{◌≡◌, take, ap, ◌∙◌, sym, arith}
 use Rattle.std.proofs.lemmas.List.{take_all}
 use Rattle.key_pattern.specs.Places.{padded}
-use Rattle.key_pattern.proofs.PlaceLemmas.{none_lent, padded_all, padded_without}
+use Rattle.key_pattern.proofs.PlaceLemmas.{last_has, none_lent, padded_all, padded_without}
 use Rattle.key_pattern.proofs.slots.Slots.used.Goals as goal
 use Rattle.key_pattern.proofs.slots.Slots.used.Goals.{then-is_some, else-is_some}
 
@@ -12,6 +12,7 @@ loop-place-preserved c =
       | then-is_some w ↦ record {
         within = omega (arith, w.used-is);
         all = ap (λ n. padded (take n given)) w.used-is;
+        last = λ n e. last_has given c.loop-place.place n c.at.result c.at.ensures.text (sym c.is_some.ensures ∙ w.if-is_some.true) (sym w.used-is ∙ e);
         slots = λ _. c.at.ensures.slots;
       }
       | else-is_some w ↦ record {
@@ -19,6 +20,7 @@ loop-place-preserved c =
         all = ap (λ n. padded (take n given)) w.used-is ∙ c.loop-place.invariant.all
             ∙ sym (padded_without given c.loop-place.place c.at.ensures.slots.places c.loop-place-test.true
             (sym c.at.ensures.text ∙ none_lent c.at.result (sym c.is_some.ensures ∙ w.if-is_some.false)));
+        last = λ n e. c.loop-place.invariant.last n (sym w.used-is ∙ e);
         slots = λ _. c.at.ensures.slots;
       }
     ]

@@ -1,12 +1,16 @@
-// What `serve` answers on a link, with a joins file.
+// What `serve` answers on links: with a joins file, where a link fails or ends within a line, and where the doors fail.
 ghost use Rattle.std.specs.Prelude.{Some};
 
 use crate::status::Status;
+use crate::tests::examples::EXAMPLES;
+use crate::tests::serves::{ALONE, WITH_JOINS};
 use crate::top::pequod;
 use pq_io::{Failed, Link, MemDoors, MemLink, MemShelf, MemSink, MemSource, OpenGate};
 use std::alloc::Global;
+use std::process::Abort;
 use std::sync::{Arc, Mutex, Wait};
 use std::test::Fail;
+use std::thread::Threads;
 
 /// The bytes that a link took, which are read when the link is gone.
 type Taken = Arc<Mutex<Vec<u8>>>;
@@ -40,43 +44,114 @@ impl<'a, R: Wait> Link for Copying<'a, R> {
     }
 }
 
-/// A put and a scan, and what they are answered where a join copies the table.
-const LINES: &[u8] = b"[\"put\",\"a|1\",\"Hi\"]\n[\"scan\",\"b|\",\"b}\"]\n";
+/// A link over these lines, whose writes with these numbers fail, and the list of what it takes.
+fn link_of<'a, R: Wait>(
+    rt: &'a R,
+    alloc: Global,
+    lines: &str,
+    failing: Vec<usize>,
+) -> Result<(Copying<'a, R>, Taken), Fail> {
+    let lines = lines.as_bytes().to_vec(alloc)?;
+    let source = MemSource::new(lines, Vec::new(alloc), Vec::new(alloc));
+    let taken = Arc::new(alloc, Mutex::new(Vec::new(alloc)))?;
+    let link = Copying {
+        rt,
+        link: MemLink::new(source, MemSink::new(alloc, failing)),
+        taken: Arc::try_clone(&taken)?,
+    };
+    Ok((link, taken))
+}
 
-const REPLIES: &[u8] = b"[\"ok\",2]\n[\"pairs\",2,[[\"b|1\",\"Hi\"]]]\n";
-
-#[test]
-fn a_link_is_answered_after_the_joins(rt: HostRuntime) -> Result<(), Fail> {
+/// Runs the words over doors that give the links and fail at these calls, where the shelf has one join in the file `j`. Asserts
+/// that nothing is written to the sink, and says how it ended.
+fn serve<R: AllocGlobal + Threads + Wait + Abort + Sync, K: Link + Send + Drop>(
+    rt: &R,
+    words: &[&str],
+    links: Vec<K>,
+    failing: Vec<usize>,
+) -> Result<Status, Fail> {
     let alloc: Global = rt.alloc();
-    let mut words = Vec::new(alloc);
-    for word in ["serve", "127.0.0.1:7000", "--joins", "j"] {
-        words.push(String::from_str(alloc, word)?)?;
+    let mut given = Vec::new(alloc);
+    for word in words {
+        given.push(String::from_str(alloc, word)?)?;
     }
     let joins = b"b|<x> = copy a|<x>\n".to_vec(alloc)?;
     let files = vec![in alloc; (String::from_str(alloc, "j")?, joins)]?;
     let mut shelf = MemShelf::new(files, Vec::new(alloc));
-    let source = MemSource::new(LINES.to_vec(alloc)?, Vec::new(alloc), Vec::new(alloc));
-    let taken = Arc::new(alloc, Mutex::new(Vec::new(alloc)))?;
-    let link = Copying {
-        rt: &rt,
-        link: MemLink::new(source, MemSink::new(alloc, Vec::new(alloc))),
-        taken: Arc::try_clone(&taken)?,
-    };
-    let mut doors = MemDoors::new(vec![in alloc; link]?, Vec::new(alloc));
+    let mut doors = MemDoors::new(links, failing);
     let mut input = MemSource::new(Vec::new(alloc), Vec::new(alloc), Vec::new(alloc));
     let mut sink = MemSink::new(alloc, Vec::new(alloc));
     let status = pequod(
-        &rt,
+        rt,
         alloc,
-        words.as_slice(),
+        given.as_slice(),
         &mut input,
         &mut sink,
         &mut shelf,
         &mut doors,
         &OpenGate,
     );
-    assert_eq!(rt; status, Status::DONE);
-    assert_eq!(rt; taken.lock(&rt).as_slice(), REPLIES);
     assert!(rt; sink.bytes().is_empty());
+    Ok(status)
+}
+
+/// A put and a scan, and what they are answered where a join copies the table.
+const LINES: &str = "[\"put\",\"a|1\",\"Hi\"]\n[\"scan\",\"b|\",\"b}\"]\n";
+
+const REPLIES: &str = "[\"ok\",2]\n[\"pairs\",2,[[\"b|1\",\"Hi\"]]]\n";
+
+#[test]
+fn a_link_is_answered_after_the_joins(rt: HostRuntime) -> Result<(), Fail> {
+    let alloc: Global = rt.alloc();
+    let (link, taken) = link_of(&rt, alloc, LINES, Vec::new(alloc))?;
+    let status = serve(&rt, &WITH_JOINS, vec![in alloc; link]?, Vec::new(alloc))?;
+    assert_eq!(rt; status, Status::DONE);
+    assert_eq!(rt; taken.lock(&rt).as_slice(), REPLIES.as_bytes());
+    Ok(())
+}
+
+#[test]
+fn a_link_whose_write_fails_ends_alone(rt: HostRuntime) -> Result<(), Fail> {
+    let alloc: Global = rt.alloc();
+    let failing = vec![in alloc; 1]?;
+    let (first, to_first) = link_of(&rt, alloc, "[\"get\",\"k|a\"]\n", failing)?;
+    let row = &EXAMPLES[1];
+    let (second, to_second) = link_of(&rt, alloc, row.lines, Vec::new(alloc))?;
+    let links = vec![in alloc; first, second]?;
+    let status = serve(&rt, &ALONE, links, Vec::new(alloc))?;
+    assert_eq!(rt; status, Status::DONE);
+    assert!(rt; to_first.lock(&rt).is_empty());
+    assert_eq!(rt; to_second.lock(&rt).as_slice(), row.replies.as_bytes());
+    Ok(())
+}
+
+#[test]
+fn a_line_that_the_link_ends_in_is_answered(rt: HostRuntime) -> Result<(), Fail> {
+    let alloc: Global = rt.alloc();
+    for (lines, replies) in [
+        (
+            "[\"put\",\"k|a\",\"1\"]\n[\"get\",\"k|a\"]",
+            "[\"ok\",1]\n[\"value\",1,\"1\"]\n",
+        ),
+        ("[\"put\",\"k|a\"", "[\"error\",\"json\"]\n"),
+    ] {
+        let (link, taken) = link_of(&rt, alloc, lines, Vec::new(alloc))?;
+        let status = serve(&rt, &ALONE, vec![in alloc; link]?, Vec::new(alloc))?;
+        assert_eq!(rt; status, Status::DONE);
+        assert_eq!(rt; taken.lock(&rt).as_slice(), replies.as_bytes());
+    }
+    Ok(())
+}
+
+#[test]
+fn a_link_before_the_doors_fail_is_answered_whole(rt: HostRuntime) -> Result<(), Fail> {
+    let alloc: Global = rt.alloc();
+    let row = &EXAMPLES[1];
+    let (link, taken) = link_of(&rt, alloc, row.lines, Vec::new(alloc))?;
+    // The doors fail where they are asked for the second link.
+    let failing = vec![in alloc; 2]?;
+    let status = serve(&rt, &ALONE, vec![in alloc; link]?, failing)?;
+    assert_eq!(rt; status, Status::DOORS_FAULT);
+    assert_eq!(rt; taken.lock(&rt).as_slice(), row.replies.as_bytes());
     Ok(())
 }

@@ -3,10 +3,11 @@ use crate::status::Status;
 use crate::tests::Given;
 use std::test::Fail;
 
-/// The words without a joins file, and with one.
-const ALONE: [&str; 2] = ["serve", "127.0.0.1:7000"];
+/// The words without a joins file.
+pub const ALONE: [&str; 2] = ["serve", "127.0.0.1:7000"];
 
-const WITH_JOINS: [&str; 4] = ["serve", "127.0.0.1:7000", "--joins", "j"];
+/// The words with a joins file.
+pub const WITH_JOINS: [&str; 4] = ["serve", "127.0.0.1:7000", "--joins", "j"];
 
 #[test]
 fn doors_close_or_fail(rt: HostRuntime) -> Result<(), Fail> {

@@ -41,6 +41,7 @@ struct Given<'a> {
     failing_read: usize,
     failing_write: usize,
     failing_doors: &'a [usize],
+    failing_shelf: &'a [usize],
 }
 
 impl<'a> Given<'a> {
@@ -54,6 +55,7 @@ impl<'a> Given<'a> {
             failing_read: 0,
             failing_write: 0,
             failing_doors: &[],
+            failing_shelf: &[],
         }
     }
 
@@ -115,7 +117,7 @@ impl<'a> Given<'a> {
         let fails = vec![in alloc; self.failing_read]?;
         let mut source = MemSource::new(self.input.to_vec(alloc)?, cuts, fails);
         let files = vec![in alloc; (String::from_str(alloc, "j")?, self.file.to_vec(alloc)?)]?;
-        let mut shelf = MemShelf::new(files, Vec::new(alloc));
+        let mut shelf = MemShelf::new(files, self.failing_shelf.to_vec(alloc)?);
         let fails = self.failing_doors.to_vec(alloc)?;
         let mut doors: MemDoors<MemLink> = MemDoors::new(Vec::new(alloc), fails);
         Ok(pequod(

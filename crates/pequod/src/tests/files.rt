@@ -1,6 +1,7 @@
-// Files of joins.
+// Files of joins, and shelves that fail.
 use crate::status::Status;
 use crate::tests::Given;
+use crate::tests::serves::WITH_JOINS;
 use std::test::Fail;
 
 /// A comment, spaces between tokens, and `push`.
@@ -112,6 +113,23 @@ fn a_file_may_be_missing_and_a_write_may_fail(rt: HostRuntime) -> Result<(), Fai
     for file in [FEEDS, "b\n"] {
         let given = Given::check(file.as_bytes()).failing(0, 1);
         given.gives(&rt, file, Status::WRITE_FAULT, "")?;
+    }
+    Ok(())
+}
+
+#[test]
+fn a_shelf_may_fail(rt: HostRuntime) -> Result<(), Fail> {
+    for given in [
+        Given::check(b""),
+        Given::replay(b""),
+        Given::new(&WITH_JOINS),
+    ] {
+        given.gives(&rt, "no call fails", Status::DONE, "")?;
+        let given = Given {
+            failing_shelf: &[1],
+            ..given
+        };
+        given.gives(&rt, "the first call fails", Status::SHELF_FAULT, "")?;
     }
     Ok(())
 }

@@ -444,8 +444,8 @@ impl<N: Naming> Cell<N> {
 
     /// Brings what is kept to where the first p entries stand, where it stands below: it is advanced. What is pending then
     /// stays so. The rank is the one that the join has after p entries. What was kept with it and is forgotten stays so, and
-    /// what stands past p stays there; what was kept while the join had another rank is let go. Where no rank is given, nothing changes but what the cell's
-    /// pass has seen: it and the reader see what either has seen.
+    /// what stands past p stays there; what was kept while the join had another rank is let go. Where no rank is given,
+    /// nothing changes but what the cell's pass has seen: it and the reader see what either has seen.
     ///
     /// On `OutOfMemory` what is kept stands where it stood, or at p, or nothing is kept.
     pub fn bring<R: Stacked<N>, L: Ledger>(

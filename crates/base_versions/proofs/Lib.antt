@@ -6,3 +6,4 @@ pub mod MapLemmas
 pub mod StandsLemmas
 pub mod EnterLemmas
 pub mod ChangedLemmas
+pub mod NewestLemmas

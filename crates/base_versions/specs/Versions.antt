@@ -19,6 +19,11 @@ version_by position key (declare j) = []
 unfoldable pub versions_of : Text → History → List Version
 versions_of key h = made_from (λ position. version_by position key) 1 h
 
+-- versions with the newest behind the older ones, where there is one
+abbrev pub with_newest : List Version → Option Version → List Version
+with_newest older None = older
+with_newest older (Some newest) = older ++ newest ∷ []
+
 -- what stands at a key after p entries: the value of its last version whose position is at most p
 abbrev pub value_in : ℕ → List Version → Option Text
 value_in p versions = fold (λ value v. if nat_le v.position p then v.value else value) None versions

@@ -8,6 +8,7 @@
 pub mod base;
 mod changes;
 pub mod laws;
+mod older;
 mod table;
 mod versions;
 

@@ -2,6 +2,7 @@
 ghost use Rattle.std.specs.Prelude.{◌≡◌, [], ◌∷◌, ◌++◌, OnOk, OnErr, option_copied};
 ghost use Rattle.base_versions.specs.Versions.{AscendFrom, has_between, value_in};
 
+use crate::older::OlderVersions;
 use key_space::Value;
 use out_of_memory::OutOfMemory;
 use std::alloc::Global;
@@ -14,19 +15,22 @@ pub struct Version {
     pub value: Option<Value>,
 }
 
-/// The versions of one key, in order of position.
+/// The versions of one key, in order of position. The newest stands beside the list of the older ones: it answers most
+/// questions, and a key that was written once needs no list.
 #[derive(Debug, Drop)]
 pub struct Versions {
-    list: Vec<Version>,
+    older: OlderVersions,
+    newest: Option<Version>,
 }
 
 impl Model for Versions {
     ghost use Rattle.std.specs.Prelude.{List};
     ghost use Rattle.base_versions.specs.declared.versions.Version.{Version};
+    ghost use Rattle.base_versions.specs.Versions.{with_newest};
 
     ghost Value = { List Version };
 
-    ghost view = { λ v. v.list.items };
+    ghost view = { λ v. with_newest v.older v.newest };
 }
 
 impl Versions {
@@ -35,7 +39,8 @@ impl Versions {
         ensures { result ≡ [] }
     {
         Versions {
-            list: Vec::new(alloc),
+            older: OlderVersions::new(alloc),
+            newest: None,
         }
     }
 
@@ -44,28 +49,34 @@ impl Versions {
         ensures ok { OnOk result (self.new ≡ self.old ++ version ∷ []) }
         ensures err { OnErr result (self.new ≡ self.old) }
     {
-        self.list.push(version)?;
+        if let Some(before) = self.newest.take()
+            && let Err(refused) = self.older.push(before)
+        {
+            self.newest = Some(refused.value);
+            return Err(OutOfMemory);
+        }
+        self.newest = Some(version);
         Ok(())
     }
 
-    /// What stands at the key after p entries. The versions are searched by halves.
+    /// What stands at the key after p entries. The older versions are searched by halves where the newest is later.
     pub fn value_at(&self, p: u64) -> Option<&Value>
         ensures { AscendFrom 0 self.now → option_copied result ≡ value_in p self.now }
     {
-        let count = self.list.partition_point(|version| version.position <= p);
-        match self.list[..count].last() {
-            None => None,
-            Some(version) => version.value.as_ref(),
+        match &self.newest {
+            Some(newest) if newest.position <= p => newest.value.as_ref(),
+            _ => self.older.value_at(p),
         }
     }
-    /// Whether there is a version after the first q entries, up to the p-th. The versions are searched by halves.
+
+    /// Whether there is a version after the first q entries, up to the p-th. The older versions are searched by halves where
+    /// the newest is later.
     pub fn has_between(&self, q: u64, p: u64) -> bool
         ensures { AscendFrom 0 self.now → result ≡ has_between q p self.now }
     {
-        let count = self.list.partition_point(|version| version.position <= q);
-        match self.list[count..].first() {
-            None => false,
-            Some(version) => version.position <= p,
+        match &self.newest {
+            Some(newest) if newest.position <= p => q < newest.position,
+            _ => self.older.has_between(q, p),
         }
     }
 }

@@ -5,12 +5,12 @@ ghost use Rattle.std.specs.Cmp.Lexicographic.{nat_list_eq_equiv, nat_list_cmp_to
 ghost use Rattle.semantics.specs.Texts.{is_key, table_of, text_cmp, same};
 
 use crate::key_bound::KeyBound;
+use crate::shared_text::SharedText;
 use crate::table::{find_table, names_table};
 use out_of_memory::OutOfMemory;
 use std::alloc::Global;
 use std::cmp::Ordering;
 use std::marker::Model;
-use std::sync::ArcStr;
 
 /// The most bytes of a key.
 pub const MAX_KEY_BYTES: usize = 512;
@@ -54,7 +54,7 @@ impl Key {
         if text.len() > MAX_KEY_BYTES || !names_table(text) {
             return Err(KeyFault::BadKey);
         }
-        match ArcStr::from_str(alloc, text) {
+        match SharedText::read(alloc, text) {
             Ok(text) => Ok(Key {
                 place: KeyBound::of(text),
             }),

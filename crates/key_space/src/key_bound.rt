@@ -1,35 +1,33 @@
 // Bounds in the order of keys.
 ghost use Rattle.std.specs.Prelude.{◌≡◌, IfOk, Some, refl};
-ghost use Rattle.std.specs.Arc.{arc_str_bytes};
 ghost use Rattle.std.specs.Cmp.{partial_equiv_from_equiv};
 ghost use Rattle.std.specs.Cmp.Lexicographic.{nat_list_eq_equiv, nat_list_cmp_total, texts_ties, texts_po};
 ghost use Rattle.semantics.specs.Texts.{text_cmp, same};
 
+use crate::shared_text::SharedText;
 use out_of_memory::OutOfMemory;
 use std::cmp::Ordering;
 use std::marker::Model;
-use std::sync::ArcStr;
 
 /// A bound in the order of keys: the text of a key, or that of a bound of a range, which need not be a key. A map whose
 /// keys are bounds can be read from one bound to another. A copy shares the text.
 #[derive(Debug, Drop)]
 pub struct KeyBound {
-    text: ArcStr,
+    text: SharedText,
 }
 
 impl Model for KeyBound {
     ghost use Rattle.std.specs.Prelude.{List, ℕ};
-    ghost use Rattle.std.specs.Arc.{arc_str_bytes};
 
     ghost Value = { List ℕ };
 
-    ghost view = { λ p. arc_str_bytes p.text };
+    ghost view = { λ p. p.text };
 }
 
 impl KeyBound {
     /// The bound of a text.
-    pub(crate) fn of(text: ArcStr) -> KeyBound
-        ensures { result ≡ arc_str_bytes text }
+    pub(crate) fn of(text: SharedText) -> KeyBound
+        ensures { result ≡ text }
     {
         KeyBound { text }
     }
@@ -45,7 +43,7 @@ impl KeyBound {
     pub fn copy(&self) -> Result<KeyBound, OutOfMemory>
         ensures { IfOk result (λ copy. copy ≡ self.now) }
     {
-        let text = self.text.clone()?;
+        let text = self.text.copy()?;
         Ok(KeyBound { text })
     }
 }

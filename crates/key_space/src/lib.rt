@@ -1,6 +1,6 @@
 // Keys, values and ranges of keys, and the decimals that values and widths are written in.
 //
-// It stands on `out_of_memory` and, for its definitions, on `semantics` and `key_ranges`. The layers above may use all that is
+// It stands on `out_of_memory` and `arrayvec` and, for its definitions, on `semantics` and `key_ranges`. The layers above may use all that is
 // public here: contracts see a key and a value as their texts and a range as its two bounds, and order is byte order.
 #![tactic(auto)]
 
@@ -8,6 +8,7 @@ pub mod decimal;
 pub mod key;
 pub mod key_bound;
 pub mod range;
+mod shared_text;
 pub mod table;
 pub mod value;
 

@@ -8,11 +8,11 @@ ghost use Rattle.key_space.specs.Parts.{ends_table};
 
 use crate::key::Key;
 use crate::key_bound::KeyBound;
+use crate::shared_text::SharedText;
 use crate::table::{find_table, is_table_name};
 use out_of_memory::OutOfMemory;
 use std::alloc::Global;
 use std::marker::Model;
-use std::sync::ArcStr;
 
 /// The most bytes of a bound.
 pub const MAX_BOUND_BYTES: usize = 513;
@@ -101,7 +101,7 @@ fn followed(alloc: Global, text: &str, end: char) -> Result<KeyBound, OutOfMemor
     let mut whole = String::with_capacity(alloc, text.len() + 1)?;
     whole.push_str(text)?;
     whole.push(end)?;
-    Ok(KeyBound::of(ArcStr::from_string(whole)?))
+    Ok(KeyBound::of(SharedText::keep(alloc, whole)?))
 }
 
 impl Range {
@@ -115,7 +115,7 @@ impl Range {
         if !is_range(low, high) {
             return Err(RangeFault::BadRange);
         }
-        match (ArcStr::from_str(alloc, low), ArcStr::from_str(alloc, high)) {
+        match (SharedText::read(alloc, low), SharedText::read(alloc, high)) {
             (Ok(low), Ok(high)) => Ok(Range {
                 low: KeyBound::of(low),
                 high: KeyBound::of(high),
@@ -129,8 +129,9 @@ impl Range {
         requires { is_range (string_bytes low) (string_bytes high) ≡ true }
         ensures { IfOk result (λ range. range ≡ record { low = string_bytes low; high = string_bytes high }) }
     {
-        let low = KeyBound::of(ArcStr::from_string(low)?);
-        let high = KeyBound::of(ArcStr::from_string(high)?);
+        let alloc = *low.allocator();
+        let low = KeyBound::of(SharedText::keep(alloc, low)?);
+        let high = KeyBound::of(SharedText::keep(alloc, high)?);
         Ok(Range { low, high })
     }
 
@@ -225,7 +226,7 @@ impl Range {
     {
         match prefix.strip_suffix('|') {
             Some(front) => {
-                let low = KeyBound::of(ArcStr::from_str(alloc, prefix)?);
+                let low = KeyBound::of(SharedText::read(alloc, prefix)?);
                 let high = followed(alloc, front, '}')?;
                 Ok(Range { low, high })
             }

@@ -2,10 +2,10 @@
 ghost use Rattle.std.specs.Prelude.{◌≡◌, ◌↔◌, IfOk, true, false};
 ghost use Rattle.semantics.specs.Texts.{is_value};
 
+use crate::shared_text::SharedText;
 use out_of_memory::OutOfMemory;
 use std::alloc::Global;
 use std::marker::Model;
-use std::sync::ArcStr;
 
 /// The most bytes of a value.
 pub const MAX_VALUE_BYTES: usize = 65_536;
@@ -13,19 +13,18 @@ pub const MAX_VALUE_BYTES: usize = 65_536;
 /// A value: UTF-8 text of at most 65,536 bytes. A copy shares the text.
 #[derive(Debug, Drop)]
 pub struct Value {
-    text: ArcStr,
+    text: SharedText,
 }
 
 impl Model for Value {
     ghost use Rattle.std.specs.Prelude.{◌≡◌, List, ℕ, true};
-    ghost use Rattle.std.specs.Arc.{arc_str_bytes};
     ghost use Rattle.semantics.specs.Texts.{is_value};
 
     ghost Value = { List ℕ };
 
-    ghost view = { λ v. arc_str_bytes v.text };
+    ghost view = { λ v. v.text };
 
-    ghost invariant = { λ v. is_value (arc_str_bytes v.text) ≡ true };
+    ghost invariant = { λ v. is_value (v.text) ≡ true };
 }
 
 /// Why a text is refused as a value.
@@ -48,7 +47,7 @@ impl Value {
         if text.len() > MAX_VALUE_BYTES {
             return Err(ValueFault::BadValue);
         }
-        match ArcStr::from_str(alloc, text) {
+        match SharedText::read(alloc, text) {
             Ok(text) => Ok(Value { text }),
             Err(_) => Err(ValueFault::OutOfMemory),
         }
@@ -66,7 +65,7 @@ impl Value {
     pub fn copy(&self) -> Result<Value, OutOfMemory>
         ensures { IfOk result (λ copy. copy ≡ self.now) }
     {
-        let text = self.text.clone()?;
+        let text = self.text.copy()?;
         Ok(Value { text })
     }
 }

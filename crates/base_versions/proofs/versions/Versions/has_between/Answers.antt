@@ -1,33 +1,28 @@
-use Rattle.std.proofs.Common.{◌≡◌, ℕ, ◌-◌, List, length, length-drop, take, drop, nat_le, Option, Some, None, sym, ap, ◌∙◌, arith, rules, subst}
-use Rattle.std.specs.List.{slice_get}
-use Rattle.std.proofs.lemmas.List.{take_all}
-use Rattle.std.proofs.lemmas.List.Sorted.{IsPartitionPoint-from_clause}
+use Rattle.std.proofs.Common.{◌≡◌, List, [], ◌∷◌, ◌++◌, Some, None, sym, ap, ◌∙◌, subst, arith}
+use Rattle.std.proofs.lemmas.Bool.Decides.{nat_tests}
 use Rattle.base_versions.specs.declared.versions.Version.{Version}
-use Rattle.base_versions.specs.Versions.{AscendFrom, has_between}
-use Rattle.base_versions.proofs.PositionLemmas.{IsCut, partitioned-ascend}
-use Rattle.base_versions.proofs.VersionLemmas.{is_up_to, has_between-cut}
+use Rattle.base_versions.specs.Versions.{AscendFrom, has_between, with_newest}
+use Rattle.base_versions.proofs.NewestLemmas.{ascend-older, between-older, between-newest}
 use Rattle.base_versions.proofs.versions.Versions.has_between.Goals as goal
-
--- what is left of versions after some first ones, cut at its end
-rest_is : (vs : List Version) (n : ℕ) → take (length vs - n) (drop n vs) ≡ drop n vs
-rest_is vs n = take_all (length vs - n) (drop n vs) (omega (arith, length-drop n vs))
-
--- the first of the versions after the cut says it; both lists are the versions
-first_after : (vs searched kept : List Version) (q p n : ℕ) → searched ≡ vs → kept ≡ vs → AscendFrom 0 vs → (AscendFrom 0 searched → IsCut (λ v. nat_le v.position q) searched n) →
-    (first : Option Version) → first ≡ slice_get (take (length kept - n) (drop n kept)) 0 → is_up_to p first ≡ has_between q p vs
-first_after vs searched kept q p n e f a cut first at =
-    let found = cut (subst (λ (ws : List Version). AscendFrom 0 ws) (sym e) a) in
-    ap (is_up_to p) (at ∙ ap (λ ws. slice_get ws 0) (rest_is kept n ∙ ap (drop n) f))
-    ∙ has_between-cut q p 0 vs n a (subst (λ (ws : List Version). IsCut (λ v. nat_le v.position q) ws n) e found)
-
-pub returns-in-None : goal.returns-in-None
-returns-in-None c = λ a.
-    first_after c.args.self.now c.deref.result.now c.deref-2.result.now c.args.q c.args.p c.partition_point-count.result (c.deref.ensures.value ∙ c.self.view_is) (c.deref-2.ensures.value ∙ c.self.view_is) a
-    (λ asc. IsPartitionPoint-from_clause (λ v. nat_le v.position c.args.q) c.deref.result.now c.partition_point-count.result c.partition_point-count.ensures.partitioned (partitioned-ascend (λ v. v.position) 0 c.args.q c.deref.result.now asc) (λ x r q k. search rules))
-    None c.in-None.ensures.value
+use Rattle.base_versions.proofs.versions.Versions.has_between.Goals.{in_default-via-in-Some+else-newest-p, in_default-via-in_default}
 
 pub returns-in-Some : goal.returns-in-Some
 returns-in-Some c = λ a.
-    first_after c.args.self.now c.deref.result.now c.deref-2.result.now c.args.q c.args.p c.partition_point-count.result (c.deref.ensures.value ∙ c.self.view_is) (c.deref-2.ensures.value ∙ c.self.view_is) a
-    (λ asc. IsPartitionPoint-from_clause (λ v. nat_le v.position c.args.q) c.deref.result.now c.partition_point-count.result c.partition_point-count.ensures.partitioned (partitioned-ascend (λ v. v.position) 0 c.args.q c.deref.result.now asc) (λ x r q k. search rules))
-    (Some c.in-Some.version.now) c.in-Some.ensures.value
+    let older = c.self.inside.older in
+    let newest = c.in-Some.newest in
+    let e : older ++ newest ∷ [] ≡ c.args.self.now = ap (with_newest older) (sym c.in-Some.is) ∙ c.self.view_is in
+    between-newest c.args.q c.args.p older newest (subst (λ (vs : List Version). AscendFrom 0 vs) (sym e) a) (grind (arith, nat_tests)) ∙ ap (has_between c.args.q c.args.p) e
+
+pub returns-in_default : goal.returns-in_default
+returns-in_default c = λ a.
+    let older = c.self.inside.older in
+    elim c.in_default.branch [
+      | in_default-via-in-Some+else-newest-p w ↦
+          let newest = w.in-Some.newest in
+          let e : older ++ newest ∷ [] ≡ c.args.self.now = ap (with_newest older) (sym w.in-Some.is) ∙ c.self.view_is in
+          c.has_between.ensures (ascend-older 0 older newest (subst (λ (vs : List Version). AscendFrom 0 vs) (sym e) a))
+          ∙ sym (between-older c.args.q c.args.p older newest (grind (arith, nat_tests))) ∙ ap (has_between c.args.q c.args.p) e
+      | in_default-via-in_default w ↦
+          let e : older ≡ c.args.self.now = ap (with_newest older) (sym w.in_default.is) ∙ c.self.view_is in
+          c.has_between.ensures (subst (λ (vs : List Version). AscendFrom 0 vs) (sym e) a) ∙ ap (has_between c.args.q c.args.p) e
+    ]

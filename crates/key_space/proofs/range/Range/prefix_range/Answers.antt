@@ -8,7 +8,7 @@ invariant_of-result c =
     prefix_bounds c.args.prefix.now c.in-Some.front.now
     c.of-low.result c.in_ok-high-in-Some.high
     c.requires.key (strip_suffix_char 124 c.args.prefix.now (Some c.in-Some.front) c.in-Some.ensures.cases (lit< tt))
-    (c.of-low.ensures ∙ c.in_ok-from_str-in-Some.ensures.ok) c.in_ok-high-in-Some.ensures
+    (c.of-low.ensures ∙ c.in_ok-read-in-Some.ensures) c.in_ok-high-in-Some.ensures
 
 pub unreachable-requires : goal.unreachable-requires
 unreachable-requires c =

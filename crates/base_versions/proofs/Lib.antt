@@ -7,3 +7,4 @@ pub mod StandsLemmas
 pub mod EnterLemmas
 pub mod ChangedLemmas
 pub mod NewestLemmas
+pub mod LatestLemmas

@@ -7,6 +7,7 @@
 
 pub mod base;
 mod changes;
+mod latest;
 pub mod laws;
 mod older;
 mod table;

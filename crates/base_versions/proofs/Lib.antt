@@ -7,4 +7,3 @@ pub mod StandsLemmas
 pub mod EnterLemmas
 pub mod ChangedLemmas
 pub mod NewestLemmas
-pub mod LatestLemmas

@@ -2,5 +2,4 @@ pub mod Positions
 pub mod Versions
 pub mod Changes
 pub mod Kept
-pub mod Latest
 pub mod Laws

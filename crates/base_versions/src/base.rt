@@ -17,8 +17,7 @@ use steps::Steps;
 
 /// The base pairs of some tables at every position from 0 to its own: of those whose name's bytes have a sum that is,
 /// modulo the number of shards, the number of its shard. It keeps no entries, but for each key the versions that the
-/// entries gave it, and for each table the keys that were put or removed, in order, and when each group of keys was last
-/// written.
+/// entries gave it, and for each table the keys that were put or removed, in order.
 #[derive(Debug, Drop)]
 pub struct BaseVersions {
     alloc: Global,
@@ -117,9 +116,7 @@ impl BaseVersions {
 
     /// The keys of the range that are put or removed after the first q entries, up to the p-th: in order, each once. It
     /// costs the searches for the range and for these changes of its table, and then a look at each key of the range that
-    /// was ever put or removed, or at each of these changes, whichever are fewer; the keys of the changes are sorted. Where
-    /// all keys of the range begin with the same two segments, and nothing with the second of them or one of its group was
-    /// written since, it is linear in the bounds.
+    /// was ever put or removed, or at each of these changes, whichever are fewer; the keys of the changes are sorted.
     ///
     /// The steps are as many as the keys, and one. On `OutOfMemory` they are not counted.
     pub fn changed<L: Ledger>(
@@ -159,8 +156,8 @@ impl BaseVersions {
         ensures { IfOk result (λ keys. (start : ℕ) (h : History) → StandsFor start self.now h → start ≤ q → keys.items ≡ changed_keys q p range.now h) }
     {
         match self.tables.get(range.table()) {
-            Some(table) if !table.is_quiet(q, range) => table.changed(self.alloc, q, p, range),
-            _ => Ok(Vec::new(self.alloc)),
+            None => Ok(Vec::new(self.alloc)),
+            Some(table) => table.changed(self.alloc, q, p, range),
         }
     }
 

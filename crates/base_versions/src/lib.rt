@@ -7,7 +7,6 @@
 
 pub mod base;
 mod changes;
-mod latest;
 pub mod laws;
 mod older;
 mod table;

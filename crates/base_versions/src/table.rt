@@ -1,15 +1,14 @@
 // The versions and the changes of one table.
-ghost use Rattle.std.specs.Prelude.{◌≡◌, ℕ, [], ◌∷◌, ◌++◌, IfOk, IfSome, OnOk, OnErr, filter, option_copied, true};
+ghost use Rattle.std.specs.Prelude.{◌≡◌, [], ◌∷◌, ◌++◌, IfOk, IfSome, OnOk, OnErr, filter, option_copied, true};
 ghost use Rattle.std.specs.List.{AllByRecursion};
 ghost use Rattle.std.specs.List.Sorted.{IsStrictlySortedBy};
 ghost use Rattle.std.specs.Map.{keys_of};
 ghost use Rattle.semantics.specs.Texts.{is_key, text_cmp, within};
 ghost use Rattle.base_versions.specs.Versions.{AddsVersion, AllAscend, AscendFrom, KeepsVersions, keys_changed, pairs_in, value_in, versions_at};
-ghost use Rattle.base_versions.specs.Changes.{Ascend, changed_in};
+ghost use Rattle.base_versions.specs.Changes.{Ascend};
 ghost use Rattle.base_versions.specs.Kept.{FindsChanged, empty_table};
 
 use crate::changes::{Change, between, keys_in_order};
-use crate::latest::Latest;
 use crate::versions::{Version, Versions};
 use join_types::Pair;
 use key_space::{Key, KeyBound, Range, Value};
@@ -19,13 +18,11 @@ use std::collections::{BTreeMap, btree_map};
 use std::marker::Model;
 use std::ops::Bound;
 
-/// The versions of each key of one table, and the table's changes in order of position. Where its keys were last written
-/// is known group by group.
+/// The versions of each key of one table, and the table's changes in order of position.
 #[derive(Debug, Drop)]
 pub struct TableVersions {
     tracks: BTreeMap<KeyBound, Versions>,
     changes: Vec<Change>,
-    latest: Latest,
 }
 
 impl Model for TableVersions {
@@ -33,13 +30,12 @@ impl Model for TableVersions {
     ghost use Rattle.std.specs.List.{AllByRecursion};
     ghost use Rattle.semantics.specs.Texts.{is_key};
     ghost use Rattle.base_versions.specs.Kept.{TableKept};
-    ghost use Rattle.base_versions.specs.Latest.{IsNoted};
 
     ghost Value = { TableKept };
 
     ghost view = { λ t. record { tracks = t.tracks.entries; changes = t.changes.items } };
 
-    ghost invariant = { λ t. AllByRecursion (λ track. is_key track.0 ≡ true) t.tracks.entries × AllByRecursion (IsNoted t.latest) t.changes.items };
+    ghost invariant = { λ t. AllByRecursion (λ track. is_key track.0 ≡ true) t.tracks.entries };
 }
 
 impl TableVersions {
@@ -50,7 +46,6 @@ impl TableVersions {
         TableVersions {
             tracks: BTreeMap::new(alloc),
             changes: Vec::new(alloc),
-            latest: Latest::new(alloc),
         }
     }
 
@@ -72,8 +67,6 @@ impl TableVersions {
             position,
             key: key.copy()?,
         };
-        self.latest
-            .note(alloc, self.changes.as_slice(), position, key);
         self.changes.push(change)?;
         let added = add_version(alloc, &mut self.tracks, key, Version { position, value });
         if added.is_err() {
@@ -113,14 +106,6 @@ impl TableVersions {
     {
         let tracks = self.within(range)?;
         listed(alloc, p, tracks)
-    }
-
-    /// Whether it is known that no key of the range was put or removed after the first q entries. Linear in the first
-    /// bound.
-    pub fn is_quiet(&self, q: u64, range: &Range) -> bool
-        ensures { result ≡ true → (p : ℕ) → changed_in q p range.now self.now.changes ≡ [] }
-    {
-        self.latest.is_quiet(q, range)
     }
 
     /// The keys of the range that are put or removed after the first q entries, up to the p-th: in order, each once. It

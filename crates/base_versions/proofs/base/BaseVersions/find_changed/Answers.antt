@@ -1,32 +1,23 @@
-use Rattle.std.proofs.Common.{◌≡◌, ℕ, ◌≤◌, ⊎_elim, ◌∙◌, refl, sym, subst}
+use Rattle.std.proofs.Common.{◌≡◌, ℕ, ◌≤◌, ⊎_elim, ◌∙◌, refl, subst}
 use Rattle.std.proofs.lemmas.Result.{IfOk-weaker}
 use Rattle.semantics.specs.Texts.{table_of}
 use Rattle.semantics.specs.Histories.{History}
 use Rattle.growing_history.specs.Changes.{changed_keys}
-use Rattle.base_versions.specs.Changes.{changed_in, changes_of}
+use Rattle.base_versions.specs.Changes.{changes_of}
 use Rattle.base_versions.specs.Positions.{IsKeptSince}
-use Rattle.base_versions.specs.Kept.{TableKept, empty_table, table_in, StandsFor}
+use Rattle.base_versions.specs.Kept.{TableKept, empty_table, StandsFor}
 use Rattle.base_versions.proofs.ChangeLemmas.{ascend-kept_changes, changed_in-kept_changes}
 use Rattle.base_versions.proofs.EnterLemmas.{table_found, if_ok_each, if_ok_given}
 use Rattle.base_versions.proofs.StandsLemmas.{ascend-kept}
 use Rattle.base_versions.proofs.ChangedLemmas.{keys_changed-kept}
-use Rattle.base_versions.proofs.base.BaseVersions.find_changed.Goals.{in_default-via-in-Some+else-not-is_quiet, in_default-via-in_default}
 use Rattle.base_versions.proofs.base.BaseVersions.find_changed.Goals as goal
 
-pub returns-in_default : goal.returns-in_default
-returns-in_default c = λ start h s g.
+pub returns-in-None : goal.returns-in-None
+returns-in-None c = λ start h s g.
     let range = c.args.range.now in
-    let entries = c.self.inside.tables.entries in
-    let as_kept : (table : TableKept) → table_in (table_of range.low) c.args.self.now ≡ table → changed_in c.args.q c.args.p range table.changes ≡ changed_keys c.args.q c.args.p range h =
-    λ table is. changed_in-kept_changes start table.changes h range c.args.q c.args.p (subst (λ (t : TableKept). IsKeptSince (λ c. c.position) start t.changes (changes_of (table_of range.low) h)) is (s.changes (table_of range.low) c.requires.own)) g c.requires.order c.table.ensures.is_range in
-    elim c.in_default.branch [
-      | in_default-via-in-Some+else-not-is_quiet w ↦
-          c.new.ensures.items ∙ sym (w.if-not-is_quiet.ensures refl c.args.p)
-          ∙ as_kept w.in-Some.table.now (table_found c.args.self.now _ c.table.result.now (table_of range.low) entries _ c.self.view_is refl c.table.ensures.table w.in-Some.ensures.value)
-      | in_default-via-in_default w ↦
-          c.new.ensures.items
-          ∙ as_kept empty_table (table_found c.args.self.now _ c.table.result.now (table_of range.low) entries _ c.self.view_is refl c.table.ensures.table w.in_default.ensures.value)
-    ]
+    let is = table_found c.args.self.now _ c.table.result.now (table_of range.low) c.self.inside.tables.entries _ c.self.view_is refl c.table.ensures.table c.in-None.ensures.value in
+    let kept = subst (λ (t : TableKept). IsKeptSince (λ c. c.position) start t.changes (changes_of (table_of range.low) h)) is (s.changes (table_of range.low) c.requires.own) in
+    c.new.ensures.items ∙ changed_in-kept_changes start empty_table.changes h range c.args.q c.args.p kept g c.requires.order c.table.ensures.is_range
 
 pub returns-in-Some : goal.returns-in-Some
 returns-in-Some c =

@@ -16,9 +16,9 @@ use key_space::{Key, Range};
 use out_of_memory::OutOfMemory;
 use std::alloc::Global;
 use std::collections::BTreeSet;
-use std::mem;
 use std::sync::ledger::Ledger;
-use std::sync::{Arc, Mutex, Wait};
+use std::sync::{Arc, Mutex, MutexGuard, Wait};
+use std::{hint, mem};
 use steps::Steps;
 use write_history::{History, Pass};
 
@@ -35,6 +35,9 @@ pub struct BaseShards<N: Naming> {
     ghost named: { arc_value history ≡ N.history },
     ghost all: { vec_len shards ≡ 16 },
 }
+
+/// How often a thread tries to take a lock that another one has, before it sleeps.
+const TRIES: u32 = 1_000;
 
 /// The number of the part that the range's table is of.
 fn part_of(range: &Range) -> u8
@@ -91,6 +94,22 @@ impl<N: Naming> BaseShards<N> {
         &self.shards[usize::from(number)]
     }
 
+    /// Takes the lock of the part with a number. Most calls have it for a few microseconds, which is less than it takes to sleep
+    /// and be woken. So while another thread has it, this one tries again and again, some tens of microseconds at most, and
+    /// sleeps only then.
+    fn lock_part<R: Wait>(&self, rt: &R, number: u8) -> MutexGuard<'_, Shard<N>>
+        requires { number < 16 }
+    {
+        let lock = self.shard(number);
+        for _ in 0..TRIES {
+            if let Some(part) = lock.try_lock() {
+                return part;
+            }
+            hint::spin_loop();
+        }
+        lock.lock(rt)
+    }
+
     /// The base pairs of the range after the first p entries that the pass has seen, in the order of their keys. Where the
     /// part of its table has not come to p, it is brought there. While another thread has the part, this one sleeps.
     ///
@@ -113,7 +132,7 @@ impl<N: Naming> BaseShards<N> {
         ensures spent { steps.old ≤ steps.new }
     {
         let number = shard_of(range.table(), SHARDS);
-        let mut shard = self.shard(number).lock(rt);
+        let mut shard = self.lock_part(rt, number);
         shard.bring(rt, &self.history, pass, number, p)?;
         shard.pairs_at(p, range, steps)
     }
@@ -138,7 +157,7 @@ impl<N: Naming> BaseShards<N> {
         ensures spent { steps.old ≤ steps.new }
     {
         let number = shard_of(range.table(), SHARDS);
-        let mut shard = self.shard(number).lock(rt);
+        let mut shard = self.lock_part(rt, number);
         shard.bring(rt, &self.history, pass, number, p)?;
         shard.changed(q, p, range, steps)
     }
@@ -197,8 +216,7 @@ impl<N: Naming> BaseShards<N> {
         requires within { p ≤ length pass.old.view }
         ensures { ReadsOn pass.old pass.new }
     {
-        self.shard(shard)
-            .lock(rt)
+        self.lock_part(rt, shard)
             .bring(rt, &self.history, pass, shard, p)
     }
 
@@ -215,7 +233,7 @@ impl<N: Naming> BaseShards<N> {
         if ranges.is_empty() {
             return Ok(());
         }
-        self.shard(number).lock(rt).follow(id, ranges)
+        self.lock_part(rt, number).follow(id, ranges)
     }
 
     /// Follows the ranges for the id: from now on it is marked before a part takes an entry that puts or removes a key of

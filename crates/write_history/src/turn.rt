@@ -12,6 +12,7 @@ use crate::rule::{Place, SharedBoard};
 use join_types::Entry;
 use out_of_memory::OutOfMemory;
 use std::alloc::Global;
+use std::hint;
 use std::sync::Wait;
 
 /// The word of the turn.
@@ -32,7 +33,24 @@ const TAKEN: u64 = 1;
 /// A thread has the turn, and others may sleep until it is free.
 const AWAITED: u64 = 2;
 
-/// Takes the turn, and the log with it. While another thread has it, this one sleeps, and is woken.
+/// How often a thread looks whether the turn is free, before it sleeps.
+const LOOKS: u32 = 200;
+
+/// Waits until the turn is found free, some microseconds at most. Most threads have it for less, and to sleep and be woken
+/// takes longer.
+fn await_turn(board: &SharedBoard)
+    requires { IsSized board.now.table_id }
+{
+    for _ in 0..LOOKS {
+        if board.peek(TURN) == FREE {
+            return;
+        }
+        hint::spin_loop();
+    }
+}
+
+/// Takes the turn, and the log with it. While another thread has it, this one waits for some microseconds, and then sleeps and
+/// is woken.
 pub(crate) fn take_turn<R: Wait>(rt: &R, board: &SharedBoard, place: &mut Place)
     requires sized { IsSized board.now.table_id }
     requires own { place.old.table_id ≡ board.now.table_id }
@@ -40,10 +58,12 @@ pub(crate) fn take_turn<R: Wait>(rt: &R, board: &SharedBoard, place: &mut Place)
     ensures own { place.new.table_id ≡ place.old.table_id }
     ensures taken { TakesTurn place.old.me place.new.me }
 {
+    await_turn(board);
     if board.compare_exchange::<Take>(place, TURN, FREE, TAKEN) == FREE {
         return;
     }
     for _ in rt.forever() {
+        await_turn(board);
         if board.swap::<Take>(place, TURN, AWAITED) == FREE {
             return;
         }

@@ -168,7 +168,9 @@ impl RangeState {
     /// then, and changed pairs of the value source are applied. Where the reader does not know what changed in a range that
     /// was read, it is filled again instead; where it stands at p already, nothing is done.
     ///
-    /// It asks the reader once for each need, and then takes work for each changed key that is logarithmic in the rows.
+    /// It asks the reader once for each need. Each changed key of the value source then takes work that is logarithmic in the
+    /// rows and linear in the pending slots, and each one of a check source work that is linear in the needs and in the
+    /// pending slots.
     ///
     /// Where the ranges of its needs are bare from its position on to p, it takes at most one step for each need and three
     /// for each key of its range that was put or removed in between.
@@ -227,7 +229,8 @@ impl RangeState {
 
     /// Mends it where something pending meets a range: the rows under those slots are found again where it stands.
     ///
-    /// For each of the slots it takes the search for the rows under them, and what evaluating the join under them takes.
+    /// For each of the slots it takes the search for the rows under them, and what evaluating the join under them takes; each
+    /// need that is found is compared with all needs.
     ///
     /// On `OutOfMemory` it is unchanged, or nothing is kept.
     ///

@@ -1,5 +1,5 @@
 -- What the status of `serve` says.
-use Rattle.std.specs.Prelude.{◌≡◌, ◌⊎◌, ℕ, [], List, Option, Some, Ok, true, is_err}
+use Rattle.std.specs.Prelude.{◌≡◌, ◌⊎◌, ℕ, [], List, Option, Some, None, Ok, true, is_err}
 use Rattle.semantics.specs.Texts.{Text}
 use Rattle.semantics.specs.Joins.{Join}
 use Rattle.semantics.specs.Histories.{History}
@@ -15,6 +15,11 @@ pub record AreOfFile (bytes : Text) (joins : List Join) : Type 0 where
   pub history : History
   pub is : file_history bytes ≡ Ok history
   pub same : declared joins ≡ history
+
+-- the joins that are served: none where no joins file is named, and otherwise those that its bytes declare, so no line of it is refused
+abbrev pub AreServed : Option (List File) → Option Text → List Join → Type 0
+AreServed held None joins = joins ≡ []
+AreServed held (Some name) joins = (bytes : Text) × IsTaken held name bytes × AreOfFile bytes joins
 
 -- the statuses with which it may end for its joins file
 abbrev pub IsJoinsEnd : ℕ → Type 0
@@ -45,16 +50,16 @@ pub record EndsUnserved (status : ℕ) (held : Option (List File)) (joins taken 
   pub ending : Unserved
   pub ended : UnservedAs ending status held joins taken taken_now
 
--- how `serve` ends: the doors closed, or failed, or it ended with no link
+-- how `serve` ends: the doors closed, or failed, after these joins were declared; or it ended with no link
 pub data Serving : Type 0 where
-  closed : Serving
-  failed : Serving
+  closed : List Join → Serving
+  failed : List Join → Serving
   unserved : Unserved → Serving
 
--- what each end says of the status, of what the sink took and of what the doors hold
+-- what each end says of the status, of the joins file, of what the sink took and of what the doors hold
 abbrev pub ServedAs : {K : Type 0} → Serving → ℕ → Option (List File) → Option Text → Option Text → Option Text → Option (List K) → Type 0
-ServedAs closed status held joins taken taken_now links = (status ≡ 0) × Took taken taken_now [] × HoldNone links
-ServedAs failed status held joins taken taken_now links = (status ≡ 8) × Took taken taken_now []
+ServedAs (closed served) status held joins taken taken_now links = (status ≡ 0) × AreServed held joins served × Took taken taken_now [] × HoldNone links
+ServedAs (failed served) status held joins taken taken_now links = (status ≡ 8) × AreServed held joins served × Took taken taken_now []
 ServedAs (unserved ending) status held joins taken taken_now links = UnservedAs ending status held joins taken taken_now
 
 -- `serve` with or without a joins file ended one of these ways; `links` is what the doors hold then

@@ -5,7 +5,7 @@ ghost use Rattle.pq_io.specs.Faults.{Rose};
 ghost use Rattle.pq_io.specs.Streams.{Took, TookProperPrefix};
 ghost use Rattle.server.specs.Doors.{HoldNone};
 ghost use Rattle.server.specs.Staffs.{AreDeclarable};
-ghost use Rattle.pequod.specs.Serves.{AreOfFile, EndsUnserved, IsJoinsEnd, ServesTo};
+ghost use Rattle.pequod.specs.Serves.{AreOfFile, AreServed, EndsUnserved, IsJoinsEnd, ServesTo};
 
 use crate::status::Status;
 use command_words::Room;
@@ -80,7 +80,8 @@ fn named_joins<W: Sink, F: Shelf>(
     sink: &mut W,
     shelf: &mut F,
 ) -> Result<Vec<Join>, Status>
-    ensures joins { IfOk result (λ joins. AreDeclarable joins.items) }
+    ensures joins { IfOk result (λ joins. AreServed (F.held shelf.old) (option_map (λ text. text.now) name.entry) joins.items) }
+    ensures declarable { IfOk result (λ joins. AreDeclarable joins.items) }
     ensures same_sink { OnOk result (sink.new ≡ sink.old) }
     ensures ended { IfErr result (λ status. EndsUnserved status.number (F.held shelf.old) (option_map (λ text. text.now) name.entry) (W.taken sink.old) (W.taken sink.new)) }
     ensures same_held { F.held shelf.new ≡ F.held shelf.old }

@@ -2,12 +2,21 @@ use Rattle.std.proofs.Common.{◌≡◌, [], option_map, is_err, MatchOption, tr
 use Rattle.protocol.specs.JoinsFile.{check_text, file_history}
 use Rattle.pq_io.specs.Streams.{Took, TookProperPrefix}
 use Rattle.pq_io.proofs.StreamLemmas.{Took-nothing}
-use Rattle.pequod.specs.Serves.{AreOfFile, IsRefusedFile, refused, cut, no_memory}
+use Rattle.pequod.specs.Serves.{AreOfFile, AreServed, IsRefusedFile, refused, cut, no_memory}
 use Rattle.pequod.proofs.FileLemmas.{are_declarable}
 use Rattle.pequod.proofs.serve.named_joins.Goals as goal
 
 pub returns-in-Ok-Some-clause-joins : goal.returns-in-Ok-Some-clause-joins
 returns-in-Ok-Some-clause-joins g c =
+    let joins = c.in-Ok-Some.joins.items in
+    let of_file : AreOfFile c.as_slice.result.now joins =
+    subst (λ found. MatchOption found (is_err (file_history c.as_slice.result.now) ≡ true) (λ joins. AreOfFile c.as_slice.result.now joins.items)) c.in-Ok-Some.field-0-is c.in-Ok-Some.ensures in
+    subst (λ name. AreServed (g.F.Shelf.held c.args.shelf.now) name joins)
+    (sym (ap (option_map (λ text. text.now)) c.in-Some.is))
+    (c.in-Ok.bytes.items, c.in-Ok.ensures.bytes, subst (λ t. AreOfFile t joins) c.as_slice.ensures.value of_file)
+
+pub returns-in-Ok-Some-clause-declarable : goal.returns-in-Ok-Some-clause-declarable
+returns-in-Ok-Some-clause-declarable g c =
     are_declarable c.as_slice.result.now c.in-Ok-Some.joins.items
     (subst (λ found. MatchOption found (is_err (file_history c.as_slice.result.now) ≡ true) (λ joins. AreOfFile c.as_slice.result.now joins.items)) c.in-Ok-Some.field-0-is c.in-Ok-Some.ensures)
 

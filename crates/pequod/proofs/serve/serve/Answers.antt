@@ -9,11 +9,12 @@ returns-in-Err-clause-serve g c = record { ending = unserved c.in-Err.ensures.en
 
 pub returns-clause-serve : goal.returns-clause-serve
 returns-clause-serve g c =
+    let joins = c.in-Ok.joins.items in
     let nothing = subst (λ s. Took (g.W.Sink.taken c.args.sink.now) (g.W.Sink.taken s) []) (sym c.in-Ok.ensures.same_sink) (Took-nothing _) in
     ⊎_elim
-    (λ zero. record { ending = closed; served = (zero, nothing, c.serve_links.ensures.closed zero) })
+    (λ zero. record { ending = closed joins; served = (zero, c.in-Ok.ensures.joins, nothing, c.serve_links.ensures.closed zero) })
     (λ others. ⊎_elim
     (λ six. record { ending = unserved no_memory; served = (six, nothing) })
-    (λ eight. record { ending = failed; served = (eight, nothing) })
+    (λ eight. record { ending = failed joins; served = (eight, c.in-Ok.ensures.joins, nothing) })
     others)
     c.serve_links.ensures.ends

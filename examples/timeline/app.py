@@ -3,7 +3,7 @@
 
     python3 app.py [--port 8000] [--pequod 127.0.0.1:7000]
 
-Every page is scans and gets, and each button is one put or remove: the timelines and the counts are kept by the server. It is
+Every page is scans, and each button is one put or remove: the timelines and the counts are kept by the server. It is
 an example: whoever opens it is whoever they say, so it listens on loopback alone.
 """
 

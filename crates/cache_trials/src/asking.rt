@@ -1,0 +1,226 @@
+// What clients ask.
+ghost use Rattle.std.specs.Prelude.{◌<◌, length};
+
+use join_lang::parse;
+use key_space::{Key, Range, Value};
+use rand_core::utils::NextWord;
+use rand_pcg::Lcg64Xsh32;
+use request_codec::{Reply, Request};
+use session::Service;
+use std::alloc::Global;
+use std::process::Abort;
+
+/// Joins of ranks 0 to 3, each above those that it reads. The output of `page` is never kept.
+pub const JOINS: [&str; 7] = [
+    "t|<user>|<time>|<poster> = check s|<user>|<poster> copy p|<poster>|<time>",
+    "karma|<poster> = sum v|<poster>|<user>",
+    "votes|<poster> = count v|<poster>|<user>",
+    "best|<poster> = max v|<poster>|<user>",
+    "top|<user>|<poster> = check s|<user>|<poster> copy karma|<poster>",
+    "page|<user>|<poster> = pull check top|<user>|<poster> copy votes|<poster>",
+    "wall|<user>|<time>|<poster>|<other> = check page|<user>|<other> copy t|<user>|<time>|<poster>",
+];
+
+/// The tables that are written, and those of the outputs.
+pub const TABLES: [&str; 10] = [
+    "s", "p", "v", "t", "karma", "votes", "best", "top", "page", "wall",
+];
+
+/// A user, who is a poster too: of them there are few, so that most of what is asked meets what others wrote.
+#[derive(Clone, Copy, Debug)]
+enum Person {
+    Ann,
+    Bob,
+    Cat,
+}
+
+/// All of them.
+const PEOPLE: [Person; 3] = [Person::Ann, Person::Bob, Person::Cat];
+
+/// How many times posts have. They are the values of votes too.
+const TIMES: u32 = 4;
+
+/// A kind of request.
+#[derive(Clone, Copy, Debug)]
+enum Act {
+    /// The join at a place of `JOINS`.
+    Declare(usize),
+    Subscribe,
+    Unsubscribe,
+    Post,
+    Retract,
+    Vote,
+    Unvote,
+    /// A put at a key that is computed.
+    Intrude,
+    Karma,
+    Best,
+    Timeline,
+    /// All timelines from the midst of one on.
+    Timelines,
+    Tops,
+    Page,
+    Walls,
+    /// All of the table at a place of `TABLES`.
+    Whole(usize),
+}
+
+/// The kinds as they are drawn, each as often as it stands here.
+const DRAWN: [Act; 32] = [
+    Act::Declare(3),
+    Act::Subscribe,
+    Act::Unsubscribe,
+    Act::Post,
+    Act::Post,
+    Act::Retract,
+    Act::Vote,
+    Act::Unvote,
+    Act::Intrude,
+    Act::Karma,
+    Act::Karma,
+    Act::Best,
+    Act::Best,
+    Act::Timeline,
+    Act::Timeline,
+    Act::Timeline,
+    Act::Timelines,
+    Act::Timelines,
+    Act::Tops,
+    Act::Tops,
+    Act::Tops,
+    Act::Page,
+    Act::Page,
+    Act::Page,
+    Act::Walls,
+    Act::Walls,
+    Act::Walls,
+    Act::Whole(1),
+    Act::Whole(2),
+    Act::Whole(3),
+    Act::Whole(8),
+    Act::Whole(9),
+];
+
+/// One request: its kind, and whom and when it is about.
+#[derive(Clone, Copy, Debug)]
+pub struct Ask {
+    act: Act,
+    user: Person,
+    poster: Person,
+    time: u32,
+}
+
+impl Person {
+    /// The name that stands in keys.
+    fn name(self) -> &'static str {
+        match self {
+            Person::Ann => "ann",
+            Person::Bob => "bob",
+            Person::Cat => "cat",
+        }
+    }
+}
+
+/// One of these.
+fn pick<T: Copy>(generator: &mut Lcg64Xsh32, choices: &[T]) -> T
+    requires { 0 < length choices.now }
+{
+    choices[generator.next_word() as usize % choices.len()]
+}
+
+/// A key of these segments.
+fn key<R: Abort>(rt: &R, alloc: Global, segments: &[&str]) -> Key {
+    let text = segments.join(alloc, "|").expect(rt, "memory");
+    Key::read(alloc, text.as_str()).expect(rt, "a key")
+}
+
+/// The range of the keys that go on behind these segments.
+fn behind<R: Abort>(rt: &R, alloc: Global, segments: &[&str]) -> Range {
+    let text = segments.join(alloc, "|").expect(rt, "memory");
+    let low = format!(in alloc; "{text}|").expect(rt, "memory");
+    let high = format!(in alloc; "{text}}}").expect(rt, "memory");
+    Range::read(alloc, low.as_str(), high.as_str()).expect(rt, "a range")
+}
+
+/// The range from a key of these segments on to the end of its table.
+fn from<R: Abort>(rt: &R, alloc: Global, segments: &[&str]) -> Range {
+    let low = segments.join(alloc, "|").expect(rt, "memory");
+    let table = segments.first().expect(rt, "a table");
+    let high = format!(in alloc; "{table}}}").expect(rt, "memory");
+    Range::read(alloc, low.as_str(), high.as_str()).expect(rt, "a range")
+}
+
+impl Ask {
+    /// A request that declares the join at a place of `JOINS`.
+    pub fn declare(place: usize) -> Ask {
+        Ask::of(Act::Declare(place))
+    }
+
+    /// A request for all of the table at a place of `TABLES`.
+    pub fn whole(place: usize) -> Ask {
+        Ask::of(Act::Whole(place))
+    }
+
+    /// A request of a kind for which it does not matter whom and when it is about.
+    fn of(act: Act) -> Ask {
+        Ask {
+            act,
+            user: Person::Ann,
+            poster: Person::Ann,
+            time: 1,
+        }
+    }
+
+    /// A request that is drawn.
+    pub fn draw(generator: &mut Lcg64Xsh32) -> Ask {
+        Ask {
+            act: pick(generator, &DRAWN),
+            user: pick(generator, &PEOPLE),
+            poster: pick(generator, &PEOPLE),
+            time: 1 + generator.next_word() % TIMES,
+        }
+    }
+
+    /// The request.
+    pub fn request<R: Abort>(&self, rt: &R, alloc: Global) -> Request {
+        let (user, poster) = (self.user.name(), self.poster.name());
+        let time = format!(in alloc; "{}", self.time).expect(rt, "memory");
+        let time = time.as_str();
+        let put = |segments: &[&str], text: &str| {
+            let value = Value::read(alloc, text).expect(rt, "a value");
+            Request::Put(key(rt, alloc, segments), value)
+        };
+        match self.act {
+            Act::Declare(place) => {
+                let text = JOINS.get(place).expect(rt, "a join");
+                Request::Declare(parse(alloc, text).expect(rt, "a join"))
+            }
+            Act::Subscribe => put(&["s", user, poster], "1"),
+            Act::Unsubscribe => Request::Remove(key(rt, alloc, &["s", user, poster])),
+            Act::Post => put(&["p", poster, time], user),
+            Act::Retract => Request::Remove(key(rt, alloc, &["p", poster, time])),
+            Act::Vote => put(&["v", poster, user], time),
+            Act::Unvote => Request::Remove(key(rt, alloc, &["v", poster, user])),
+            Act::Intrude => put(&["t", user, time, poster], "no"),
+            Act::Karma => Request::Get(key(rt, alloc, &["karma", poster])),
+            Act::Best => Request::Get(key(rt, alloc, &["best", poster])),
+            Act::Timeline => Request::Scan(behind(rt, alloc, &["t", user])),
+            Act::Timelines => Request::Scan(from(rt, alloc, &["t", user, time])),
+            Act::Tops => Request::Scan(behind(rt, alloc, &["top", user])),
+            Act::Page => Request::Scan(behind(rt, alloc, &["page", user])),
+            Act::Walls => Request::Scan(behind(rt, alloc, &["wall", user])),
+            Act::Whole(place) => {
+                let table = TABLES.get(place).expect(rt, "a table");
+                Request::Scan(behind(rt, alloc, &[table]))
+            }
+        }
+    }
+
+    /// What a client answers to the request.
+    pub fn put_to<S: Service, R: Abort>(&self, rt: &R, alloc: Global, client: &mut S) -> Reply {
+        match self.request(rt, alloc) {
+            Request::Quit => panic!(rt; "no client is asked to quit"),
+            request => client.answer(request),
+        }
+    }
+}

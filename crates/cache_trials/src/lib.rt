@@ -1,0 +1,17 @@
+// A cache that several threads use at once, held to plain evaluation: tests alone, with nothing for other crates.
+//
+// Four clients ask what is drawn, each on a thread of its own, of a cache that has few cells and may keep few rows. Afterwards
+// they meet and read all tables. The writes that were acknowledged, each at its position, are the history; each reply has to be
+// what evaluating the joins afresh gives after the entries that it names, and no client is answered at a position below one
+// that it was told before. What is held against the replies knows nothing of what a cache keeps.
+//
+// It stands on `pequod_cache` with `base_shards` and `pq_io`, on `plain_client` and `join_model`, which evaluate afresh, on
+// `rand_pcg` for what is drawn, and on what these stand on.
+#![tactic(auto)]
+
+#[cfg(test)]
+mod asking;
+#[cfg(test)]
+mod checking;
+#[cfg(test)]
+mod together;

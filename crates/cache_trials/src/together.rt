@@ -1,0 +1,210 @@
+// Four clients of one cache, each on a thread of its own.
+ghost use Rattle.std.specs.Prelude.{◌≡◌, ◌≤◌, length};
+ghost use Rattle.pequod_cache.specs.Sitting.{AreOf, AreWriters};
+
+use crate::asking::{Ask, JOINS, TABLES};
+use crate::checking::{Afresh, Answered, expect_ascending};
+use base_shards::Naming;
+use pequod_cache::{Cache, ClientService, Seats};
+use pq_io::OpenGate;
+use rand_core::SeedableRng;
+use rand_pcg::Lcg64Xsh32;
+use session::Service;
+use std::alloc::Global;
+use std::marker::Brand;
+use std::process::Abort;
+use std::sync::Wait;
+use std::test::Fail;
+use std::thread;
+use std::thread::Threads;
+
+/// How many clients there are.
+const CLIENTS: u32 = 4;
+
+/// A client with what it asked and was answered.
+#[derive(Drop)]
+struct Talk<S> {
+    client: S,
+    answers: Vec<Answered>,
+}
+
+impl<S: Service> Talk<S> {
+    /// The client is asked this.
+    fn ask<R: Abort>(&mut self, rt: &R, alloc: Global, ask: Ask) {
+        let reply = ask.put_to(rt, alloc, &mut self.client);
+        let noted = self.answers.push(Answered { ask, reply });
+        assert!(rt; noted.is_ok(), "memory");
+    }
+
+    /// The client is asked to declare the joins.
+    fn declare_joins<R: Abort>(&mut self, rt: &R, alloc: Global) {
+        for place in 0..JOINS.len() {
+            self.ask(rt, alloc, Ask::declare(place));
+        }
+    }
+
+    /// The client is asked so often what is drawn from a number.
+    fn ask_drawn<R: Abort>(self, rt: &R, alloc: Global, number: u64, count: usize) -> Talk<S> {
+        let mut talk = self;
+        let mut generator = Lcg64Xsh32::seed_from_u64(number);
+        for _ in 0..count {
+            talk.ask(rt, alloc, Ask::draw(&mut generator));
+        }
+        talk
+    }
+
+    /// The client is asked for all that stands.
+    fn ask_for_all<R: Abort>(&mut self, rt: &R, alloc: Global) {
+        for place in 0..TABLES.len() {
+            self.ask(rt, alloc, Ask::whole(place));
+        }
+    }
+}
+
+/// A client of the cache meets each of the others.
+fn meet<'a, 'g, N: Naming, R: Wait>(
+    rt: &R,
+    first: &mut Talk<ClientService<'a, 'g, R, N, OpenGate>>,
+    others: &mut [Talk<ClientService<'a, 'g, R, N, OpenGate>>],
+) {
+    for other in others {
+        first.client.client.meet(rt, &mut other.client.client);
+    }
+}
+
+/// Who talks with the clients of a cache that may keep so many rows. The joins are declared.
+fn begin<'a, 'g, N: Naming, R: Wait + Abort>(
+    rt: &'a R,
+    alloc: Global,
+    gate: &'g OpenGate,
+    seats: Seats,
+    rows: u64,
+) -> Result<Vec<Talk<ClientService<'a, 'g, R, N, OpenGate>>>, Fail>
+    requires named { seats.history ≡ N.history }
+    requires clients { AreWriters N.history (length seats.clients.items) seats.clients.items }
+    requires shards { AreOf N.history 16 seats.shards.items }
+    requires cells { AreOf N.history (length seats.cells.items) seats.cells.items }
+    requires some_cells { 1 ≤ length seats.cells.items }
+    requires few_cells { length seats.cells.items ≤ 65536 }
+    requires some_rows { 1 ≤ rows }
+{
+    let mut talks = Vec::new(alloc);
+    for client in Cache::<N>::make(alloc, seats, rows, gate)? {
+        talks.push(Talk {
+            client: ClientService { rt, client },
+            answers: Vec::new(alloc),
+        })?;
+    }
+    let first = talks.first_mut().expect(rt, "a client");
+    first.declare_joins(rt, alloc);
+    Ok(talks)
+}
+
+/// Each client is asked so often on a thread of its own. Then they meet, and each is asked for all that stands.
+fn talk_together<'a, 'g, N: Naming + Send + Sync, R: Threads + Wait + Abort + Sync>(
+    rt: &'a R,
+    alloc: Global,
+    talks: Vec<Talk<ClientService<'a, 'g, R, N, OpenGate>>>,
+    count: usize,
+) -> Result<Vec<Talk<ClientService<'a, 'g, R, N, OpenGate>>>, Fail> {
+    let mut jobs = Vec::new(alloc);
+    for talk in talks {
+        jobs.push((talk, jobs.len() as u64))?;
+    }
+    let mut talks = thread::map_vec(
+        rt,
+        jobs,
+        &|(talk, number)| talk.ask_drawn(rt, alloc, number, count),
+    )?;
+    let mut last = talks.pop().expect(rt, "a client");
+    meet(rt, &mut last, talks.as_mut_slice());
+    meet(rt, &mut last, talks.as_mut_slice());
+    talks.push(last)?;
+    for talk in talks.iter_mut() {
+        talk.ask_for_all(rt, alloc);
+    }
+    Ok(talks)
+}
+
+/// What all clients asked and were answered, each client's in the order in which it asked.
+fn answers_of<S: Drop>(alloc: Global, talks: Vec<Talk<S>>) -> Result<Vec<Vec<Answered>>, Fail> {
+    let mut all = Vec::new(alloc);
+    for Talk { answers, .. } in talks {
+        all.push(answers)?;
+    }
+    Ok(all)
+}
+
+/// As many places, each for the answers of one position, as there are answers, which are more than the entries.
+fn places(alloc: Global, all: &[Vec<Answered>]) -> Result<Vec<Vec<Answered>>, Fail> {
+    let mut places = Vec::new(alloc);
+    for _ in all.iter().flatten() {
+        places.push(Vec::new(alloc))?;
+    }
+    Ok(places)
+}
+
+/// Puts the answers of a client, whose positions do not fall, at the places of their positions.
+fn put_in_place<R: Abort>(
+    rt: &R,
+    answers: Vec<Answered>,
+    places: &mut [Vec<Answered>],
+) -> Result<(), Fail> {
+    expect_ascending(rt, answers.as_slice());
+    for answered in answers {
+        let position = answered.position(rt) as usize;
+        let place = places.get_mut(position).expect(rt, "a place");
+        place.push(answered)?;
+    }
+    Ok(())
+}
+
+/// The answers at each place are what evaluating afresh gives after so many entries.
+fn expect_afresh<R: Abort>(rt: &R, alloc: Global, places: &[Vec<Answered>]) {
+    let mut afresh = Afresh::new(alloc);
+    for answers in places {
+        afresh.go_on(rt, answers.as_slice());
+    }
+}
+
+/// Four clients are asked so often by threads, and all that they were answered is what evaluating afresh gives.
+fn hold<N: Naming + Send + Sync, R: Threads + Wait + Abort + Sync>(
+    rt: &R,
+    alloc: Global,
+    gate: &OpenGate,
+    seats: Seats,
+    rows: u64,
+    count: usize,
+) -> Result<(), Fail>
+    requires named { seats.history ≡ N.history }
+    requires clients { AreWriters N.history (length seats.clients.items) seats.clients.items }
+    requires shards { AreOf N.history 16 seats.shards.items }
+    requires cells { AreOf N.history (length seats.cells.items) seats.cells.items }
+    requires some_cells { 1 ≤ length seats.cells.items }
+    requires few_cells { length seats.cells.items ≤ 65536 }
+    requires some_rows { 1 ≤ rows }
+{
+    let talks = begin::<N, R>(rt, alloc, gate, seats, rows)?;
+    let talks = talk_together(rt, alloc, talks, count)?;
+    let all = answers_of(alloc, talks)?;
+    let mut places = places(alloc, all.as_slice())?;
+    for answers in all {
+        put_in_place(rt, answers, places.as_mut_slice())?;
+    }
+    expect_afresh(rt, alloc, places.as_slice());
+    Ok(())
+}
+
+#[test]
+fn few_cells_and_rows(rt: HostRuntime) -> Result<(), Fail> {
+    let alloc = rt.alloc();
+    let seats = Seats::make(alloc, CLIENTS, 3)?;
+    hold::<Brand, _>(&rt, alloc, &OpenGate, seats, 12, 20_000)
+}
+
+#[test]
+fn many_cells_and_rows(rt: HostRuntime) -> Result<(), Fail> {
+    let alloc = rt.alloc();
+    let seats = Seats::make(alloc, CLIENTS, 64)?;
+    hold::<Brand, _>(&rt, alloc, &OpenGate, seats, 100_000, 5_000)
+}

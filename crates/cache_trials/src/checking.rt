@@ -1,6 +1,5 @@
 // Replies held to plain evaluation.
 use crate::asking::Ask;
-use join_model::{Entry, Table, Write, state};
 use key_space::Key;
 use plain_client::PlainClient;
 use request_codec::{Reply, Request, write};
@@ -47,14 +46,16 @@ pub fn expect_ascending<R: Abort>(rt: &R, answers: &[Answered]) {
     }
 }
 
-/// What stands after a beginning of the history: who judges its writes, and the entries that its state follows from, which are
-/// the joins and the last put at each key where a pair stands. The state is evaluated afresh once it is asked for after an entry.
+/// What stands after a beginning of the history: who judges its writes, and the writes that its state follows from, which are
+/// those of the joins and the last put at each key where a pair stands. Reads are answered by a client that is made from these
+/// once one is asked after a write, and keeps nothing.
 #[derive(Drop)]
 pub struct Afresh {
     alloc: Global,
     plain: PlainClient,
-    entries: Vec<Entry>,
-    state: Option<Table>,
+    joins: Vec<Ask>,
+    puts: Vec<(Key, Ask)>,
+    reader: Option<PlainClient>,
 }
 
 impl Afresh {
@@ -63,57 +64,66 @@ impl Afresh {
         Afresh {
             alloc,
             plain: PlainClient::new(alloc),
-            entries: Vec::new(alloc),
-            state: None,
+            joins: Vec::new(alloc),
+            puts: Vec::new(alloc),
+            reader: None,
         }
     }
 
-    /// The state at this point.
-    fn state<R: Abort>(&mut self, rt: &R) -> &Table {
-        let (alloc, entries) = (self.alloc, self.entries.as_slice());
-        self.state
-            .get_or_insert_with(|| state(alloc, entries).expect(rt, "memory"))
-    }
-
-    /// Takes out the put at a key, if there is one.
-    fn take_out(&mut self, key: &Key) {
-        let found = self.entries.iter().position(
-            |entry| matches!(&entry.write, Write::Put(at, _) if at == key),
-        );
-        if let Some(place) = found {
-            self.entries.swap_remove(place);
+    /// A client of a history with the writes that the state follows from, and no others.
+    fn make_reader<R: Abort>(&self, rt: &R) -> PlainClient {
+        let mut reader = PlainClient::new(self.alloc);
+        let puts = self.puts.iter().map(|(_, ask)| ask);
+        for ask in self.joins.iter().chain(puts) {
+            let reply = ask.put_to(rt, self.alloc, &mut reader);
+            assert!(rt; matches!(reply, Reply::Done(_)), "{ask:?}");
         }
+        reader
     }
 
-    /// Enters a write, which no cause refuses.
-    fn enter<R: Abort>(&mut self, rt: &R, ask: Ask) {
-        self.state = None;
-        let write = match ask.request(rt, self.alloc) {
-            Request::Put(key, value) => {
-                self.take_out(&key);
-                Write::Put(key, value)
-            }
-            Request::Remove(key) => return self.take_out(&key),
-            Request::Declare(join) => Write::Declare(join),
-            _ => panic!(rt; "{ask:?} is no write"),
+    /// What a read finds in the state at this point.
+    fn read<R: Abort>(&mut self, rt: &R, ask: Ask) -> Reply {
+        let mut reader = match self.reader.take() {
+            Some(reader) => reader,
+            None => self.make_reader(rt),
         };
-        let entered = self.entries.push(Entry { client: 0, write });
-        assert!(rt; entered.is_ok(), "memory");
+        let found = ask.put_to(rt, self.alloc, &mut reader);
+        self.reader = Some(reader);
+        let position = self.plain.len();
+        match found {
+            Reply::Found(_, value) => Reply::Found(position, value),
+            Reply::Absent(_) => Reply::Absent(position),
+            Reply::Pairs(_, pairs) => Reply::Pairs(position, pairs),
+            other => panic!(rt; "{other:?} is no reply to {ask:?}"),
+        }
     }
 
     /// The reply to a request at this point. To a write that no cause refuses it is the one that is given as it enters.
     fn reply<R: Abort>(&mut self, rt: &R, ask: Ask) -> Reply {
-        let position = self.plain.len();
         match ask.request(rt, self.alloc) {
-            Request::Get(key) => match self.state(rt).get(&key) {
-                Some(value) => Reply::Found(position, value.copy().expect(rt, "memory")),
-                None => Reply::Absent(position),
-            },
-            Request::Scan(range) => {
-                let pairs = self.state(rt).within(&range).expect(rt, "memory");
-                Reply::Pairs(position, pairs)
-            }
+            Request::Get(_) | Request::Scan(_) => self.read(rt, ask),
             _ => ask.put_to(rt, self.alloc, &mut self.plain),
+        }
+    }
+
+    /// Takes out the put at a key, if there is one.
+    fn take_out(&mut self, key: &Key) {
+        if let Some(place) = self.puts.iter().position(|(at, _)| at == key) {
+            self.puts.swap_remove(place);
+        }
+    }
+
+    /// The state is the one after a write, which no cause refuses.
+    fn enter<R: Abort>(&mut self, rt: &R, ask: Ask) {
+        self.reader = None;
+        match ask.request(rt, self.alloc) {
+            Request::Put(key, _) => {
+                self.take_out(&key);
+                assert!(rt; self.puts.push((key, ask)).is_ok(), "memory");
+            }
+            Request::Remove(key) => self.take_out(&key),
+            Request::Declare(_) => assert!(rt; self.joins.push(ask).is_ok(), "memory"),
+            _ => panic!(rt; "{ask:?} is no write"),
         }
     }
 

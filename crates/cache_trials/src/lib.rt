@@ -5,7 +5,7 @@
 // what evaluating the joins afresh gives after the entries that it names, and no client is answered at a position below one
 // that it was told before. What is held against the replies knows nothing of what a cache keeps.
 //
-// It stands on `pequod_cache` with `base_shards` and `pq_io`, on `plain_client` and `join_model`, which evaluate afresh, on
+// It stands on `pequod_cache` with `base_shards` and `pq_io`, on `plain_client`, which evaluates afresh, on
 // `rand_pcg` for what is drawn, and on what these stand on.
 #![tactic(auto)]
 

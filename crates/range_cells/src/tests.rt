@@ -1,4 +1,5 @@
-// What is kept, evicted and read again, seen by a gate that counts; and two threads at once. All with ample memory.
+// What is kept, evicted and read again, seen by a gate that counts and by the steps of reads; and two threads at once. All with
+// ample memory.
 ghost use Rattle.std.specs.Prelude.{◌≡◌, ◌+◌, ◌<◌, ◌≤◌, All, length, IfOk};
 ghost use Rattle.std.specs.Arc.{arc_value};
 ghost use Rattle.join_set.specs.Summaries.{StandsFor};
@@ -31,6 +32,15 @@ use write_history::{History, Pass};
 #[derive(Drop)]
 struct Counter {
     passed: Cell<u64>,
+}
+
+impl Counter {
+    /// It was not passed yet.
+    fn new() -> Counter {
+        Counter {
+            passed: Cell::new(0),
+        }
+    }
 }
 
 impl Gate for Counter {
@@ -155,6 +165,13 @@ fn standing_after(rt: &impl Abort, alloc: Global, entries: &[Entry]) -> Standing
     standing
 }
 
+/// What a read found, and how many steps it took.
+#[derive(Drop)]
+struct Seen {
+    pairs: Vec<Pair>,
+    steps: u64,
+}
+
 /// The pairs of the range after the first p entries.
 fn read_at<N: Naming, G: Gate, L: Ledger, R: Wait + Abort>(
     rt: &R,
@@ -165,7 +182,7 @@ fn read_at<N: Naming, G: Gate, L: Ledger, R: Wait + Abort>(
     range: &Range,
     gate: &G,
     blank: Blank,
-) -> (Pass, Vec<Pair>)
+) -> (Pass, Seen)
     requires name { blank.name ≡ L.name }
     requires parts { blank.parts ≡ L.parts }
     requires some { 0 < blank.parts }
@@ -181,7 +198,11 @@ fn read_at<N: Naming, G: Gate, L: Ledger, R: Wait + Abort>(
     let joins = standing.joins();
     let mut steps: Steps<L> = Steps::open(blank);
     let reading = kept.cells.read(rt, pass, joins, p, range, gate, &mut steps);
-    (reading.pass, reading.found.expect(rt, "memory"))
+    let seen = Seen {
+        pairs: reading.found.expect(rt, "memory"),
+        steps: steps.taken(),
+    };
+    (reading.pass, seen)
 }
 
 /// Takes a turn at the end of the history.
@@ -244,8 +265,35 @@ fn read_place(rt: &impl Abort, alloc: Global, text: &str) -> (u64, Range) {
     (p, Range::read(alloc, low, high).expect(rt, "a range"))
 }
 
-/// Does what a line says: it writes, evicts a cell, takes a turn, which adds a line, or reads a range after so many entries, which
-/// adds a line.
+/// Reads at the place that a text is.
+fn read_there<N: Naming, R: Wait + Abort>(
+    rt: &R,
+    alloc: Global,
+    kept: &Kept<N>,
+    pass: Pass,
+    place: &str,
+    gate: &Counter,
+) -> (Pass, Seen)
+    requires { MayAppend N.history pass }
+    ensures { MayAppend N.history result.0 }
+{
+    let (p, range) = read_place(rt, alloc, place);
+    let blank = Blank::new(1);
+    read_at::<N, Counter, Brand, R>(rt, alloc, kept, pass, p, &range, gate, blank)
+}
+
+/// A read that takes at most, or at least, so many steps, as the name says.
+fn expect_cost(rt: &impl Abort, name: &str, bound: &str, seen: &Seen) {
+    let bound = bound.parse::<u64>().expect(rt, "a number of steps");
+    let steps = seen.steps;
+    match name {
+        "most" => assert!(rt; steps <= bound, "{steps} steps, at most {bound} wanted"),
+        _ => assert!(rt; bound <= steps, "{steps} steps, at least {bound} wanted"),
+    }
+}
+
+/// Does what a line says: it writes, evicts a cell, takes a turn, which adds a line, reads a range after so many entries, which
+/// adds a line, or reads it with `most` or `least` so many steps.
 fn play_line<N: Naming, R: Wait + Abort>(
     rt: &R,
     alloc: Global,
@@ -277,22 +325,16 @@ fn play_line<N: Naming, R: Wait + Abort>(
             show_turn(alloc, text, turn)?;
             Ok(pass)
         }
+        "read" => {
+            let gate = Counter::new();
+            let (pass, seen) = read_there(rt, alloc, kept, pass, about, &gate);
+            show(alloc, text, gate.passed.get(), seen.pairs)?;
+            Ok(pass)
+        }
         _ => {
-            let (p, range) = read_place(rt, alloc, about);
-            let gate = Counter {
-                passed: Cell::new(0),
-            };
-            let (pass, pairs) = read_at::<N, Counter, Brand, R>(
-                rt,
-                alloc,
-                kept,
-                pass,
-                p,
-                &range,
-                &gate,
-                Blank::new(1),
-            );
-            show(alloc, text, gate.passed.get(), pairs)?;
+            let (bound, place) = about.split_once(' ').expect(rt, "a bound");
+            let (pass, seen) = read_there(rt, alloc, kept, pass, place, &Counter::new());
+            expect_cost(rt, name, bound, &seen);
             Ok(pass)
         }
     }
@@ -373,7 +415,7 @@ fn post_and_read<N: Naming, R: Wait + Abort>(
             Blank::new(1),
         );
         pass = next;
-        assert_eq!(rt; found.len(), number.saturating_add(1));
+        assert_eq!(rt; found.pairs.len(), number.saturating_add(1));
         kept.cells.evict(rt, (number % 3) as u32);
     }
     pass
@@ -423,7 +465,7 @@ fn two_read<N: Naming + Send + Sync, R: Threads + Wait + Abort + Sync>(
         &OpenGate,
         Blank::new(1),
     );
-    assert_eq!(rt; found.len(), 80);
+    assert_eq!(rt; found.pairs.len(), 80);
     Ok(())
 }
 

@@ -1,7 +1,7 @@
-// What one thread writes, evicts and reads, and how often each read passes the gate.
+// What one thread writes, evicts and reads, how often each read passes the gate, and how many steps some may take.
 
 /// How many cells there may be, how much may be kept, lines, and what those that read add: how often the gate was passed, and
-/// the pairs.
+/// the pairs. A line that begins with `most` or `least` reads with so many steps.
 #[derive(Drop)]
 pub struct Row {
     /// The cells.
@@ -205,8 +205,67 @@ idle
 ",
 };
 
+/// A read afresh asks for the base pairs of the range, of which there are none, and for one pair of each source. What is kept
+/// is read again with the first of these questions, and one for the row.
+const KEPT_COST: Row = Row {
+    cells: 4,
+    limit: 100,
+    lines: "write t|<user>|<time>|<poster> = check s|<user>|<poster> copy p|<poster>|<time>
+write s|ann|bob=1
+write p|bob|100=Hi
+least 5 3 t|ann| t|ann}
+most 3 3 t|ann| t|ann}
+",
+    wanted: "",
+};
+
+/// What may not be kept is read afresh each time.
+const TOO_HEAVY_COST: Row = Row {
+    cells: 4,
+    limit: 1,
+    lines: "write t|<user>|<time>|<poster> = check s|<user>|<poster> copy p|<poster>|<time>
+write s|ann|bob=1
+write p|bob|100=Hi
+least 5 3 t|ann| t|ann}
+least 5 3 t|ann| t|ann}
+",
+    wanted: "",
+};
+
+/// After a turn a read finds its two rows as they are kept.
+const TURNED_COST: Row = Row {
+    cells: 4,
+    limit: 100,
+    lines: "write t|<user>|<time>|<poster> = check s|<user>|<poster> copy p|<poster>|<time>
+write s|ann|bob=1
+write p|bob|100=Hi
+read 3 t|ann| t|ann}
+write p|bob|120=Yo
+turn cells
+most 4 4 t|ann| t|ann}
+",
+    wanted: "1: t|ann|100|bob=Hi
+brought 3 to 4
+",
+};
+
+/// Without one it asks both sources what changed, and is told of the post, before it reads them.
+const BEHIND_COST: Row = Row {
+    cells: 4,
+    limit: 100,
+    lines: "write t|<user>|<time>|<poster> = check s|<user>|<poster> copy p|<poster>|<time>
+write s|ann|bob=1
+write p|bob|100=Hi
+read 3 t|ann| t|ann}
+write p|bob|120=Yo
+least 7 4 t|ann| t|ann}
+",
+    wanted: "1: t|ann|100|bob=Hi
+",
+};
+
 /// All of them.
-pub const ROWS: [Row; 8] = [
+pub const ROWS: [Row; 12] = [
     KEPT,
     TOO_HEAVY,
     PULLED,
@@ -215,4 +274,8 @@ pub const ROWS: [Row; 8] = [
     ONE_CELL,
     TURNED,
     TURNED_OVER_ANOTHER,
+    KEPT_COST,
+    TOO_HEAVY_COST,
+    TURNED_COST,
+    BEHIND_COST,
 ];

@@ -1,7 +1,4 @@
 use Rattle.range_cells.proofs.tests.play_line.Given as goal
 
-abbrev pub ghosts-read_at : goal.ghosts-read_at
-ghosts-read_at g a = record { name = a.blank.name; parts = a.blank.parts }
-
 abbrev pub ghosts-turn_at_end : goal.ghosts-turn_at_end
 ghosts-turn_at_end g a = record { name = a.blank.name; parts = a.blank.parts }

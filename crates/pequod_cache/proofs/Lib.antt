@@ -1,4 +1,3 @@
 pub mod ToldLemmas
-pub mod AnsweringLemmas
 pub mod JoinsLemmas
 pub mod ClientLemmas

@@ -101,6 +101,15 @@ impl ScanBound {
         Ok(ScanBound { place })
     }
 
+    /// The last bound of a range, which shares its text. It takes constant time.
+    pub fn last_of(range: &Range) -> Result<ScanBound, OutOfMemory>
+        ensures { IfOk result (λ bound. bound ≡ range.now.high) }
+    {
+        let _low = range.lo();
+        let place = range.last_place()?;
+        Ok(ScanBound { place })
+    }
+
     /// The text of the bound.
     pub fn text(&self) -> &str
         ensures text { result.now ≡ self.now }

@@ -9,6 +9,7 @@ use Rattle.semantics.proofs.TableLemmas.{value_at_here}
 use Rattle.semantics.proofs.MergedLemmas.{value_at-pairs_within}
 use Rattle.key_ranges.specs.Ranges.{just}
 use Rattle.key_ranges.proofs.PrefixLemmas.{within-just}
+use Rattle.answer_laws.specs.AnswerLaws.{FirstOfJustIsFound, NoneOfJustIsAbsent}
 
 -- a list of no length is empty
 pub none_by_length : {A : Type 0} (xs : List A) → length xs ≡ 0 → xs ≡ []
@@ -53,3 +54,11 @@ absent_answers key range h position table only at is items =
 pub pairs_answer : (range : Range) (h : History) (position : ℕ) (table : Table) → position ≡ length h → table ≡ pairs_within range (state h) → pairs position table ≡ answer (scan range) h
 unfolding answer
 pairs_answer range h position table at is = ap₂ pairs at is
+
+-- ---- the laws
+
+pub first_of_just_is_found : FirstOfJustIsFound
+first_of_just_is_found h key pair rest is = sym (found_answers key (just key) h (length h) (pair ∷ rest) pair rest refl refl (sym is) refl)
+
+pub none_of_just_is_absent : NoneOfJustIsAbsent
+none_of_just_is_absent h key is = sym (absent_answers key (just key) h (length h) [] refl refl (sym is) refl)

@@ -1,14 +1,19 @@
-// A cache that several threads use at once, held to plain evaluation: tests alone, with nothing for other crates.
+// Clients of a cache and of a core, held to plain evaluation: tests alone, with nothing for other crates.
+//
+// A client that is alone, of a cache or of a core with many cells or few, is asked what is drawn, and answers each request byte
+// for byte as a client does that keeps nothing.
 //
 // Four clients ask what is drawn, each on a thread of its own, of a cache that has few cells and may keep few rows. Afterwards
 // they meet and read all tables. The writes that were acknowledged, each at its position, are the history; each reply has to be
 // what evaluating the joins afresh gives after the entries that it names, and no client is answered at a position below one
 // that it was told before. What is held against the replies knows nothing of what a cache keeps.
 //
-// It stands on `pequod_cache` with `base_shards` and `pq_io`, on `plain_client`, which evaluates afresh, on
+// It stands on `pequod_cache` with `base_shards` and `pq_io`, on `world_client`, on `plain_client`, which evaluates afresh, on
 // `rand_pcg` for what is drawn, and on what these stand on.
 #![tactic(auto)]
 
+#[cfg(test)]
+mod alone;
 #[cfg(test)]
 mod asking;
 #[cfg(test)]

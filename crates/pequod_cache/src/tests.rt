@@ -1,5 +1,4 @@
 // What clients are told on their links, alone and beside others, and each call once, with ample memory.
-mod drawn;
 mod held;
 mod threads;
 

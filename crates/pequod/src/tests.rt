@@ -1,8 +1,10 @@
 // Runs of the top call over sources, sinks and shelves in memory, as bytes.
+mod cores;
 mod examples;
 mod faults;
 mod files;
 mod gates;
+mod held;
 mod limits;
 mod linked;
 mod loads;

@@ -3,8 +3,6 @@ ghost use Rattle.std.specs.Prelude.{◌≡◌, ◌≤◌, IfOk, Some, length};
 ghost use Rattle.pequod_cache.specs.Sitting.{AreOf, AreWriters, IsFresh};
 ghost use Rattle.server.specs.Staffs.{AreDeclarable};
 
-mod held;
-
 use super::*;
 use base_shards::Naming;
 use join_lang::parse;
@@ -12,7 +10,7 @@ use join_set::Standing;
 use join_types::{Join, Write};
 use out_of_memory::OutOfMemory;
 use pequod_cache::Seats;
-use pq_io::{Failed, Gate, Link, MemDoors, MemLink, MemSink, MemSource, OpenGate};
+use pq_io::{Failed, Link, MemDoors, MemLink, MemSink, MemSource, OpenGate};
 use std::alloc::Global;
 use std::marker::Brand;
 use std::process::Abort;
@@ -66,11 +64,11 @@ fn link_of<'a, R: Wait>(
     Ok((Copying { rt, link, taken }, kept))
 }
 
-/// The join that the text is, alone in a list.
-fn one_join(rt: &impl Abort, alloc: Global, text: &str) -> Vec<Join>
+/// A join whose output has what its source has, alone in a list.
+fn one_join(rt: &impl Abort, alloc: Global) -> Vec<Join>
     ensures { AreDeclarable result.items }
 {
-    let write = Write::Declare(parse(alloc, text).expect(rt, "a join"));
+    let write = Write::Declare(parse(alloc, "b|<x> = copy a|<x>").expect(rt, "a join"));
     let cause = Standing::new(alloc).judge(&write).expect(rt, "memory");
     assert!(rt; cause.is_none());
     let mut joins = Vec::new(alloc);
@@ -96,21 +94,14 @@ fn make_seats(alloc: Global, clients: u32) -> Result<Seats, OutOfMemory>
     Seats::make(alloc, clients, 4)
 }
 
-/// Serves doors that give the links and fail at these calls, by all clients but the first, which declares the joins.
-fn serve<N, R, G, K>(
+/// Serves doors that give the links and fail at these calls, by all clients but the first, which declares a join.
+fn serve<N: Naming + Send + Sync, R: Threads + Wait + Abort + Sync>(
     rt: &R,
     alloc: Global,
     seats: Seats,
-    joins: Vec<Join>,
-    gate: &G,
-    links: Vec<K>,
+    links: Vec<Copying<'_, R>>,
     fails: Vec<usize>,
 ) -> Result<Ended, Fail>
-where
-    N: Naming + Send + Sync,
-    R: Threads + Wait + Abort + Sync,
-    G: Gate + Sync,
-    K: Link + Send + Drop,
     requires named { seats.history ≡ N.history }
     requires clients { AreWriters N.history (length seats.clients.items) seats.clients.items }
     requires two { 2 ≤ length seats.clients.items }
@@ -118,15 +109,12 @@ where
     requires cells { AreOf N.history (length seats.cells.items) seats.cells.items }
     requires count { length seats.cells.items ≡ 4 }
     requires updater { IsFresh N.history seats.updater }
-    requires joins { AreDeclarable joins.items }
 {
-    let (workers, updater) = staff::<N, _, _>(rt, alloc, seats, 1_000, joins, gate)?;
+    let joins = one_join(rt, alloc);
+    let (workers, updater) = staff::<N, _, _>(rt, alloc, seats, 1_000, joins, &OpenGate)?;
     let mut doors = MemDoors::new(links, fails);
     Ok(serve_doors(rt, alloc, &mut doors, workers, updater))
 }
-
-/// A join whose output has what its source has.
-const COPIES: &str = "b|<x> = copy a|<x>";
 
 /// Puts a pair, and reads the join's output.
 const OF_A_WRITER: &str = "[\"put\",\"a|1\",\"Hi\"]\n[\"scan\",\"b|\",\"b}\"]\n";
@@ -152,10 +140,8 @@ fn serve_both<R: Threads + Wait + Abort + Sync>(
     let mut links = Vec::new(alloc);
     links.push(writer)?;
     links.push(reader)?;
-    let joins = one_join(rt, alloc, COPIES);
     let seats = make_seats(alloc, clients)?;
-    let fails = Vec::new(alloc);
-    let ended = serve::<Brand, _, _, _>(rt, alloc, seats, joins, &OpenGate, links, fails)?;
+    let ended = serve::<Brand, _>(rt, alloc, seats, links, Vec::new(alloc))?;
     assert_eq!(rt; ended, Ended::Closed);
     Ok((to_writer, to_reader))
 }
@@ -186,10 +172,7 @@ fn closed_doors_end_it(rt: HostRuntime) -> Result<(), Fail> {
     let alloc: Global = rt.alloc();
     for clients in [2, 3] {
         let seats = make_seats(alloc, clients)?;
-        let joins = one_join(&rt, alloc, COPIES);
-        let links: Vec<MemLink> = Vec::new(alloc);
-        let fails = Vec::new(alloc);
-        let ended = serve::<Brand, _, _, _>(&rt, alloc, seats, joins, &OpenGate, links, fails)?;
+        let ended = serve::<Brand, _>(&rt, alloc, seats, Vec::new(alloc), Vec::new(alloc))?;
         assert_eq!(rt; ended, Ended::Closed);
     }
     Ok(())
@@ -208,9 +191,7 @@ fn links_before_a_failure_are_served(rt: HostRuntime) -> Result<(), Fail> {
         let mut links = Vec::new(alloc);
         links.push(writer)?;
         let seats = make_seats(alloc, clients)?;
-        let joins = one_join(&rt, alloc, COPIES);
-        let fails = vec![in alloc; call; 1]?;
-        let ended = serve::<Brand, _, _, _>(&rt, alloc, seats, joins, &OpenGate, links, fails)?;
+        let ended = serve::<Brand, _>(&rt, alloc, seats, links, vec![in alloc; call; 1]?)?;
         assert_eq!(rt; ended, Ended::Failed);
         assert_eq!(rt; to_writer.lock(&rt).as_slice(), told.as_bytes());
     }

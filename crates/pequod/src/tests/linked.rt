@@ -5,7 +5,7 @@ use crate::status::Status;
 use crate::tests::examples::EXAMPLES;
 use crate::tests::serves::{ALONE, WITH_JOINS};
 use crate::top::pequod;
-use pq_io::{Failed, Link, MemDoors, MemLink, MemShelf, MemSink, MemSource, OpenGate};
+use pq_io::{Failed, Gate, Link, MemDoors, MemLink, MemShelf, MemSink, MemSource, OpenGate};
 use std::alloc::Global;
 use std::process::Abort;
 use std::sync::{Arc, Mutex, Wait};
@@ -13,14 +13,14 @@ use std::test::Fail;
 use std::thread::Threads;
 
 /// The bytes that a link took, which are read when the link is gone.
-type Taken = Arc<Mutex<Vec<u8>>>;
+pub type Taken = Arc<Mutex<Vec<u8>>>;
 
 /// A link in memory that copies what it takes to a list.
 #[derive(Drop)]
-struct Copying<'a, R> {
-    rt: &'a R,
-    link: MemLink,
-    taken: Taken,
+pub struct Copying<'a, R> {
+    pub rt: &'a R,
+    pub link: MemLink,
+    pub taken: Taken,
 }
 
 impl<'a, R: Wait> Link for Copying<'a, R> {
@@ -44,15 +44,17 @@ impl<'a, R: Wait> Link for Copying<'a, R> {
     }
 }
 
-/// A link over these lines, whose writes with these numbers fail, and the list of what it takes.
-fn link_of<'a, R: Wait>(
+/// A link over these lines, of which a read gives as much as its cut says, whose writes with these numbers fail, and the list of
+/// what it takes.
+pub fn cut_link<'a, R: Wait>(
     rt: &'a R,
     alloc: Global,
     lines: &str,
+    cuts: Vec<usize>,
     failing: Vec<usize>,
 ) -> Result<(Copying<'a, R>, Taken), Fail> {
     let lines = lines.as_bytes().to_vec(alloc)?;
-    let source = MemSource::new(lines, Vec::new(alloc), Vec::new(alloc));
+    let source = MemSource::new(lines, cuts, Vec::new(alloc));
     let taken = Arc::new(alloc, Mutex::new(Vec::new(alloc)))?;
     let link = Copying {
         rt,
@@ -62,14 +64,30 @@ fn link_of<'a, R: Wait>(
     Ok((link, taken))
 }
 
-/// Runs the words over doors that give the links and fail at these calls, where the shelf has one join in the file `j`. Asserts
-/// that nothing is written to the sink, and says how it ended.
-fn serve<R: AllocGlobal + Threads + Wait + Abort + Sync, K: Link + Send + Drop>(
+/// The same, and each read gives as much as there is room for.
+fn link_of<'a, R: Wait>(
+    rt: &'a R,
+    alloc: Global,
+    lines: &str,
+    failing: Vec<usize>,
+) -> Result<(Copying<'a, R>, Taken), Fail> {
+    cut_link(rt, alloc, lines, Vec::new(alloc), failing)
+}
+
+/// Runs the words over a gate and over doors that give the links and fail at these calls, where the shelf has one join in the file
+/// `j`. Asserts that nothing is written to the sink, and says how it ended.
+pub fn serve_by<R, K, G>(
     rt: &R,
     words: &[&str],
     links: Vec<K>,
     failing: Vec<usize>,
-) -> Result<Status, Fail> {
+    gate: &G,
+) -> Result<Status, Fail>
+where
+    R: AllocGlobal + Threads + Wait + Abort + Sync,
+    K: Link + Send + Drop,
+    G: Gate + Sync,
+{
     let alloc: Global = rt.alloc();
     let mut given = Vec::new(alloc);
     for word in words {
@@ -89,10 +107,20 @@ fn serve<R: AllocGlobal + Threads + Wait + Abort + Sync, K: Link + Send + Drop>(
         &mut sink,
         &mut shelf,
         &mut doors,
-        &OpenGate,
+        gate,
     );
     assert!(rt; sink.bytes().is_empty());
     Ok(status)
+}
+
+/// The same over an open gate.
+fn serve<R: AllocGlobal + Threads + Wait + Abort + Sync, K: Link + Send + Drop>(
+    rt: &R,
+    words: &[&str],
+    links: Vec<K>,
+    failing: Vec<usize>,
+) -> Result<Status, Fail> {
+    serve_by(rt, words, links, failing, &OpenGate)
 }
 
 /// A put and a scan, and what they are answered where a join copies the table.

@@ -1,7 +1,12 @@
-// A link whose scan is held at the gate, and one that is served meanwhile.
-ghost use Rattle.std.specs.Prelude.{None};
+// A link of `serve` whose scan is held at the gate, and one that is served meanwhile.
+ghost use Rattle.std.specs.Prelude.{Some};
 
-use super::*;
+use crate::status::Status;
+use crate::tests::linked::{Copying, Taken, cut_link, serve_by};
+use pq_io::{Failed, Gate, Link};
+use std::alloc::Global;
+use std::sync::{Arc, Mutex, Wait};
+use std::test::Fail;
 
 /// How often a thread looks for a stage before it gives up.
 const LOOKS: u32 = 10_000_000;
@@ -62,17 +67,13 @@ impl<R: Wait> Gate for Holding<'_, R> {
     }
 }
 
-/// A line, and the stage before which a link does not give it.
-type Timed = (Stage, &'static str);
-
-/// A link that gives lines when their stages have come, keeps what it takes, and comes to a stage with so many replies.
+/// A copying link that gives each line when its stage has come, and comes to a stage itself with so many replies.
 #[derive(Drop)]
 struct Paced<'a, R> {
-    rt: &'a R,
+    link: Copying<'a, R>,
     course: Course,
-    lines: &'static [Timed],
-    given: usize,
-    taken: Taken,
+    /// The stages before which it does not give its lines, that of the last line first.
+    waits: Vec<Stage>,
     replies: usize,
     stage: Stage,
 }
@@ -89,49 +90,50 @@ fn count_lines(bytes: &[u8]) -> usize {
 }
 
 impl<R: Wait> Link for Paced<'_, R> {
-    ghost left = { λ _. None };
+    ghost left = { λ l. Some l.link.link.source.left };
 
-    ghost taken = { λ _. None };
+    ghost taken = { λ l. Some l.link.link.sink.taken };
 
-    ghost read_faults = { λ _. 0 };
+    ghost read_faults = { λ l. l.link.link.source.log.faults };
 
-    ghost write_faults = { λ _. 0 };
+    ghost write_faults = { λ l. l.link.link.sink.log.faults };
 
     fn read(&mut self, into: &mut [u8]) -> Result<usize, Failed> {
-        let Some((stage, line)) = self.lines.get(self.given).copied() else {
-            return Ok(0);
-        };
-        self.given = self.given.saturating_add(1);
-        wait_for(self.rt, &self.course, stage);
-        let count = line.len().min(into.len());
-        into[..count].copy_from_slice(&line.as_bytes()[..count]);
-        Ok(count)
+        if let Some(stage) = self.waits.pop() {
+            wait_for(self.link.rt, &self.course, stage);
+        }
+        self.link.read(into)
     }
 
     fn write(&mut self, bytes: &[u8]) -> Result<usize, Failed> {
-        let mut taken = self.taken.lock(self.rt);
-        let _ = taken.extend_from_slice(bytes);
-        if count_lines(taken.as_slice()) == self.replies {
-            come_to(self.rt, &self.course, self.stage);
+        let count = self.link.write(bytes)?;
+        let replies = count_lines(self.link.taken.lock(self.link.rt).as_slice());
+        if replies == self.replies {
+            come_to(self.link.rt, &self.course, self.stage);
         }
-        Ok(bytes.len())
+        Ok(count)
     }
 }
 
-/// What timelines are made of.
-const TIMELINE: &str = "t|<user>|<time>|<poster> = check s|<user>|<poster> copy p|<poster>|<time>";
+/// A line, and the stage before which a link does not give it.
+type Timed<'a> = (Stage, &'a str);
 
-/// Two puts, and a scan that is held.
-const OF_THE_HELD: &[Timed] = &[
+/// The join of timelines, two puts, and a scan that is held.
+const OF_THE_HELD: [Timed; 4] = [
+    (
+        Stage::Begun,
+        "[\"join\",\"t|<user>|<time>|<poster> = check s|<user>|<poster> copy p|<poster>|<time>\"]\n",
+    ),
     (Stage::Begun, "[\"put\",\"s|ann|bob\",\"1\"]\n"),
     (Stage::Begun, "[\"put\",\"p|bob|100\",\"Hi\"]\n"),
     (Stage::Begun, "[\"scan\",\"t|ann|\",\"t|ann}\"]\n"),
 ];
 
-const TO_THE_HELD: &str = "[\"ok\",2]\n[\"ok\",3]\n[\"pairs\",3,[[\"t|ann|100|bob\",\"Hi\"]]]\n";
+const TO_THE_HELD: &str =
+    "[\"ok\",1]\n[\"ok\",2]\n[\"ok\",3]\n[\"pairs\",3,[[\"t|ann|100|bob\",\"Hi\"]]]\n";
 
 /// A put and a scan of another table meanwhile, and the held scan once more afterwards.
-const OF_THE_OTHER: &[Timed] = &[
+const OF_THE_OTHER: [Timed; 3] = [
     (Stage::Held, "[\"put\",\"q|1\",\"x\"]\n"),
     (Stage::Held, "[\"scan\",\"q|\",\"q}\"]\n"),
     (Stage::Answered, "[\"scan\",\"t|ann|\",\"t|ann}\"]\n"),
@@ -140,26 +142,36 @@ const OF_THE_OTHER: &[Timed] = &[
 const TO_THE_OTHER: &str =
     "[\"ok\",4]\n[\"pairs\",4,[[\"q|1\",\"x\"]]]\n[\"pairs\",4,[[\"t|ann|100|bob\",\"Hi\"]]]\n";
 
+/// The words of two workers, who serve without a joins file.
+const TWO_WORKERS: [&str; 4] = ["serve", "127.0.0.1:7000", "--workers", "2"];
+
 /// A link of the course that gives these lines and comes to the stage with so many replies, and the list of what it takes.
 fn make_paced<'a, R: Wait>(
     rt: &'a R,
     alloc: Global,
     course: &Course,
-    lines: &'static [Timed],
+    lines: &[Timed<'_>],
     replies: usize,
     stage: Stage,
 ) -> Result<(Paced<'a, R>, Taken), Fail> {
-    let kept = Arc::new(alloc, Mutex::new(Vec::new(alloc)))?;
-    let link = Paced {
-        rt,
+    let mut text = String::new(alloc);
+    let mut cuts = Vec::new(alloc);
+    let mut waits = Vec::new(alloc);
+    for (stage, line) in lines {
+        text.push_str(line)?;
+        cuts.push(line.len())?;
+        waits.push(*stage)?;
+    }
+    waits.reverse();
+    let (link, taken) = cut_link(rt, alloc, text.as_str(), cuts, Vec::new(alloc))?;
+    let paced = Paced {
+        link,
         course: Arc::try_clone(course)?,
-        lines,
-        given: 0,
-        taken: Arc::try_clone(&kept)?,
+        waits,
         replies,
         stage,
     };
-    Ok((link, kept))
+    Ok((paced, taken))
 }
 
 #[test]
@@ -170,20 +182,15 @@ fn a_held_scan_holds_no_other_link(rt: HostRuntime) -> Result<(), Fail> {
         gave_up: false,
     };
     let course = Arc::new(alloc, Mutex::new(begun))?;
-    let (held, to_held) = make_paced(&rt, alloc, &course, OF_THE_HELD, 3, Stage::Answered)?;
-    let (other, to_other) = make_paced(&rt, alloc, &course, OF_THE_OTHER, 2, Stage::Passed)?;
-    let mut links = Vec::new(alloc);
-    links.push(held)?;
-    links.push(other)?;
-    let seats = make_seats(alloc, 3)?;
-    let joins = one_join(&rt, alloc, TIMELINE);
+    let (held, to_held) = make_paced(&rt, alloc, &course, &OF_THE_HELD, 4, Stage::Answered)?;
+    let (other, to_other) = make_paced(&rt, alloc, &course, &OF_THE_OTHER, 2, Stage::Passed)?;
+    let links = vec![in alloc; held, other]?;
     let gate = Holding {
         rt: &rt,
         course: Arc::try_clone(&course)?,
     };
-    let fails = Vec::new(alloc);
-    let ended = serve::<Brand, _, _, _>(&rt, alloc, seats, joins, &gate, links, fails)?;
-    assert_eq!(rt; ended, Ended::Closed);
+    let status = serve_by(&rt, &TWO_WORKERS, links, Vec::new(alloc), &gate)?;
+    assert_eq!(rt; status, Status::DONE);
     assert!(rt; !course.lock(&rt).gave_up);
     assert_eq!(rt; to_held.lock(&rt).as_slice(), TO_THE_HELD.as_bytes());
     assert_eq!(rt; to_other.lock(&rt).as_slice(), TO_THE_OTHER.as_bytes());

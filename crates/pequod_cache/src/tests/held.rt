@@ -72,21 +72,49 @@ fn write_timeline<N: Naming, G: Gate, R: Wait + Abort>(
     put_at(rt, alloc, client, ("p|bob|100", "Hi"), 3);
 }
 
+/// A client reads a range after so many entries, and finds one pair.
+fn expect_one<N: Naming, G: Gate, R: Wait + Abort>(
+    rt: &R,
+    alloc: Global,
+    client: &mut Client<'_, N, G>,
+    bounds: (&str, &str),
+    position: u64,
+    wanted: (&str, &str),
+) {
+    let range = Range::read(alloc, bounds.0, bounds.1).expect(rt, "a range");
+    let found = client.read(rt, &range).expect(rt, "memory");
+    assert_eq!(rt; found.position, position);
+    assert_eq!(rt; found.pairs.len(), 1);
+    let pair = found.pairs.first().expect(rt, "a pair");
+    assert_eq!(rt; pair.key.text(), wanted.0);
+    assert_eq!(rt; pair.value.text(), wanted.1);
+}
+
+/// A client reads the timeline after so many entries.
+fn expect_timeline<N: Naming, G: Gate, R: Wait + Abort>(
+    rt: &R,
+    alloc: Global,
+    client: &mut Client<'_, N, G>,
+    position: u64,
+) {
+    let bounds = ("t|ann|", "t|ann}");
+    let wanted = ("t|ann|100|bob", "Hi");
+    expect_one(rt, alloc, client, bounds, position, wanted);
+}
+
 /// While the other is held, puts a pair of another table and reads that table.
-fn pass_by<N: Naming, G: Gate, R: Wait + Abort>(
+fn pass_by<'g, N: Naming, G: Gate, R: Wait + Abort>(
     rt: &R,
     alloc: Global,
     course: &Course,
-    client: Client<'_, N, G>,
-) {
+    client: Client<'g, N, G>,
+) -> Client<'g, N, G> {
     let mut client = client;
     wait_for(rt, course, Stage::Held);
     put_at(rt, alloc, &mut client, ("q|1", "x"), 4);
-    let whole = table(rt, alloc, "q");
-    let found = client.read(rt, &whole).expect(rt, "memory");
-    assert_eq!(rt; found.position, 4);
-    assert_eq!(rt; found.pairs.len(), 1);
+    expect_one(rt, alloc, &mut client, ("q|", "q}"), 4, ("q|1", "x"));
     come_to(rt, course, Stage::Passed);
+    client
 }
 
 /// Reads the timeline, and once more: the first read is after the entries that it found when it began, though the other wrote
@@ -97,11 +125,11 @@ fn read_twice<N: Naming, G: Gate, R: Wait + Abort>(
     client: Client<'_, N, G>,
 ) {
     let mut client = client;
-    assert_eq!(rt; count_timeline(rt, alloc, &mut client), (3, 1));
-    assert_eq!(rt; count_timeline(rt, alloc, &mut client), (4, 1));
+    expect_timeline(rt, alloc, &mut client, 3);
+    expect_timeline(rt, alloc, &mut client, 4);
 }
 
-/// One client of a cache is held in a read, and the other passes by, each on a thread.
+/// One client of a cache is held in a read, and the other passes by, each on a thread. Then the other reads what was held.
 fn hold_and_pass<N: Naming + Send + Sync, G: Gate + Sync, R: Threads + Wait + Abort + Sync>(
     rt: &R,
     alloc: Global,
@@ -119,11 +147,12 @@ fn hold_and_pass<N: Naming + Send + Sync, G: Gate + Sync, R: Threads + Wait + Ab
     let other = clients.pop().expect(rt, "a client");
     let mut held = clients.pop().expect(rt, "a client");
     write_timeline(rt, alloc, &mut held);
-    let _both = thread::join(
+    let (_, mut other) = thread::join(
         rt,
         move || read_twice(rt, alloc, held),
         move || pass_by(rt, alloc, course, other),
     );
+    expect_timeline(rt, alloc, &mut other, 4);
     Ok(())
 }
 

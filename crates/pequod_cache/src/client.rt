@@ -11,9 +11,8 @@ ghost use Rattle.write_history.specs.Passes.{GoesOn, own};
 ghost use Rattle.pequod_cache.specs.Clients.{IsFound};
 
 use crate::cache::Cache;
-use crate::joins::bring_joins;
+use crate::joins::{KnownJoins, bring_joins};
 use base_shards::Naming;
-use join_set::Standing;
 use join_types::{Join, Pair, Write};
 use key_space::{Key, Range, Value};
 use out_of_memory::OutOfMemory;
@@ -45,7 +44,7 @@ pub struct Client<'g, N: Naming, G> {
     gate: &'g G,
     /// None while the pass is lent to a read.
     pass: Option<Pass>,
-    joins: Standing,
+    joins: KnownJoins,
 }
 
 impl<'g, N: Naming, G> Model for Client<'g, N, G> {
@@ -77,7 +76,7 @@ impl<'g, N: Naming, G> Client<'g, N, G> {
             cache,
             gate,
             pass: Some(pass),
-            joins: Standing::new(alloc),
+            joins: KnownJoins::new(alloc),
         }
     }
 }

@@ -5,9 +5,8 @@ ghost use Rattle.write_history.specs.Passes.{GoesOn, own};
 ghost use Rattle.range_cells.specs.Turns.{IsWithinView};
 
 use crate::cache::Cache;
-use crate::joins::bring_joins;
+use crate::joins::{KnownJoins, bring_joins};
 use base_shards::Naming;
-use join_set::Standing;
 use pq_io::Gate;
 use range_cells::{Turn, Turned};
 use std::alloc::Global;
@@ -26,7 +25,7 @@ pub struct Updater<'g, N: Naming, G> {
     gate: &'g G,
     /// None while the pass is lent to a turn.
     pass: Option<Pass>,
-    joins: Standing,
+    joins: KnownJoins,
 }
 
 impl<'g, N: Naming, G> Model for Updater<'g, N, G> {
@@ -56,7 +55,7 @@ impl<'g, N: Naming, G> Updater<'g, N, G> {
             cache,
             gate,
             pass: Some(pass),
-            joins: Standing::new(alloc),
+            joins: KnownJoins::new(alloc),
         }
     }
 }

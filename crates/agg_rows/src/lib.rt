@@ -1,8 +1,7 @@
 // The source pairs that are listed at each output key of an aggregate join, one by one, and the answer of each group.
 //
-// It stands on `out_of_memory`, `key_space`, `join_types`, `pair_table`, `operators` and, for its definitions, on `semantics`. The layers
-// above may use `AggRows`: contracts see it as the record of the operator and of the groups, output keys ascending, each
-// with the table of its listed pairs. No total is kept beside the pairs, so that one which is replaced or taken out leaves
+// The layers above may use `AggRows`: contracts see it as the record of the operator and of the groups, output keys ascending,
+// each with the table of its listed pairs. No total is kept beside the pairs, so that one which is replaced or taken out leaves
 // nothing behind.
 #![tactic(auto)]
 
@@ -11,6 +10,3 @@ pub mod laws;
 pub mod rows;
 
 pub use rows::AggRows;
-
-#[cfg(test)]
-mod tests;

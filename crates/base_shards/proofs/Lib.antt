@@ -4,4 +4,3 @@ pub mod ReadingLemmas
 pub mod ChangedLemmas
 pub mod ShardLemmas
 pub mod MarkLemmas
-pub mod TestLemmas

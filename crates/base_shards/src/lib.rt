@@ -1,9 +1,7 @@
 // The base pairs of all tables, which threads share: 16 parts with a lock each, each with a pass of the write history.
 //
-// It stands on `out_of_memory`, `key_space`, `join_types`, `base_versions`, `updater_index`, `write_history`, `steps`, on
-// `atomic_table` of the toolchain for the name of a history and, for its definitions, on `semantics` and `growing_history`.
-// The layers above may use `BaseShards`, whose calls may wait for a lock, and `Naming`. What is done under a lock is stated
-// at `Shard`, on the functions that are lent the locked value: no contract of a call that takes the lock can say it.
+// The layers above may use `BaseShards`, whose calls may wait for a lock, and `Naming`. What is done under a lock is stated at
+// `Shard`, on the functions that are lent the locked value: no contract of a call that takes the lock can say it.
 #![tactic(auto)]
 
 pub mod base_shards;
@@ -16,6 +14,3 @@ pub mod shard;
 pub use base_shards::BaseShards;
 pub use naming::Naming;
 pub use shard::{SHARDS, Shard};
-
-#[cfg(test)]
-mod tests;

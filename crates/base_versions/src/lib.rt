@@ -1,7 +1,6 @@
 // The base pairs of some tables at every position of a history, and what changed between two of them.
 //
-// It stands on `out_of_memory`, `key_space`, `join_types`, `steps` and, for its definitions, on `semantics` and `growing_history`. The
-// layers above may use `BaseVersions`: contracts see it as what it keeps, and a relation says which histories that stands
+// The layers above may use `BaseVersions`: contracts see it as what it keeps, and a relation says which histories that stands
 // for.
 #![tactic(auto)]
 
@@ -13,6 +12,3 @@ mod table;
 mod versions;
 
 pub use base::{BaseVersions, shard_of};
-
-#[cfg(test)]
-mod tests;

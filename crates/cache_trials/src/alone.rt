@@ -47,7 +47,7 @@ fn expect_alike<S: Service + Drop, R: Abort>(
         };
         let reply = line_of(alloc, &ask.put_to(rt, alloc, &mut service))?;
         let wanted = line_of(alloc, &ask.put_to(rt, alloc, &mut plain))?;
-        assert_eq!(rt; reply.as_slice(), wanted.as_slice(), "{place}: {ask:?}");
+        assert!(rt; reply.as_slice() == wanted.as_slice());
     }
     Ok(())
 }

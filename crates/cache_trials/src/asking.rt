@@ -27,7 +27,7 @@ pub const TABLES: [&str; 10] = [
 ];
 
 /// A user, who is a poster too: of them there are few, so that most of what is asked meets what others wrote.
-#[derive(Clone, Copy, Debug)]
+#[derive(Clone, Copy)]
 enum Person {
     Ann,
     Bob,
@@ -41,7 +41,7 @@ const PEOPLE: [Person; 3] = [Person::Ann, Person::Bob, Person::Cat];
 const TIMES: u32 = 4;
 
 /// A kind of request.
-#[derive(Clone, Copy, Debug)]
+#[derive(Clone, Copy)]
 enum Act {
     /// The join at a place of `JOINS`.
     Declare(usize),
@@ -102,7 +102,7 @@ const DRAWN: [Act; 32] = [
 ];
 
 /// One request: its kind, and whom and when it is about.
-#[derive(Clone, Copy, Debug)]
+#[derive(Clone, Copy)]
 pub struct Ask {
     act: Act,
     user: Person,

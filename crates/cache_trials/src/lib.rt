@@ -1,4 +1,5 @@
-// Clients of a cache and of a core, held to plain evaluation: tests alone, with nothing for other crates.
+// Clients of a cache and of a core, held to worked answers and to plain evaluation, and what a cache keeps, evicts and reads
+// again, seen by gates that count and by the steps of reads: tests alone, with nothing for other crates.
 //
 // A client that is alone, of a cache or of a core with many cells or few, is asked what is drawn, and answers each request byte
 // for byte as a client does that keeps nothing.
@@ -7,9 +8,6 @@
 // they meet and read all tables. The writes that were acknowledged, each at its position, are the history; each reply has to be
 // what evaluating the joins afresh gives after the entries that it names, and no client is answered at a position below one
 // that it was told before. What is held against the replies knows nothing of what a cache keeps.
-//
-// It stands on `pequod_cache` with `base_shards` and `pq_io`, on `world_client`, on `plain_client`, which evaluates afresh, on
-// `rand_pcg` for what is drawn, and on what these stand on.
 #![tactic(auto)]
 
 #[cfg(test)]
@@ -18,5 +16,15 @@ mod alone;
 mod asking;
 #[cfg(test)]
 mod checking;
+#[cfg(test)]
+mod clients;
+#[cfg(test)]
+mod held;
+#[cfg(test)]
+mod kept;
+#[cfg(test)]
+mod kept_rows;
+#[cfg(test)]
+mod threads;
 #[cfg(test)]
 mod together;

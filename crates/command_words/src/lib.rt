@@ -1,7 +1,7 @@
 // The words of the command line, read as a command.
 //
-// It stands on `key_space` for digits and, for its definitions, on `semantics`. The layers above read the words after the program's name with
-// `read_command`; contracts see a command as the data of `specs/Commands.antt`, which is the table of commands.
+// The layers above read the words after the program's name with `read_command`; contracts see a command as the data of
+// `specs/Commands.antt`, which is the table of commands.
 #![tactic(auto)]
 
 mod arguments;
@@ -11,6 +11,3 @@ mod numbers;
 mod options;
 
 pub use command::{Command, Room, read_command};
-
-#[cfg(test)]
-mod tests;

@@ -5,3 +5,4 @@ pub mod PrintedLemmas
 pub mod ScriptLemmas
 pub mod BoundLemmas
 pub mod ScanLemmas
+pub mod PlaceLemmas

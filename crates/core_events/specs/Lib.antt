@@ -6,3 +6,4 @@ pub mod PlainLaws
 pub mod PrintedLaws
 pub mod ScriptLaws
 pub mod Worked
+pub mod PlainEvents

@@ -1,12 +1,17 @@
 // The events of the core, what they are answered with nothing kept, the text that `replay` prints, and scripts of events.
 //
-// It stands on `semantics` and `protocol`, on `serde_json` and `json` for the JSON that is printed, and its proofs on
-// `key_ranges`. `specs/` has the definitions; the modules below have no code: each public function has an empty body, and
-// its contract is a law on the definitions, or a script that is computed with them. The layers above state by `plain` what
-// the core answers to every list of events, and may cite laws and lemmas.
+// `specs/` has the definitions, by which the layers above state, as `plain`, what the core answers to every list of events.
+// `event` and `bound` have the values that code passes on: contracts see an event and an answer as the data of the definitions,
+// by `plain_event` and `plain_done`, and a bound of a scan as its text. The other modules have no code: each public function
+// has an empty body, and its contract is a law on the definitions, or a script that is computed with them.
 #![tactic(auto)]
 
+pub mod bound;
+pub mod event;
 pub mod plain_laws;
 pub mod printed_laws;
 pub mod script_laws;
 pub mod worked;
+
+pub use bound::ScanBound;
+pub use event::{Done, Event};

@@ -3,8 +3,8 @@ ghost use Rattle.std.specs.Prelude.{◌≡◌, ◌<◌};
 
 use crate::script::read_events;
 use crate::showing::show_done;
+use core_events::Event;
 use scan_core::World;
-use scan_events::Event;
 use std::alloc::Global;
 use std::marker::Brand;
 use std::process::Abort;

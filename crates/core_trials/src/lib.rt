@@ -4,9 +4,6 @@
 // A test writes events as lines: writes, scans that are answered in pieces, and cells that are advanced, mended and evicted in
 // between. What a core answers with few cells and with many, of which few rows may be kept or many, is held against worked
 // answers, and over generated events against a core that keeps nothing: `plain_client`, who evaluates the state afresh.
-//
-// It stands on `scan_core` and `scan_events`, on `join_lang`, which reads joins, on `plain_client` with `session` and
-// `request_codec`, and on what these stand on.
 #![tactic(auto)]
 
 #[cfg(test)]

@@ -2,11 +2,11 @@
 ghost use Rattle.std.specs.Prelude.{◌<◌, length, IfSome};
 
 use crate::showing::show_done;
+use core_events::{Done, Event, ScanBound};
 use join_types::{Pair, Write};
 use key_space::Range;
 use plain_client::PlainClient;
 use request_codec::{Reply, Request};
-use scan_events::{Done, Event, ScanBound};
 use session::Service;
 use std::alloc::Global;
 use std::test::Fail;

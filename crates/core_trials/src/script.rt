@@ -1,8 +1,8 @@
 // Events that are written as lines.
+use core_events::{Event, ScanBound};
 use join_lang::parse;
 use join_types::Write;
 use key_space::{Key, Range, Value};
-use scan_events::{Event, ScanBound};
 use std::alloc::Global;
 use std::process::Abort;
 use std::test::Fail;

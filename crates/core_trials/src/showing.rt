@@ -1,7 +1,7 @@
 // Answers as text.
+use core_events::{Done, Event};
 use join_types::Pair;
 use scan_core::run_events;
-use scan_events::{Done, Event};
 use std::alloc::Global;
 use std::test::Fail;
 

@@ -1,8 +1,7 @@
 // A queue between threads that has room for so many items, and a bell that wakes a thread.
 //
-// It stands on `out_of_memory`, on `circular_buffer` of the toolchain for the room, and on locks. The layers above may use
-// `DoorQueue` and `Bell`, whose calls may wait; and `DoorState` and `BellState`, which they keep behind a lock, and of which
-// contracts say what each call makes. No contract can say when a call that waits returns.
+// The layers above may use `DoorQueue` and `Bell`, whose calls may wait; and `DoorState` and `BellState`, which they keep
+// behind a lock, and of which contracts say what each call makes. No contract can say when a call that waits returns.
 #![tactic(auto)]
 
 pub mod bell;
@@ -15,6 +14,3 @@ pub use bell::{Bell, Rung};
 pub use bell_state::{BellState, Heard};
 pub use door_queue::DoorQueue;
 pub use door_state::{DoorState, Next, Offered};
-
-#[cfg(test)]
-mod tests;

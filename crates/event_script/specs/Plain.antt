@@ -3,7 +3,7 @@ use Rattle.std.specs.Prelude.{◌≡◌, ℕ, List, map, Option, Some, None, Res
 use Rattle.semantics.specs.Texts.{Text}
 use Rattle.protocol.specs.Requests as plain
 use Rattle.core_events.specs.Events.{Event}
-use Rattle.scan_events.specs.Plain.{plain_event}
+use Rattle.core_events.specs.PlainEvents.{plain_event}
 use Rattle.request_codec.specs.declared.request.LineFault.{LineFault}
 use Rattle.request_codec.specs.Plain.{plain_fault}
 use Rattle.event_script.specs.declared.script.RefusedLine.{RefusedLine}

@@ -3,11 +3,11 @@ ghost use Rattle.std.specs.Prelude.{◌≡◌, ◌++◌, List, IfOk, OnOk, map};
 ghost use Rattle.core_events.specs.Events.{Event as PlainEvent, is_cell_event};
 ghost use Rattle.core_events.specs.Plain.{AnswersPlainly};
 ghost use Rattle.core_events.specs.Printed.{done_text, nothing_text, text_unless, event_texts, events_text};
-ghost use Rattle.scan_events.specs.Plain.{plain_event, plain_done};
+ghost use Rattle.core_events.specs.PlainEvents.{plain_event, plain_done};
 
+use core_events::{Done, Event};
 use out_of_memory::OutOfMemory;
 use request_codec::{Reply, text_value, write, write_row};
-use scan_events::{Done, Event};
 use std::alloc::Global;
 
 /// Which of the events are done to cells, in order. Linear in them.

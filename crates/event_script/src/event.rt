@@ -3,15 +3,15 @@ ghost use Rattle.std.specs.Prelude.{◌≡◌, IfOk, IfErr, Some, Ok, map};
 ghost use Rattle.serde_json.specs.View.{view, items_view};
 ghost use Rattle.protocol.specs.Requests.{json_of, request_of_value};
 ghost use Rattle.core_events.specs.Scripts.{append_written, begin_event, piece_event, mend_event, ranged, event_of_one, event_of_two, event_of_three, event_of_word, event_of_items, event_of_value, event_of_json, event_of};
-ghost use Rattle.scan_events.specs.Plain.{plain_event};
+ghost use Rattle.core_events.specs.PlainEvents.{plain_event};
 ghost use Rattle.event_script.specs.Plain.{IsFaultOf};
 ghost use Rattle.event_script.specs.Lines.{are_write, is_write, append_event, piece_of, advance_of};
 
 use crate::items::{is_word, number_of, position_of, text_of};
+use core_events::{Event, ScanBound};
 use join_types::Write;
 use key_space::Range;
 use request_codec::{LineFault, Request, read_value};
-use scan_events::{Event, ScanBound};
 use serde_json::Value;
 use std::alloc::Global;
 

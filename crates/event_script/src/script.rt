@@ -8,9 +8,9 @@ ghost use Rattle.event_script.specs.Plain.{plain_refusal, plain_script};
 
 use crate::event::read_event;
 use crate::lines::split_first_line;
+use core_events::Event;
 use out_of_memory::OutOfMemory;
 use request_codec::{LineFault, number_value, text_value, write_row};
-use scan_events::Event;
 use std::alloc::Global;
 
 /// The first line of a script that is refused.

@@ -7,10 +7,10 @@ ghost use Rattle.semantics.specs.Verdicts.{AllEntered};
 use crate::hiding::hide_computed;
 use crate::outputs::rank_outputs;
 use crate::replay::{Left, replay};
+use join_rows::Table;
 use join_types::{Entry, Pair};
 use key_space::{Key, Range, Value};
 use out_of_memory::OutOfMemory;
-use pair_table::Table;
 use std::alloc::Global;
 
 /// The number of ranks that a join may have, from 0.

@@ -3,9 +3,9 @@ ghost use Rattle.std.specs.Prelude.{◌≡◌, not};
 ghost use Rattle.semantics.specs.Texts.{pairs_where};
 ghost use Rattle.semantics.specs.Histories.{is_computed};
 
+use join_rows::Table;
 use join_set::JoinSet;
 use key_pattern::Slots;
-use pair_table::Table;
 
 /// Leaves out the pairs whose keys fit the output of a join that stands. It looks, for each join, at the keys that begin as
 /// its output does.

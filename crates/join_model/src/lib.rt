@@ -1,10 +1,8 @@
 // The state after a history by plain evaluation: slow, and exact.
 //
-// It stands on `out_of_memory`, `key_space`, `key_pattern`, `join_types`, `join_set`, `pair_table`, `operators` and `join_output`
-// and, for its definitions, on `semantics`. The layers above may use `state`, `afresh`, `value_afresh` and, of what stands
-// below a rank, `state_below` and `afresh_below`, the names of the types below that stand here again, and of the numbers that
-// values write `whole` and `decimal`: contracts see a history as the list of its entries, and the state as the list of its
-// pairs, keys ascending.
+// The layers above may use `state`, `afresh`, `value_afresh` and, of what stands below a rank, `state_below` and
+// `afresh_below`, the names of the types below that stand here again, and of the numbers that values write `whole` and
+// `decimal`: contracts see a history as the list of its entries, and the state as the list of its pairs, keys ascending.
 #![tactic(auto)]
 
 pub mod evaluation;
@@ -13,10 +11,7 @@ mod outputs;
 mod replay;
 
 pub use evaluation::{afresh, afresh_below, state, state_below, value_afresh};
+pub use join_rows::Table;
 pub use join_set::{AddFault, JoinSet, Standing};
 pub use join_types::{Cause, Entry, Join, JoinSource, Kind, Op, Pair, Positions, Write};
 pub use operators::{decimal, whole};
-pub use pair_table::Table;
-
-#[cfg(test)]
-mod tests;

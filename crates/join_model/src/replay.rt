@@ -5,10 +5,10 @@ ghost use Rattle.semantics.specs.Verdicts.{AllEntered};
 ghost use Rattle.join_types.specs.Writes.{plain_write};
 ghost use Rattle.join_model.specs.Replays.{IsLeftBy};
 
+use join_rows::Table;
 use join_set::Standing;
 use join_types::{Entry, Write};
 use out_of_memory::OutOfMemory;
-use pair_table::Table;
 use std::alloc::Global;
 
 /// What a history leaves.

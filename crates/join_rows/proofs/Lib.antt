@@ -1,1 +1,4 @@
+pub mod PlacedLemmas
+pub mod FittingLemmas
 mod NeedLemmas
+mod OrderLemmas

@@ -1,7 +1,6 @@
 // The sets of joins that may stand, why a join may not be added to one, and the verdict of a write.
 //
-// It stands on `out_of_memory`, `key_space`, `key_pattern`, `join_types`, `rank_order`, on `thiserror` of the toolchain for
-// the texts of its faults and, for its definitions, on `semantics`. The layers above may use the rules on joins, `JoinSet` and `Standing`: contracts see a set as the list of its joins with
+// The layers above may use the rules on joins, `JoinSet` and `Standing`: contracts see a set as the list of its joins with
 // their positions, and `Standing` as what it keeps of a history.
 #![tactic(auto)]
 
@@ -19,6 +18,3 @@ pub use fault::AddFault;
 pub use rules::{keeps_slot_rule, keeps_source_rule, reads_output};
 pub use set::JoinSet;
 pub use standing::Standing;
-
-#[cfg(test)]
-mod tests;

@@ -1,7 +1,6 @@
 // Joins, writes, entries and pairs as values.
 //
-// It stands on `out_of_memory`, `key_space`, `key_pattern` and, for its definitions, on `semantics`. The layers above may use
-// all that is public here: contracts see each type as the plain data of the definitions.
+// The layers above may use all that is public here: contracts see each type as the plain data of the definitions.
 #![tactic(auto)]
 
 pub mod cause;
@@ -11,6 +10,3 @@ pub mod write;
 pub use cause::{Cause, Positions};
 pub use join::{Join, JoinSource, Kind, Op};
 pub use write::{Entry, Pair, Write};
-
-#[cfg(test)]
-mod tests;

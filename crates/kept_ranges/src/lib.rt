@@ -1,9 +1,7 @@
 // What is kept for a range of a join's output, when it is right, and what filling, advancing and mending make of it.
 //
-// It stands on `semantics`, `key_ranges`, `growing_history` and `range_evaluation` and, for the words of what code keeps,
-// on `join_rows` and `agg_rows`. `specs/` has the definitions; the modules below have no code: each public function has an
-// empty body, and its contract is a law on the definitions. The layers above may use the definitions, and cite laws and
-// lemmas.
+// `specs/` has the definitions; the modules below have no code: each public function has an empty body, and its contract is a
+// law on the definitions. The layers above may use the definitions, and cite laws and lemmas.
 #![tactic(auto)]
 
 pub mod advance_laws;

@@ -1,9 +1,8 @@
 // Patterns of keys: which keys fit, what slots they give, which key slots fill, what slots a range of keys shares, and
 // which range holds the keys that fit under slots.
 //
-// It stands on `out_of_memory`, `key_space` and, for its definitions, on `semantics` and `key_ranges`. The layers above may use all
-// that is public here: contracts see a pattern as the list of its plain segments and slots as a list of 16 options of
-// texts.
+// The layers above may use all that is public here: contracts see a pattern as the list of its plain segments and slots as a
+// list of 16 options of texts.
 #![tactic(auto)]
 
 mod matching;
@@ -16,6 +15,3 @@ pub mod slots;
 pub use pattern::Pattern;
 pub use segment::Segment;
 pub use slots::{SlotTexts, Slots};
-
-#[cfg(test)]
-mod tests;

@@ -11,3 +11,4 @@ pub mod CutOrderLemmas
 pub mod NarrowedLemmas
 pub mod OnlyLemmas
 pub mod Computes
+pub mod AnswerLemmas

@@ -3,3 +3,4 @@ pub mod Containing
 pub mod RangeLaws
 pub mod ContainingLaws
 pub mod Worked
+pub mod AnswerLaws

@@ -1,7 +1,7 @@
 // Keys, values and ranges of keys, and the decimals that values and widths are written in.
 //
-// It stands on `out_of_memory` and `arrayvec` and, for its definitions, on `semantics` and `key_ranges`. The layers above may use all that is
-// public here: contracts see a key and a value as their texts and a range as its two bounds, and order is byte order.
+// The layers above may use all that is public here: contracts see a key and a value as their texts and a range as its two
+// bounds, and order is byte order.
 #![tactic(auto)]
 
 pub mod decimal;
@@ -16,6 +16,3 @@ pub use key::{Key, KeyFault};
 pub use key_bound::KeyBound;
 pub use range::{Range, RangeFault};
 pub use value::{Value, ValueFault};
-
-#[cfg(test)]
-mod tests;

@@ -1,9 +1,8 @@
 // What stands below a rank, in a range and between two positions, and ranges in parts that join to them: the laws that
 // layers of ranks rest on.
 //
-// It stands on `semantics`, `semantics_laws`, `key_ranges` and `growing_history`. `specs/` has the definitions; the modules
-// below have no code: each public function has an empty body, and its contract is a law on the definitions. The layers
-// above may cite laws and lemmas.
+// `specs/` has the definitions; the modules below have no code: each public function has an empty body, and its contract is a
+// law on the definitions. The layers above may cite laws and lemmas.
 #![tactic(auto)]
 
 pub mod layer_laws;

@@ -1,8 +1,7 @@
 // Which parts of a kept range's output are pending, as slots of the output that were noted.
 //
-// It stands on `out_of_memory`, `key_space`, `key_pattern` and, for its definitions, on `semantics` and `key_ranges`. The layers
-// above may use `LazyLog`: contracts see it as the record of the output and of the noted slots, in the order of noting.
-// The range that holds every key of the output under the slots is found once, when they are noted, so that no later
+// The layers above may use `LazyLog`: contracts see it as the record of the output and of the noted slots, in the order of
+// noting. The range that holds every key of the output under the slots is found once, when they are noted, so that no later
 // question takes memory.
 #![tactic(auto)]
 
@@ -10,6 +9,3 @@ pub mod laws;
 pub mod log;
 
 pub use log::LazyLog;
-
-#[cfg(test)]
-mod tests;

@@ -8,7 +8,7 @@ use Rattle.semantics.specs.Histories.{declare, Entry, History, IsPrefix}
 use Rattle.growing_history.proofs.PrefixLemmas.{prefix_trans}
 use Rattle.write_history.specs.Passes.{PassView}
 use Rattle.load_gen.specs.declared.acts.Act.{Act}
-use Rattle.load_laws.specs.Entries.{entry_by, act_entries, entries_of}
+use Rattle.load_gen.specs.Entries.{entry_by, act_entries, entries_of}
 use Rattle.load_run.specs.Adding.{HasAdded}
 use Rattle.load_run.proofs.AddingLemmas.{added_more, behind_all}
 

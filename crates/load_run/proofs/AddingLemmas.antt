@@ -11,7 +11,7 @@ use Rattle.growing_history.proofs.PrefixLemmas.{prefix_refl, prefix_trans}
 use Rattle.write_history.specs.Entries.{written_by}
 use Rattle.write_history.specs.Passes.{PassView, GoesOn, own}
 use Rattle.write_history.proofs.Entering.{written_by-append}
-use Rattle.load_laws.specs.Entries.{entry_by}
+use Rattle.load_gen.specs.Entries.{entry_by}
 use Rattle.load_run.specs.Adding.{HasAdded, OnlyReads}
 
 -- ---- an entry at its position

@@ -7,7 +7,7 @@ use Rattle.std.proofs.lemmas.Option.{get_or_from_slice_get, slice_get-get_or}
 use Rattle.std.proofs.Math.Seq.{drop-length, take-length}
 use Rattle.write_history.specs.Passes.{PassView}
 use Rattle.load_gen.specs.declared.acts.Act.{Act}
-use Rattle.load_laws.specs.Shares.{acts_of}
+use Rattle.load_gen.specs.Shares.{acts_of}
 use Rattle.load_run.specs.Jobs.{Assigned, AreIdle, AreDealt, IsDone, HaveWorked}
 
 -- ---- lists

@@ -12,10 +12,10 @@ use Rattle.write_history.specs.Entries.{written_by}
 use Rattle.write_history.specs.Passes.{PassView, new_pass, own}
 use Rattle.load_gen.specs.Plans.{planned}
 use Rattle.load_gen.specs.declared.acts.Act.{Act}
-use Rattle.load_laws.specs.Entries.{declared_joins, entries_of, load_history}
-use Rattle.load_laws.specs.Lines.{Holding, holding_of, table_holding, holding_line, load_line}
-use Rattle.load_laws.specs.Shares.{acts_of, IsShared}
-use Rattle.load_laws.proofs.SharedLemmas.{shared_load_is_load}
+use Rattle.load_gen.specs.Entries.{declared_joins, entries_of, load_history}
+use Rattle.load_gen.specs.Lines.{Holding, holding_of, table_holding, holding_line, load_line}
+use Rattle.load_gen.specs.Shares.{acts_of, IsShared}
+use Rattle.load_gen.proofs.SharedLemmas.{shared_load_is_load}
 use Rattle.load_run.specs.Adding.{HasAdded}
 use Rattle.load_run.specs.Jobs.{HaveWorked}
 use Rattle.load_run.specs.Meeting.{HoldsOwn}

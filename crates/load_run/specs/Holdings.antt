@@ -3,7 +3,7 @@ use Rattle.std.specs.Prelude.{◌≡◌, List, length, codes}
 use Rattle.semantics.specs.Texts.{Text}
 use Rattle.semantics.specs.Histories.{History, IsPrefix}
 use Rattle.write_history.specs.Passes.{PassView}
-use Rattle.load_laws.specs.Lines as plain
+use Rattle.load_gen.specs.Lines as plain
 use Rattle.load_run.specs.declared.held.Holding.{Holding}
 use Rattle.load_run.specs.declared.held.Held.{Held}
 use Rattle.load_run.specs.declared.text.Tables.{Tables}

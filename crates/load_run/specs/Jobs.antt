@@ -2,8 +2,8 @@
 use Rattle.std.specs.Prelude.{◌≡◌, ℕ, ◌<◌, List, [], ◌++◌, length, slice_index_or}
 use Rattle.write_history.specs.Passes.{PassView}
 use Rattle.load_gen.specs.declared.acts.Act.{Act}
-use Rattle.load_laws.specs.Entries.{entries_of}
-use Rattle.load_laws.specs.Shares.{acts_of}
+use Rattle.load_gen.specs.Entries.{entries_of}
+use Rattle.load_gen.specs.Shares.{acts_of}
 use Rattle.load_run.specs.Adding.{HasAdded}
 
 -- a client, and its acts in order

@@ -1,7 +1,7 @@
 // The acts of a load, done one after another by a client.
 ghost use Rattle.std.specs.Prelude.{◌∷◌, [], OnOk};
 ghost use Rattle.join_types.specs.Writes.{plain_write};
-ghost use Rattle.load_laws.specs.Entries.{entry_by, act_entries, entries_of};
+ghost use Rattle.load_gen.specs.Entries.{entry_by, act_entries, entries_of};
 ghost use Rattle.load_run.specs.Adding.{HasAdded};
 
 use base_shards::Naming;

@@ -1,7 +1,7 @@
 // The declarations of a load's joins.
 ghost use Rattle.std.specs.Prelude.{◌≡◌, ◌+◌, ◌∷◌, [], IfOk, OnOk, slice_get, Some};
 ghost use Rattle.semantics.specs.Histories.{IsPrefix, declare};
-ghost use Rattle.load_laws.specs.Entries.{declared_joins, entry_by};
+ghost use Rattle.load_gen.specs.Entries.{declared_joins, entry_by};
 ghost use Rattle.load_run.specs.Adding.{HasAdded};
 
 use base_shards::Naming;

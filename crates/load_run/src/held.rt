@@ -2,7 +2,7 @@
 ghost use Rattle.std.specs.Prelude.{◌≡◌, ◌+◌, ◌∷◌, [], true, IfOk, OnOk, nat_eq};
 ghost use Rattle.std.specs.List.{ends_with};
 ghost use Rattle.semantics.specs.Texts.{bar, is_key};
-ghost use Rattle.load_laws.specs.Lines.{pair_bytes, holding_of};
+ghost use Rattle.load_gen.specs.Lines.{pair_bytes, holding_of};
 ghost use Rattle.load_run.specs.Adding.{OnlyReads};
 ghost use Rattle.load_run.specs.Holdings.{plain_holding, IsHeldBetween};
 

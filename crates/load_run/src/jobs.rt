@@ -1,6 +1,6 @@
 // Clients with the acts that they are to do.
 ghost use Rattle.std.specs.Prelude.{◌≡◌, ◌++◌, ◌∷◌, ◌≤◌, [], length, IfOk, OnOk};
-ghost use Rattle.load_laws.specs.Shares.{poster_of};
+ghost use Rattle.load_gen.specs.Shares.{poster_of};
 ghost use Rattle.load_run.specs.Jobs.{AreDealt, AreIdle, IsDone};
 
 use crate::acting::do_acts;

@@ -1,7 +1,7 @@
 // A load by workers, and its line.
 ghost use Rattle.std.specs.Prelude.{◌≡◌, ◌+◌, ◌≤◌, length, IfOk};
 ghost use Rattle.pequod_cache.specs.Sitting.{AreOf, AreWriters};
-ghost use Rattle.load_laws.specs.Lines.{load_line};
+ghost use Rattle.load_gen.specs.Lines.{load_line};
 
 use crate::declaring::declare_joins;
 use crate::reading::read_all;

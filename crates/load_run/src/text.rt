@@ -1,6 +1,6 @@
 // The line of a load.
 ghost use Rattle.std.specs.Prelude.{◌≡◌, ◌+◌, IfOk};
-ghost use Rattle.load_laws.specs.Lines.{holding_line};
+ghost use Rattle.load_gen.specs.Lines.{holding_line};
 ghost use Rattle.load_run.specs.Holdings.{plain_holding};
 
 use crate::held::{Held, add_bytes};

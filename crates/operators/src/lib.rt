@@ -1,8 +1,7 @@
 // What the operators of joins make of values: the numbers that values write, and the result of the values that are listed at
 // one key or at each of many.
 //
-// It stands on `out_of_memory`, `key_space`, `join_types`, `pair_table` and, for its definitions, on `semantics`. The layers
-// above may use all that is public here.
+// The layers above may use all that is public here.
 #![tactic(auto)]
 
 pub mod group;
@@ -14,6 +13,3 @@ pub use group::gather;
 pub use number::{decimal, whole};
 pub use operator::result_of;
 pub use pairs::result_of_pairs;
-
-#[cfg(test)]
-mod tests;

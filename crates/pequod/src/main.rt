@@ -1,28 +1,13 @@
 // Pequod: an ordered key-value cache with cache joins, as a program.
 //
-// `main` makes the real source, sink, shelf and doors and hands them to the top call, `top::pequod`, which does all that the
-// program does and carries its contract. The crate stands on `command_words` for the words, on `session`, `pequod_cache` and
-// `base_shards` for `run`, on `server` for `serve`, on `joins_file` for `check` and `serve`, on `event_script` and `scan_core` for
-// `replay`, on `load_run` for `load`, on `clap` of the toolchain for the text that says how it is called, and on what is below
-// them.
+// `main` makes the real source, sink, shelf and doors and hands them to the top call, `pequod_commands::pequod`, which does all
+// that the program does and carries its contract.
 #![tactic(auto)]
-
-mod check;
-mod load;
-mod replay;
-mod run;
-mod serve;
-mod status;
-#[cfg(test)]
-mod tests;
-mod top;
-mod usage;
 
 ghost use Rattle.std.specs.Prelude.{◌≡◌, ◌⊎◌, IfErr};
 
-use crate::status::Status;
-use crate::top::{links, pequod};
-use crate::usage::usage;
+use pequod_commands::usage::usage;
+use pequod_commands::{Status, links, pequod};
 use pq_io::{FileShelf, OpenGate, Reading, TcpDoors, Writing};
 use std::env;
 use std::io::ErrorKind;

@@ -1,13 +1,10 @@
 // The cache that threads share, its clients, and the updater that brings forward what it keeps.
 //
-// It stands on `out_of_memory`, `key_space`, `join_types`, `join_set`, `write_history`, `base_shards`, `range_cells`, `pq_io`
-// for gates, `request_codec` and `session` for requests and replies, `steps`, on `atomic_table` of the toolchain for the name of
-// a history and, for its definitions and lemmas, on `semantics`, `key_ranges`, `growing_history`, `answer_laws` and `protocol`;
-// its tests on `join_lang` besides. The layers above may use `Seats`, `Cache::make`, `Cache::make_with_updater`, `Client`,
-// `ClientService` and `Updater`: contracts see a client as its pass of the write history, that is, its number and what it has
-// seen, and an updater as its pass too. Whatever the other clients do meanwhile, each reply is what evaluating the declared joins
-// afresh gives after the entries that it names. `LoneClient` is for a cache with one client: contracts see it as the history,
-// and as an `OnlyWriter` it tells that it alone has written.
+// The layers above may use `Seats`, `Cache::make`, `Cache::make_with_updater`, `Client`, `ClientService` and `Updater`:
+// contracts see a client as its pass of the write history, that is, its number and what it has seen, and an updater as its pass
+// too. Whatever the other clients do meanwhile, each reply is what evaluating the declared joins afresh gives after the entries
+// that it names. `LoneClient` is for a cache with one client: contracts see it as the history, and as an `OnlyWriter` it tells
+// that it alone has written.
 #![tactic(auto)]
 
 pub mod alone;
@@ -25,6 +22,3 @@ pub use range_cells::Turn;
 pub use seats::Seats;
 pub use service::ClientService;
 pub use updater::Updater;
-
-#[cfg(test)]
-mod tests;

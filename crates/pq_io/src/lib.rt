@@ -2,11 +2,10 @@
 // traits whose contracts name the bytes. Each has an implementation in memory, and one over std's readers, writers, files or
 // sockets. Beside them stands the gate that is passed before a range is evaluated.
 //
-// It stands on std alone. Code above it is generic over the traits. It may rely on the bytes given and
-// taken, where an object tells them: those in memory do, and the others tell none. It may also rely on
-// this: a call answers `Failed` only where the object's count of faults rose in that call, or stands at
-// the last value of its type. A function that is lent a source, a sink or a link says that its `borrows`
-// stay, so that a caller which lent it a `Both` knows what became of the two.
+// Code above it is generic over the traits. It may rely on the bytes given and taken, where an object tells them: those in
+// memory do, and the others tell none. It may also rely on this: a call answers `Failed` only where the object's count of faults
+// rose in that call, or stands at the last value of its type. A function that is lent a source, a sink or a link says that its
+// `borrows` stay, so that a caller which lent it a `Both` knows what became of the two.
 #![tactic(auto)]
 
 mod call_log;
@@ -24,8 +23,6 @@ mod shelf;
 mod standard;
 mod stream;
 mod tcp;
-#[cfg(test)]
-mod tests;
 
 pub use doors::Doors;
 pub use file_shelf::FileShelf;

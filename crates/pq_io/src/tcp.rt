@@ -3,13 +3,18 @@ ghost use Rattle.std.specs.Prelude.{◌≡◌, None};
 
 use crate::fault_count::FaultCount;
 use crate::standard::write_piece;
+use crate::tcp::accepting::{Accepting, after_error};
 use crate::{Doors, Failed, Link};
 use std::io::{Read, Write};
 use std::marker::Model;
 use std::net::{Net, OpenListener, OpenStream, TcpListener};
+use std::thread;
+use std::time::{Clock, Duration};
 
-#[cfg(test)]
-mod tests;
+mod accepting;
+
+/// How long the doors wait before they ask again, in milliseconds, where the system has no room for a connection.
+const MOMENT: u64 = 10;
 
 /// A link over a stream that reads and writes. What is left and what was taken are not told. Contracts see it as its two
 /// counts of faults.
@@ -38,6 +43,20 @@ impl<S> TcpLink<S> {
             read_faults: FaultCount::new(),
             write_faults: FaultCount::new(),
         }
+    }
+
+    /// Returns how many reads have failed, up to the last value of the type.
+    pub fn failed_reads(&self) -> u64
+        ensures { result ≡ self.now.reads }
+    {
+        self.read_faults.count()
+    }
+
+    /// Returns how many writes have failed, up to the last value of the type.
+    pub fn failed_writes(&self) -> u64
+        ensures { result ≡ self.now.writes }
+    {
+        self.write_faults.count()
     }
 }
 
@@ -103,7 +122,24 @@ impl<'a, R: Net> TcpDoors<'a, R> {
     }
 }
 
-impl<'a, R: Net> Doors for TcpDoors<'a, R>
+/// Accepts a connection, and waits for it. Where one fails before it is accepted, the next is asked for. Where the system has no
+/// descriptors or no buffers, it is asked again after each moment, until connections that ended have given some back. None says
+/// that the listener fails, or failed 2^64 - 1 times.
+fn accept_next<R: Net + Clock>(clock: &R, listener: &R::Listener) -> Option<R::Stream> {
+    for _ in 0..u64::MAX {
+        match listener.accept() {
+            Ok((stream, _)) => return Some(stream),
+            Err(error) => match after_error(&error) {
+                Accepting::Again => {}
+                Accepting::AfterAMoment => thread::sleep(clock, Duration::from_millis(MOMENT)),
+                Accepting::Failed => return None,
+            },
+        }
+    }
+    None
+}
+
+impl<'a, R: Net + Clock> Doors for TcpDoors<'a, R>
 where
     R::Stream: Send,
 {
@@ -125,8 +161,8 @@ where
         }
     }
 
-    /// Accepts a link, and waits for it. Its writes are sent at once, however small they are. It is a fault where none can be
-    /// accepted, and where the doors are not open.
+    /// Accepts a link, and waits for it, also where the system has no room for it yet. Its writes are sent at once, however small
+    /// they are. It is a fault where none can be accepted, and where the doors are not open.
     fn next(&mut self) -> Result<Option<TcpLink<R::Stream>>, Failed> {
         if self.links_left == Some(0) {
             return Ok(None);
@@ -134,14 +170,12 @@ where
         let Some(listener) = &self.listener else {
             return Err(self.faults.raise());
         };
-        match listener.accept() {
-            Ok((stream, _)) => {
-                self.links_left = self.links_left.map(|left| left.saturating_sub(1));
-                // Where the peer has closed the stream already this may be refused, and then a read or a write fails.
-                let _ = stream.set_nodelay(true);
-                Ok(Some(TcpLink::new(stream)))
-            }
-            Err(_) => Err(self.faults.raise()),
-        }
+        let Some(stream) = accept_next(self.net, listener) else {
+            return Err(self.faults.raise());
+        };
+        self.links_left = self.links_left.map(|left| left.saturating_sub(1));
+        // Where the peer has closed the stream already this may be refused, and then a read or a write fails.
+        let _ = stream.set_nodelay(true);
+        Ok(Some(TcpLink::new(stream)))
     }
 }

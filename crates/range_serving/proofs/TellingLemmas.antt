@@ -19,7 +19,7 @@ use Rattle.join_eval.specs.declared.reading.Changed.{Changed}
 use Rattle.join_eval.specs.declared.reading.Changed.TheVariants.{Keys, All}
 use Rattle.kept_ranges.specs.Sound.{KeptRange, IsSound}
 use Rattle.kept_ranges.specs.Notes.{Note}
-use Rattle.range_notes.specs.Since.{keys_since, key_after}
+use Rattle.range_state.specs.NotesSince.{keys_since, key_after}
 use Rattle.range_state.specs.Ready.{HasSameSubject, StandsAt}
 use Rattle.range_state.specs.Since.{AnswersSince, ListsAllSince, is_unknown_since}
 use Rattle.range_serving.specs.Serving.{StandsFrom}

@@ -1,11 +1,9 @@
 // What one kept range gives for a piece of a range at a position, over any reader, and lists in the order of their keys put
 // together.
 //
-// It stands on `out_of_memory`, `key_space`, `join_types`, `join_eval`, `range_state`, `steps` and, for its definitions and laws,
-// on `semantics`, `growing_history`, `layering`, `lazy_log`, `range_notes` and `kept_ranges`. The layers above may use all that
-// is public here: `serve` a piece from a kept range, or `serve_alone` from one of its own that is let go; `reach` a position
-// alone, or `catch_up` with it where nothing is to be filled, and whether a kept range `is_past` one; `tell` what changed of a
-// kept range's output; and `merge` pairs.
+// The layers above may use all that is public here: `serve` a piece from a kept range, or `serve_alone` from one of its own
+// that is let go; `reach` a position alone, or `catch_up` with it where nothing is to be filled, and whether a kept range
+// `is_past` one; `tell` what changed of a kept range's output; and `merge` pairs.
 #![tactic(auto)]
 
 pub mod merging;

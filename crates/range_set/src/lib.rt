@@ -1,8 +1,7 @@
 // Ranges of one table that are kept, each with an item, and how a range is covered by them and the gaps between.
 //
-// It stands on `out_of_memory`, `key_space` and, for its definitions, on `semantics` and `key_ranges`. The layers above may use
-// `RangeSet`, which contracts see as the list of its ranges with their items, ascending; `Piece`, a part of a range that is
-// asked for; and the laws of `laws`.
+// The layers above may use `RangeSet`, which contracts see as the list of its ranges with their items, ascending; `Piece`, a
+// part of a range that is asked for; and the laws of `laws`.
 #![tactic(auto)]
 
 pub mod laws;
@@ -11,6 +10,3 @@ pub mod range_set;
 
 pub use piece::Piece;
 pub use range_set::RangeSet;
-
-#[cfg(test)]
-mod tests;

@@ -1,3 +1,5 @@
+mod RingLemmas
+pub mod SinceLemmas
 pub mod ReadLemmas
 pub mod FillLemmas
 pub mod NothingLemmas

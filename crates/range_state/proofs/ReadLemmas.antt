@@ -23,7 +23,7 @@ use Rattle.kept_ranges.specs.ReadLaws.{IsClear}
 use Rattle.kept_ranges.specs.Sound.{KeptRange, IsSoundAt, IsSound}
 use Rattle.kept_ranges.proofs.ReadLemmas.{absent_by, rows_are_output}
 use Rattle.kept_ranges.proofs.SoundLemmas.{or_false_left, or_false_right}
-use Rattle.range_notes.specs.Since.{key_of, key_after, keys_since, slots_meet, meets_after, slots_since}
+use Rattle.range_state.specs.NotesSince.{key_of, key_after, keys_since, slots_meet, meets_after, slots_since}
 use Rattle.range_state.specs.Held.{HasPlaces}
 use Rattle.range_state.specs.Ready.{pending_meets, StandsAt}
 use Rattle.range_state.specs.Since.{is_unknown_since, IsSameBut}

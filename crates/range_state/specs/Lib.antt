@@ -1,3 +1,5 @@
+pub mod PlainNotes
+pub mod NotesSince
 pub mod Advanced
 pub mod Held
 pub mod Filled

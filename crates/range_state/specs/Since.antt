@@ -8,7 +8,7 @@ use Rattle.semantics.specs.States.{below}
 use Rattle.join_eval.specs.declared.reading.Changed.{Changed}
 use Rattle.join_eval.specs.declared.reading.Changed.TheVariants.{Keys, All}
 use Rattle.kept_ranges.specs.Sound.{KeptRange}
-use Rattle.range_notes.specs.Since.{keys_since, slots_since}
+use Rattle.range_state.specs.NotesSince.{keys_since, slots_since}
 use Rattle.range_state.specs.Ready.{pending_meets}
 
 -- whether it is not known what changed in a range since a position: nothing is kept, the notes start after it, something pending meets the range, or so do slots that were noted since

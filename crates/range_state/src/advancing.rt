@@ -16,12 +16,12 @@ ghost use Rattle.range_state.specs.Advanced.{applied_by, IsAdvancedTo, key_notes
 
 use crate::holding::Holding;
 use crate::subject::Subject;
+use crate::{Marked, Note, Notes};
 use join_eval::Reader;
 use join_output::evaluation::value_op;
 use key_space::Key;
 use lazy_log::LazyLog;
 use out_of_memory::OutOfMemory;
-use range_notes::{Marked, Note, Notes};
 use source_changes::laws::needs_can_fill;
 use source_changes::{
     Application, Touch, applications, apply_values, list_values, remake_rows, touches,

@@ -1,8 +1,8 @@
 // What is kept at a position.
+use crate::Notes;
 use agg_rows::AggRows;
 use join_rows::Rows;
 use lazy_log::LazyLog;
-use range_notes::Notes;
 
 /// What is kept for a range at a position.
 #[derive(Drop)]

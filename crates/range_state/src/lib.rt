@@ -1,9 +1,9 @@
-// A kept range of a join's output: filled, advanced to later positions, mended where something is pending, and read.
+// A kept range of a join's output: filled, advanced to later positions, mended where something is pending, and read; and the
+// last 256 notes of which keys of it may have changed, and when.
 //
-// It stands on `out_of_memory`, `key_space`, `key_pattern`, `lazy_log`, `join_types`, `join_output`, `join_rows`, `agg_rows`,
-// `join_eval`, `eager_apply`, `range_notes`, `source_changes`, `steps` and, for its definitions and laws, on `semantics`,
-// `key_ranges`, `growing_history`, `range_evaluation` and `kept_ranges`. The layers above may use `RangeState`, over any
-// reader: contracts see it as the kept range of the definitions, and each call keeps `IsSound` over the reader's list.
+// The layers above may use `RangeState`, over any reader: contracts see it as the kept range of the definitions, and each call
+// keeps `IsSound` over the reader's list. They see `Notes` as their list in the order in which they were made, and the
+// position from which they are complete.
 #![tactic(auto)]
 
 mod advancing;
@@ -11,7 +11,12 @@ mod filling;
 mod holding;
 mod listing;
 mod mending;
+pub mod note;
+pub mod notes;
+mod since;
 pub mod state;
 mod subject;
 
+pub use note::{Marked, Note};
+pub use notes::Notes;
 pub use state::RangeState;

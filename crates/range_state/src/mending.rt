@@ -18,11 +18,11 @@ ghost use Rattle.range_state.specs.Mended.{AreAllBare, AreBareFor, KeepsPlace, s
 
 use crate::holding::Holding;
 use crate::subject::Subject;
+use crate::{Marked, Note};
 use join_eval::{Reader, evaluate};
 use join_rows::Rows;
 use key_pattern::SlotTexts;
 use out_of_memory::OutOfMemory;
-use range_notes::{Marked, Note};
 use std::mem;
 use std::sync::ledger::Ledger;
 use steps::Steps;
@@ -97,5 +97,6 @@ pub fn mend_all<R: Reader, L: Ledger>(
         let mark = Marked::Slots(slots);
         held.notes.add(Note { position, mark })?;
     }
+    held.rows.forget_order();
     Ok(())
 }

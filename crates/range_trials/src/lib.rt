@@ -1,17 +1,22 @@
 // Worked runs and generated histories, played on kept ranges and held to plain evaluation: tests alone, with nothing for
 // other crates.
 //
+// Besides, one worked advance by its parts, cells that are given, used and evicted, and notes that are pushed out.
+//
 // A test tells a history by lines, keeps the range of its last join's output, and plays a script of calls on it: fill,
 // advance, mend, read, what changed since a position, forget, and memory that runs out at a call of the reader. What the
 // calls answer is held against worked answers, and over generated histories against the state that is evaluated afresh
 // by `join_model`.
-//
-// It stands on `range_state` and `list_reader`, on `join_lang` and `join_model`, which tell histories, and on what these
-// stand on.
 #![tactic(auto)]
 
 #[cfg(test)]
+mod advances;
+#[cfg(test)]
+mod cells;
+#[cfg(test)]
 mod generated;
+#[cfg(test)]
+mod notes;
 #[cfg(test)]
 mod played;
 #[cfg(test)]

@@ -1,6 +1,6 @@
 // The ranks of joins by what each reads, or the cycle that stands in their way.
 //
-// It stands on `out_of_memory` and, for its definitions, on `semantics`. The layer above calls `ranks`.
+// The layer above calls `ranks`.
 #![tactic(auto)]
 
 mod answer;
@@ -9,6 +9,3 @@ mod levels;
 mod walk;
 
 pub use answer::{Ranked, ranks};
-
-#[cfg(test)]
-mod tests;

@@ -1,9 +1,7 @@
 // Request lines in, reply lines out.
 //
-// It stands on `key_space`, `join_types` and `join_lang` for what lines carry, on `out_of_memory`, on `serde_json` and its `json`
-// for JSON, on `itoa` for numbers, and, for its definitions, on `protocol` and `semantics`. The layers above cut bytes into
-// lines with `Lines`, read each with `read`, and write each reply with `write` and other rows with `write_row`; contracts
-// speak of requests and replies by the definitions of `protocol`.
+// The layers above cut bytes into lines with `Lines`, read each with `read`, and write each reply with `write` and other rows
+// with `write_row`; contracts speak of requests and replies by the definitions of `protocol`.
 #![tactic(auto)]
 
 pub mod fixed;
@@ -22,6 +20,3 @@ pub use reply::Reply;
 pub use request::{LineFault, Request};
 pub use rows::{number_value, text_value, write_row};
 pub use writing::{cause_name, write};
-
-#[cfg(test)]
-mod tests;

@@ -11,7 +11,7 @@ use Rattle.key_ranges.specs.Ranges.{is_below}
 use Rattle.key_ranges.proofs.OrderLemmas.{is_up_to, up_to_from_below}
 use Rattle.growing_history.proofs.PrefixLemmas.{take_prefix}
 use Rattle.layering.proofs.PartLemmas.{two_make_range, parts_make_range}
-use Rattle.scan_table.specs.Progress.{Progress, progress_at, Puts, begun, further, IsNext}
+use Rattle.scan_core.specs.Progress.{Progress, progress_at, Puts, begun, further, IsNext}
 use Rattle.scan_core.specs.Going.{IsGoing, AreGoing}
 
 -- a position within a history is within a longer one

@@ -1,3 +1,6 @@
+pub mod TableLemmas
+pub mod BoundLemmas
+pub mod LookLemmas
 pub mod RightLemmas
 pub mod LendingLemmas
 pub mod GoingLemmas

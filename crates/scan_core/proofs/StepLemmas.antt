@@ -12,8 +12,8 @@ use Rattle.core_events.specs.Events.{Done, append, begin, piece, finish, entered
 use Rattle.core_events.specs.Plain.{World, Scan, scan_of, moved, freed, goes_on, pairs_of, append_step, begin_step, piece_step, finish_step, Step}
 use Rattle.core_events.specs.PlainLaws.{LookAlike}
 use Rattle.range_set.proofs.BoundLemmas.{not_below_itself}
-use Rattle.scan_table.specs.Progress.{Progress, progress_at, scans_of, begun, further, Puts, IsNext, IsEnded, IsShort, next_range}
-use Rattle.scan_table.proofs.LookLemmas.{scan_of_table, begun_looks, moved_looks, freed_looks}
+use Rattle.scan_core.specs.Progress.{Progress, progress_at, scans_of, begun, further, Puts, IsNext, IsEnded, IsShort, next_range}
+use Rattle.scan_core.proofs.LookLemmas.{scan_of_table, begun_looks, moved_looks, freed_looks}
 use Rattle.cell_slots.specs.Slots.{Holdings}
 use Rattle.scan_core.specs.Going.{IsGoing, AreGoing}
 use Rattle.scan_core.specs.Worlds.{CoreWorld, StepsAs, StepSpends, PieceSpends}

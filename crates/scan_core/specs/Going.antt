@@ -3,7 +3,7 @@ use Rattle.std.specs.Prelude.{◌≡◌, ℕ, ◌≤◌, List, length, take, Som
 use Rattle.semantics.specs.Texts.{Range, pairs_within}
 use Rattle.semantics.specs.Histories.{History}
 use Rattle.semantics.specs.States.{state}
-use Rattle.scan_table.specs.Progress.{Progress, progress_at}
+use Rattle.scan_core.specs.Progress.{Progress, progress_at}
 
 -- the range up to which a scan is answered
 abbrev pub answered_range : Progress → Range

@@ -1,3 +1,5 @@
+pub mod Progress
+pub mod Stored
 pub mod Rights
 pub mod Reading
 pub mod CoreLaws

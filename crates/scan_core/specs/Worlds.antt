@@ -18,7 +18,7 @@ use Rattle.cell_slots.specs.declared.slot.Slot.TheVariants.{Free, Lent}
 use Rattle.cell_slots.specs.Slots.{Holdings, StandsAs, HasFree, MeetsNone, HoldsReady, HoldsJust}
 use Rattle.cell_slots.specs.Spending.{base_count, row_count}
 use Rattle.scan_core.specs.Cells.{HoldsAt, IsHeldAt, HoldsNothing}
-use Rattle.scan_table.specs.Progress.{next_range}
+use Rattle.scan_core.specs.Progress.{next_range}
 
 -- the history and the scans under way, in the order of their numbers; and what the cells hold
 pub record CoreWorld : Type 0 where

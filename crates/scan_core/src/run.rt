@@ -1,11 +1,11 @@
 // A list of events, answered one after another.
 ghost use Rattle.std.specs.Prelude.{◌≡◌, ◌<◌, ◌≤◌, map, IfOk};
 ghost use Rattle.core_events.specs.Plain.{AnswersPlainly, start};
-ghost use Rattle.scan_events.specs.Plain.{plain_done, plain_event};
+ghost use Rattle.core_events.specs.PlainEvents.{plain_done, plain_event};
 
 use crate::world::World;
+use core_events::{Done, Event};
 use out_of_memory::OutOfMemory;
-use scan_events::{Done, Event};
 use std::alloc::Global;
 use std::marker::Brand;
 use std::sync::ledger::{Blank, Ledger};

@@ -4,21 +4,21 @@ ghost use Rattle.join_types.specs.Writes.{plain_write};
 ghost use Rattle.core_events.specs.Events as plain;
 ghost use Rattle.core_events.specs.Plain.{start, step};
 ghost use Rattle.core_events.specs.PlainLaws.{AnswersAs, LookAlike};
-ghost use Rattle.scan_events.specs.Plain.{plain_done, plain_event};
+ghost use Rattle.core_events.specs.PlainEvents.{plain_done, plain_event};
 ghost use Rattle.cell_slots.specs.declared.slot.Slot.TheVariants.{Free};
 ghost use Rattle.scan_core.specs.Rights.{AreRight};
 ghost use Rattle.scan_core.specs.Worlds.{CellSteps, IsRankTo, StepsAs, StepSpends, without_scan};
 
+use crate::ScanTable;
 use crate::cell_events::stands_past;
 use crate::contents::Core;
 use crate::reading::{advance_cell, mend_cell, read_piece};
 use crate::stack::Stack;
 use cell_slots::Slot;
+use core_events::{Done, Event, ScanBound};
 use join_types::{Entry, Write};
 use key_space::Range;
 use out_of_memory::OutOfMemory;
-use scan_events::{Done, Event, ScanBound};
-use scan_table::ScanTable;
 use std::alloc::Global;
 use std::marker::Model;
 use std::sync::ledger::Ledger;
@@ -34,7 +34,7 @@ pub struct World {
 }
 
 impl Model for World {
-    ghost use Rattle.scan_table.specs.Progress.{scans_of};
+    ghost use Rattle.scan_core.specs.Progress.{scans_of};
     ghost use Rattle.scan_core.specs.Going.{AreGoing};
     ghost use Rattle.scan_core.specs.Worlds.{CoreWorld, NoneLent};
 

@@ -1,8 +1,8 @@
 // Further laws on the definitions of what is stored, apart from any code.
 //
-// It stands on `semantics`, whose definitions it states laws of, and has no code: each public function has an empty
-// body, and its contract is a law of `specs/`. `proofs/` has the lemmas behind the laws, in the order of
-// `proofs/Lib.antt`. The layers above may cite laws and lemmas; `growing_history` cites lemmas on keys.
+// It has no code: each public function has an empty body, and its contract is a law of `specs/`. `proofs/` has the lemmas
+// behind the laws, in the order of `proofs/Lib.antt`. The layers above may cite laws and lemmas; `growing_history` cites lemmas
+// on keys.
 #![tactic(auto)]
 
 pub mod admissible_laws;

@@ -1,4 +1,3 @@
 pub mod ListingLemmas
 pub mod PartLemmas
-pub mod TestLemmas
 pub mod CellLemmas

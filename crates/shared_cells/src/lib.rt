@@ -1,12 +1,9 @@
 // Cells that keep ranges of the outputs of joins, which threads share: each behind a lock of its own, with a directory of
 // their places and the order of their last use behind two more.
 //
-// It stands on `out_of_memory`, `key_space`, `join_types`, `range_set`, `evict_book`, `write_history`, `base_shards`,
-// `shared_reader`, `pq_io` for gates, `join_eval`, `range_state`, `range_serving`, `steps`, on `atomic_table` of the toolchain
-// for the name of a history and, for its definitions and laws, on `semantics`, `key_ranges`, `growing_history`, `layering`,
-// `kept_ranges`, `cell_slots` and `rank_layers`. The layers above may use `SharedCells`, whose calls may wait for a lock, and
-// the `Part`s that it gives. What is done under a lock is stated at `Cell`, on the functions that are lent the locked value: no
-// contract of a call that takes the lock can say it.
+// The layers above may use `SharedCells`, whose calls may wait for a lock, and the `Part`s that it gives. What is done under a
+// lock is stated at `Cell`, on the functions that are lent the locked value: no contract of a call that takes the lock can say
+// it.
 #![tactic(auto)]
 
 mod book;
@@ -18,6 +15,3 @@ pub mod store;
 pub use cell::{Asked, Cell};
 pub use directory::{Part, SharedCell};
 pub use store::SharedCells;
-
-#[cfg(test)]
-mod tests;

@@ -1,11 +1,8 @@
 // A reader of one rank more, where threads share the history: it stands on a reader of the ranks below, and keeps ranges of its
 // joins' outputs in cells that threads share.
 //
-// It stands on `out_of_memory`, `key_space`, `join_types`, `write_history`, `base_shards`, `shared_reader`, `shared_cells`,
-// `pq_io` for gates, `join_eval`, `range_serving`, `rank_layers` for keys put together, `steps` and, for its definitions and
-// laws, on `semantics`, `key_ranges`, `growing_history`, `layering` and `cell_slots`. The layers above may use `Layer`, which
-// stands on any stacked reader; nested eight times it reads joins of all ranks. Whoever reads may wait for cells: a layer takes
-// the lock of a cell of its own rank, and under it those of cells of lower ranks.
+// The layers above may use `Layer`, which stands on any stacked reader; nested eight times it reads joins of all ranks. Whoever
+// reads may wait for cells: a layer takes the lock of a cell of its own rank, and under it those of cells of lower ranks.
 #![tactic(auto)]
 
 pub mod above;

@@ -1,6 +1,6 @@
 // Counting of steps: what a call reads is counted, what it costs can be said in its contract, and a test can ask how much it was.
 //
-// It stands on std alone. The layers above may use all that is public here: contracts see a counter as a number.
+// The layers above may use all that is public here: contracts see a counter as a number.
 #![tactic(auto)]
 
 ghost use Rattle.std.specs.Prelude.{◌≡◌, ◌+◌, ◌-◌, ◌^◌, ◌<◌, min};
@@ -66,6 +66,3 @@ impl<L: Ledger> Steps<L> {
         self.taken
     }
 }
-
-#[cfg(test)]
-mod tests;

@@ -1,9 +1,8 @@
 // Which updaters a written key concerns: ids with the source ranges that each has registered, and the ids that are marked,
 // in the order of marking.
 //
-// It stands on `out_of_memory`, `key_space` and, for its definitions, on `semantics` and `key_ranges`. The layers above may
-// use `UpdaterIndex`: contracts see it as the list of the ranges of each id, and the list of the marked ids. Below it,
-// `forks` finds the ranges that contain a key by the place where the bounds of each range part.
+// The layers above may use `UpdaterIndex`: contracts see it as the list of the ranges of each id, and the list of the marked
+// ids. Below it, `forks` finds the ranges that contain a key by the place where the bounds of each range part.
 #![tactic(auto)]
 
 mod bounds;
@@ -15,6 +14,3 @@ mod registered;
 mod side;
 
 pub use index::UpdaterIndex;
-
-#[cfg(test)]
-mod tests;

@@ -1,8 +1,7 @@
 // Worked runs, computed by the definitions alone, byte for byte.
 //
-// It stands on `semantics` and `protocol`, and on `serde_json` and `json` for the JSON of the lines. Each public function has
-// an empty body, and its contract is a run: the transcript of some lines is these replies. One is a law over all lines that
-// are too long, which are not computed. No layer stands on it.
+// Each public function has an empty body, and its contract is a run: the transcript of some lines is these replies. One is a
+// law over all lines that are too long, which are not computed. No layer stands on it.
 #![tactic(auto)]
 
 pub mod aggregate_rows;

@@ -9,7 +9,7 @@ use Rattle.protocol.specs.Replies.{answered}
 use Rattle.protocol.specs.Told.{Told}
 use Rattle.protocol.proofs.TellingSteps.{told_read}
 use Rattle.key_ranges.specs.Ranges.{just}
-use Rattle.answer_laws.proofs.AnswerLemmas.{found_answers, absent_answers}
+use Rattle.key_ranges.proofs.AnswerLemmas.{found_answers, absent_answers}
 
 -- the position of the answer to a scan, and its pairs
 position_of : Answer → ℕ

@@ -9,12 +9,12 @@ ghost use Rattle.request_codec.specs.Plain.{plain_reply};
 ghost use Rattle.key_ranges.specs.Ranges.{is_open};
 ghost use Rattle.world_client.specs.Asking.{IsIdle, HasOneAtMost, IsAsked, IsWhole, MayEnd};
 
+use core_events::{Done, Event, ScanBound};
 use join_types::{Pair, Write};
 use key_space::Range;
 use out_of_memory::OutOfMemory;
 use request_codec::Reply;
 use scan_core::World;
-use scan_events::{Done, Event, ScanBound};
 use std::sync::ledger::Ledger;
 use steps::Steps;
 

@@ -1,9 +1,7 @@
 // One client alone over the core: each write is an event of the core, and each read is a scan that is answered in one piece. It
 // keeps ranges in cells, on one thread and without a lock, and is, beside `plain_client`, a yardstick for tests.
 //
-// It stands on `scan_core`, `scan_events`, `session` for what serves lines, `request_codec`, `join_types`, `key_space`, `steps` and
-// `out_of_memory`, and, for its definitions and lemmas, on `protocol`, `core_events`, `semantics`, `answer_laws` and
-// `plain_client`. The layers above may use `WorldClient` in their tests: contracts see it as its history.
+// The layers above may use `WorldClient` in their tests: contracts see it as its history.
 #![tactic(auto)]
 
 pub mod asking;

@@ -1,9 +1,8 @@
 // The write history that all threads share: one list of entries, to which each pass of it appends.
 //
-// It stands on `out_of_memory`, `key_space`, `join_types`, `join_set`, `atomic_table` and, for its definitions, on
-// `semantics` and `growing_history`. The layers above may use `History`, `Pass` and `AppendFault`: contracts see a history as which one it is,
-// and a pass as its number, the number of passes that may write, and the entries that it has seen. All views of one
-// history are beginnings of one list.
+// The layers above may use `History`, `Pass` and `AppendFault`: contracts see a history as which one it is, and a pass as its
+// number, the number of passes that may write, and the entries that it has seen. All views of one history are beginnings of one
+// list.
 //
 // The history is a table of words and one slot. Word 0 is the turn, word 1 the number of entries, and word 2 the number
 // of first entries that the log no longer stores. The slot holds the log, and whoever has the turn has the log too. What
@@ -24,6 +23,3 @@ mod turn;
 pub use fault::AppendFault;
 pub use history::History;
 pub use pass::Pass;
-
-#[cfg(test)]
-mod tests;

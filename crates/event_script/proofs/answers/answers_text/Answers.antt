@@ -1,6 +1,6 @@
 use Rattle.std.proofs.Common.{◌≡◌, [], map, ap, arith}
 use Rattle.std.proofs.lemmas.Grind.{common_steps}
-use Rattle.scan_events.specs.Plain.{plain_done}
+use Rattle.core_events.specs.PlainEvents.{plain_done}
 use Rattle.event_script.proofs.AnswerLemmas.{marked-no_marks, marked-no_answers, marked_text, marked_plainly}
 use Rattle.event_script.proofs.answers.answers_text.Goals as goal
 

@@ -1,5 +1,5 @@
 use Rattle.std.proofs.Common.{◌≡◌, ◌++◌, map}
-use Rattle.scan_events.specs.Plain.{plain_done}
+use Rattle.core_events.specs.PlainEvents.{plain_done}
 use Rattle.event_script.proofs.AnswerLemmas.{marked}
 use Rattle.event_script.proofs.answers.answers_text.Given as goal
 

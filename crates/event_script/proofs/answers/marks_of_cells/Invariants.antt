@@ -1,6 +1,6 @@
 use Rattle.std.proofs.Common.{◌≡◌, take, map}
 use Rattle.core_events.specs.Events.{is_cell_event}
-use Rattle.scan_events.specs.Plain.{plain_event}
+use Rattle.core_events.specs.PlainEvents.{plain_event}
 use Rattle.event_script.proofs.answers.marks_of_cells.Given as goal
 
 abbrev pub invariant-loop-event : goal.invariant-loop-event

@@ -1,7 +1,7 @@
 use Rattle.std.proofs.Common.{◌≡◌, ◌++◌, ◌∷◌, [], ◌∙◌, map, Err, sym, ap, arith}
 use Rattle.std.proofs.lemmas.Grind.{common_steps}
 use Rattle.core_events.specs.Scripts.{event_of}
-use Rattle.scan_events.specs.Plain.{plain_event}
+use Rattle.core_events.specs.PlainEvents.{plain_event}
 use Rattle.event_script.proofs.ScriptLemmas.{named_fault, reads_none, reads_more, reads_refused, reads_all}
 use Rattle.event_script.proofs.script.read_script.Goals as goal
 

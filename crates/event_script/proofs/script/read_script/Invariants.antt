@@ -1,6 +1,6 @@
 use Rattle.std.proofs.Common.{◌≡◌, ◌+◌, ◌≤◌, length, map}
 use Rattle.core_events.specs.Scripts.{script_lines, events_of_lines, script_events}
-use Rattle.scan_events.specs.Plain.{plain_event}
+use Rattle.core_events.specs.PlainEvents.{plain_event}
 use Rattle.event_script.proofs.ScriptLemmas.{onto_all}
 use Rattle.event_script.proofs.script.read_script.Given as goal
 

@@ -1,4 +1,4 @@
-use Rattle.load_laws.specs.Entries.{entries_of}
+use Rattle.load_gen.specs.Entries.{entries_of}
 use Rattle.load_run.specs.Adding.{HasAdded}
 use Rattle.load_run.proofs.acting.do_acts.Given as goal
 

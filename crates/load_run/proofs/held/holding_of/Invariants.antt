@@ -1,6 +1,6 @@
 use Rattle.std.proofs.Common.{◌≡◌, take}
 use Rattle.std.specs.Prelude.{sum_by}
-use Rattle.load_laws.specs.Lines.{pair_bytes}
+use Rattle.load_gen.specs.Lines.{pair_bytes}
 use Rattle.load_run.proofs.held.holding_of.Given as goal
 
 abbrev pub invariant-loop-pair : goal.invariant-loop-pair

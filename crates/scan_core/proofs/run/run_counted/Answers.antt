@@ -1,6 +1,6 @@
 use Rattle.std.proofs.Common.{◌∷◌, [], ◌++◌, map, sym, ap, ◌∙◌, subst}
 use Rattle.std.proofs.lemmas.List.{map-append}
-use Rattle.scan_events.specs.Plain.{plain_event, plain_done}
+use Rattle.core_events.specs.PlainEvents.{plain_event, plain_done}
 use Rattle.scan_core.specs.Running.{RunsPlainly}
 use Rattle.scan_core.proofs.RunLemmas.{runs_none, runs_more}
 use Rattle.scan_core.proofs.run.run_counted.Goals as goal

@@ -1,5 +1,5 @@
 use Rattle.std.proofs.Common.{map}
-use Rattle.scan_events.specs.Plain.{plain_event, plain_done}
+use Rattle.core_events.specs.PlainEvents.{plain_event, plain_done}
 use Rattle.scan_core.specs.Running.{RunsPlainly}
 use Rattle.scan_core.proofs.run.run_counted.Given as goal
 

@@ -2,7 +2,7 @@ use Rattle.std.proofs.Common.{Some, refl, ap, ◌∙◌}
 use Rattle.core_events.specs.Events as plain
 use Rattle.join_types.specs.Causes.{plain_cause}
 use Rattle.join_types.specs.Writes.{plain_write}
-use Rattle.scan_events.specs.Plain.{plain_done}
+use Rattle.core_events.specs.PlainEvents.{plain_done}
 use Rattle.world_client.proofs.AskingLemmas.{told_of_write}
 use Rattle.world_client.proofs.asking.append.Goals as goal
 

@@ -1,6 +1,6 @@
 use Rattle.std.proofs.Common.{Some, refl, ap, ◌∙◌}
 use Rattle.core_events.specs.Events as plain
-use Rattle.scan_events.specs.Plain.{plain_done}
+use Rattle.core_events.specs.PlainEvents.{plain_done}
 use Rattle.world_client.proofs.AskingLemmas.{end_answers, end_idle}
 use Rattle.world_client.proofs.asking.finish.Goals as goal
 

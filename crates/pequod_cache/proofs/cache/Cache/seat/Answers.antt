@@ -1,5 +1,5 @@
 use Rattle.std.proofs.Common.{◌≡◌, ◌++◌, ◌∙◌, ap, sym, append-nil, length, arith}
-use Rattle.answer_laws.proofs.AnswerLemmas.{none_by_length}
+use Rattle.key_ranges.proofs.AnswerLemmas.{none_by_length}
 use Rattle.pequod_cache.proofs.ClientLemmas.{next_writer}
 use Rattle.pequod_cache.proofs.cache.Cache.seat.Goals as goal
 

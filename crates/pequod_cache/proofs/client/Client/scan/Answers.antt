@@ -4,7 +4,7 @@ use Rattle.protocol.specs.Requests.{read}
 use Rattle.protocol.specs.Replies.{answered}
 use Rattle.protocol.specs.Told.{Told}
 use Rattle.write_history.specs.Passes.{PassView}
-use Rattle.answer_laws.proofs.AnswerLemmas.{pairs_answer}
+use Rattle.key_ranges.proofs.AnswerLemmas.{pairs_answer}
 use Rattle.pequod_cache.proofs.ToldLemmas.{told_answer, told_no_answer}
 use Rattle.pequod_cache.proofs.client.Client.scan.Goals as goal
 

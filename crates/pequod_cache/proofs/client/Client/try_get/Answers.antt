@@ -5,7 +5,7 @@ use Rattle.protocol.specs.Requests.{read}
 use Rattle.protocol.specs.Replies.{answered}
 use Rattle.protocol.specs.Told.{Told}
 use Rattle.write_history.specs.Passes.{PassView}
-use Rattle.answer_laws.proofs.AnswerLemmas.{found_answers, absent_answers, none_by_length}
+use Rattle.key_ranges.proofs.AnswerLemmas.{found_answers, absent_answers, none_by_length}
 use Rattle.pequod_cache.proofs.ToldLemmas.{told_answer}
 use Rattle.pequod_cache.proofs.client.Client.try_get.Goals as goal
 

@@ -2,7 +2,7 @@ use Rattle.std.proofs.Common.{◌≡◌, List, false, IfSome, sym, ap, ◌∙◌
 use Rattle.std.specs.List.{AllByRecursion}
 use Rattle.semantics.specs.Texts.{Text}
 use Rattle.kept_ranges.specs.Sound.{KeptRange}
-use Rattle.range_notes.specs.Since.{keys_since}
+use Rattle.range_state.specs.NotesSince.{keys_since}
 use Rattle.range_state.specs.Held.{view_of, range_kept, FitsJoin, HasPlaces}
 use Rattle.range_state.specs.Since.{is_unknown_since, IsSameBut}
 use Rattle.range_state.proofs.ReadLemmas.{same_but_listed}

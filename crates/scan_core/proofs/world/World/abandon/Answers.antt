@@ -1,6 +1,6 @@
 use Rattle.std.proofs.Common.{None, refl, subst}
 use Rattle.core_events.specs.PlainLaws.{LookAlike}
-use Rattle.scan_table.proofs.LookLemmas.{freed_looks}
+use Rattle.scan_core.proofs.LookLemmas.{freed_looks}
 use Rattle.scan_core.specs.Worlds.{CoreWorld, without_scan}
 use Rattle.scan_core.proofs.GoingLemmas.{going_put}
 use Rattle.scan_core.proofs.StepLemmas.{world_of}

@@ -1,6 +1,6 @@
 use Rattle.std.proofs.Common.{Some, sym, ◌∙◌, subst}
 use Rattle.core_events.specs.Events as plain
-use Rattle.scan_table.specs.Progress.{begun}
+use Rattle.scan_core.specs.Progress.{begun}
 use Rattle.scan_core.specs.Going.{AreGoing}
 use Rattle.scan_core.specs.Worlds.{CoreWorld, StepsAs}
 use Rattle.scan_core.proofs.GoingLemmas.{going_put, begun_goes}

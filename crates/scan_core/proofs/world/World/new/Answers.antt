@@ -1,6 +1,6 @@
 use Rattle.std.proofs.Common.{sym, ap, ◌∙◌, subst}
 use Rattle.std.proofs.lemmas.Option.{none-some}
-use Rattle.scan_table.specs.Progress.{progress_at}
+use Rattle.scan_core.specs.Progress.{progress_at}
 use Rattle.scan_core.specs.Rights.{Contents}
 use Rattle.scan_core.specs.Worlds.{NoneLent}
 use Rattle.scan_core.proofs.WorldLemmas.{none_lent_first}

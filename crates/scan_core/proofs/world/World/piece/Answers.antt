@@ -1,7 +1,7 @@
 use Rattle.std.proofs.Common.{◌-◌, Some, option_map, sym, subst, arith}
 use Rattle.std.proofs.lemmas.Option.{MatchOption-at_some}
 use Rattle.core_events.specs.Events as plain
-use Rattle.scan_table.specs.Progress.{Puts, further}
+use Rattle.scan_core.specs.Progress.{Puts, further}
 use Rattle.scan_core.specs.Going.{AreGoing}
 use Rattle.scan_core.specs.Worlds.{CoreWorld, StepsAs, StepSpends}
 use Rattle.scan_core.proofs.GoingLemmas.{going_put, further_goes}

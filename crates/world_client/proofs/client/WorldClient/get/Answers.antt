@@ -4,7 +4,7 @@ use Rattle.semantics.specs.Answers.{Answer, get, found}
 use Rattle.protocol.specs.Requests.{read}
 use Rattle.protocol.specs.Replies.{answered}
 use Rattle.protocol.specs.Told.{Told}
-use Rattle.answer_laws.proofs.AnswerLemmas.{none_by_length}
+use Rattle.key_ranges.proofs.AnswerLemmas.{none_by_length}
 use Rattle.world_client.proofs.AnsweringLemmas.{told_first, told_none}
 use Rattle.world_client.proofs.client.WorldClient.get.Goals as goal
 

@@ -1,8 +1,0 @@
-use Rattle.write_history.specs.Passes.{HasSeen}
-use Rattle.base_shards.proofs.tests.read_rows.Given as goal
-
-abbrev pub ghosts-pairs : goal.ghosts-pairs
-ghosts-pairs g a = record { name = a.blank.name; parts = a.blank.parts }
-
-abbrev pub invariant-loop-p : goal.invariant-loop-p
-invariant-loop-p g l = HasSeen g.N.Naming.history l.pass l.last

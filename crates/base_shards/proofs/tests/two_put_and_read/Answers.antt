@@ -1,5 +1,0 @@
-use Rattle.base_shards.proofs.TestLemmas.{all_of}
-use Rattle.base_shards.proofs.tests.two_put_and_read.Goals as goal
-
-pub new-requires-clause-same_history : goal.new-requires-clause-same_history
-new-requires-clause-same_history g c = all_of g.N.Naming.history c.args.passes.items c.requires.each

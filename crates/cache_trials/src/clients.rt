@@ -1,0 +1,314 @@
+// What clients are told on their links, alone and beside others, and each call once, with ample memory.
+ghost use Rattle.std.specs.Prelude.{◌≡◌, ◌≤◌, IfOk, length};
+ghost use Rattle.pequod_cache.specs.Sitting.{AreOf, AreWriters, IsFresh};
+
+use base_shards::Naming;
+use join_lang::parse;
+use key_space::{Key, Range, Value};
+use out_of_memory::OutOfMemory;
+use pequod_cache::{Cache, Client, ClientService, Seats, Turn, Updater};
+use pq_io::{Gate, MemLink, MemSink, MemSource, OpenGate};
+use request_codec::Reply;
+use session::{End, Service, serve_link};
+use std::alloc::Global;
+use std::marker::Brand;
+use std::process::Abort;
+use std::sync::Wait;
+use std::test::Fail;
+use std::thread;
+use std::thread::Threads;
+
+/// Which client is asked, a line that it is sent, and the line that it answers.
+type Row = (usize, &'static str, &'static str);
+
+/// A join is declared, its sources are put and removed, and its output is read.
+const OF_A_JOIN: [Row; 10] = [
+    (
+        0,
+        r#"["join","t|<user>|<time>|<poster> = check s|<user>|<poster> copy p|<poster>|<time>"]"#,
+        r#"["ok",1]"#,
+    ),
+    (0, r#"["put","s|ann|bob","1"]"#, r#"["ok",2]"#),
+    (0, r#"["put","p|bob|100","Hi"]"#, r#"["ok",3]"#),
+    (
+        0,
+        r#"["scan","t|ann|","t|ann}"]"#,
+        r#"["pairs",3,[["t|ann|100|bob","Hi"]]]"#,
+    ),
+    (0, r#"["get","t|ann|100|bob"]"#, r#"["value",3,"Hi"]"#),
+    (0, r#"["get","t|ann|100|liz"]"#, r#"["none",3]"#),
+    (0, r#"["remove","s|ann|bob"]"#, r#"["ok",4]"#),
+    (0, r#"["get","t|ann|100|bob"]"#, r#"["none",4]"#),
+    (0, r#"["scan","t|ann|","t|ann}"]"#, r#"["pairs",4,[]]"#),
+    (0, r#"["get","p|bob|100"]"#, r#"["value",4,"Hi"]"#),
+];
+
+/// A client that is sent nothing before sees what another has written.
+const OF_A_LOOK: [Row; 5] = [
+    (0, r#"["put","k|a","1"]"#, r#"["ok",1]"#),
+    (1, r#"["get","k|a"]"#, r#"["value",1,"1"]"#),
+    (1, r#"["put","k|b","2"]"#, r#"["ok",2]"#),
+    (0, r#"["get","k|b"]"#, r#"["value",2,"2"]"#),
+    (0, r#"["get","k|c"]"#, r#"["none",2]"#),
+];
+
+/// Writes that are refused, by a client that has not seen why.
+const OF_REFUSALS: [Row; 6] = [
+    (
+        0,
+        r#"["join","t|<a> = copy p|<a>|<b>"]"#,
+        r#"["error","slots",0]"#,
+    ),
+    (0, r#"["join","t|<a> = copy p|<a>"]"#, r#"["ok",1]"#),
+    (1, r#"["put","t|x","1"]"#, r#"["error","computed",1,1]"#),
+    (0, r#"["put","p|x","1"]"#, r#"["ok",2]"#),
+    (
+        1,
+        r#"["join","u|<a> = copy q|<a>"]"#,
+        r#"["error","late",2]"#,
+    ),
+    (1, r#"["get","t|x"]"#, r#"["value",2,"1"]"#),
+];
+
+/// The seats of so many clients, and of four cells.
+pub fn make_seats(alloc: Global, clients: u32) -> Result<Seats, OutOfMemory>
+    requires some { 1 ≤ clients }
+    requires few { clients ≤ 65 }
+    ensures clients { IfOk result (λ seats. AreWriters seats.history (length seats.clients.items) seats.clients.items) }
+    ensures shards { IfOk result (λ seats. AreOf seats.history 16 seats.shards.items) }
+    ensures cells { IfOk result (λ seats. AreOf seats.history (length seats.cells.items) seats.cells.items) }
+    ensures count { IfOk result (λ seats. length seats.cells.items ≡ 4) }
+    ensures updater { IfOk result (λ seats. IsFresh seats.history seats.updater) }
+{
+    Seats::make(alloc, clients, 4)
+}
+
+/// The service answers a line on a link with this line.
+fn expect_line<S: Service, R: Abort>(
+    rt: &R,
+    alloc: Global,
+    service: &mut S,
+    line: &str,
+    wanted: &str,
+) -> Result<(), Fail> {
+    let bytes = line.as_bytes().to_vec(alloc)?;
+    let source = MemSource::new(bytes, Vec::new(alloc), Vec::new(alloc));
+    let mut link = MemLink::new(source, MemSink::new(alloc, Vec::new(alloc)));
+    let ended = serve_link(alloc, service, &mut link);
+    let told = link.bytes().strip_suffix(b"\n");
+    assert!(rt; ended == End::Closed && told == Some(wanted.as_bytes()));
+    Ok(())
+}
+
+/// Each row is a link of its client, one after another.
+fn run<N: Naming, R: Wait + Abort>(
+    rt: &R,
+    alloc: Global,
+    gate: &OpenGate,
+    seats: Seats,
+    rows: &[Row],
+) -> Result<(), Fail>
+    requires named { seats.history ≡ N.history }
+    requires clients { AreWriters N.history (length seats.clients.items) seats.clients.items }
+    requires shards { AreOf N.history 16 seats.shards.items }
+    requires cells { AreOf N.history (length seats.cells.items) seats.cells.items }
+    requires count { length seats.cells.items ≡ 4 }
+{
+    let mut services = Vec::new(alloc);
+    for client in Cache::<N>::make(alloc, seats, 1_000, gate)? {
+        services.push(ClientService { rt, client })?;
+    }
+    for (number, line, wanted) in rows {
+        let service = services.get_mut(*number).expect(rt, "a client");
+        expect_line(rt, alloc, service, line, wanted)?;
+    }
+    Ok(())
+}
+
+#[test]
+fn one_client_reads_a_join(rt: HostRuntime) -> Result<(), Fail> {
+    let alloc = rt.alloc();
+    let seats = make_seats(alloc, 1)?;
+    run::<Brand, _>(&rt, alloc, &OpenGate, seats, &OF_A_JOIN)
+}
+
+#[test]
+fn each_client_reads_what_the_other_wrote(rt: HostRuntime) -> Result<(), Fail> {
+    let alloc = rt.alloc();
+    let seats = make_seats(alloc, 2)?;
+    run::<Brand, _>(&rt, alloc, &OpenGate, seats, &OF_A_LOOK)
+}
+
+#[test]
+fn writes_are_refused_after_what_others_wrote(rt: HostRuntime) -> Result<(), Fail> {
+    let alloc = rt.alloc();
+    let seats = make_seats(alloc, 2)?;
+    run::<Brand, _>(&rt, alloc, &OpenGate, seats, &OF_REFUSALS)
+}
+
+/// How many keys a thread puts.
+const COUNT: usize = 100;
+
+/// The whole of a table.
+pub fn table(rt: &impl Abort, alloc: Global, name: &str) -> Range {
+    let low = format!(in alloc; "{name}|").expect(rt, "memory");
+    let high = format!(in alloc; "{name}}}").expect(rt, "memory");
+    Range::read(alloc, low.as_str(), high.as_str()).expect(rt, "a range")
+}
+
+/// Puts a value at so many keys of a table, and reads the table after each.
+fn put_and_read<'g, N: Naming, R: Wait + Abort>(
+    rt: &R,
+    alloc: Global,
+    mut client: Client<'g, N, OpenGate>,
+    name: &str,
+) -> Client<'g, N, OpenGate> {
+    let whole = table(rt, alloc, name);
+    let mut last = 0;
+    for number in 0..COUNT {
+        let key = format!(in alloc; "{name}|{number}").expect(rt, "memory");
+        let key = Key::read(alloc, key.as_str()).expect(rt, "a key");
+        let value = Value::read(alloc, "1").expect(rt, "a value");
+        let Reply::Done(position) = client.put(rt, key, value) else {
+            panic!(rt; "no cause against it")
+        };
+        assert!(rt; last < position);
+        let found = client.read(rt, &whole).expect(rt, "memory");
+        assert!(rt; position <= found.position);
+        assert!(rt; found.pairs.len() == number.saturating_add(1));
+        last = found.position;
+    }
+    client
+}
+
+/// Both tables have the keys of both threads.
+fn expect_both<N: Naming, R: Wait + Abort>(
+    rt: &R,
+    alloc: Global,
+    client: &mut Client<'_, N, OpenGate>,
+) {
+    for name in ["a", "b"] {
+        let whole = table(rt, alloc, name);
+        let found = client.read(rt, &whole).expect(rt, "memory");
+        assert!(rt; found.position == 200);
+        assert!(rt; found.pairs.len() == COUNT);
+    }
+}
+
+/// Two threads put into tables of their own, and then their clients meet, and each reads both tables.
+fn two_put_and_meet<N: Naming + Send + Sync, R: Threads + Wait + Abort + Sync>(
+    rt: &R,
+    alloc: Global,
+    gate: &OpenGate,
+    seats: Seats,
+) -> Result<(), Fail>
+    requires named { seats.history ≡ N.history }
+    requires clients { AreWriters N.history (length seats.clients.items) seats.clients.items }
+    requires shards { AreOf N.history 16 seats.shards.items }
+    requires cells { AreOf N.history (length seats.cells.items) seats.cells.items }
+    requires count { length seats.cells.items ≡ 4 }
+{
+    let mut clients = Cache::<N>::make(alloc, seats, 1_000, gate)?;
+    let second = clients.pop().expect(rt, "a client");
+    let first = clients.pop().expect(rt, "a client");
+    let (mut first, mut second) = thread::join(
+        rt,
+        move || put_and_read(rt, alloc, first, "a"),
+        move || put_and_read(rt, alloc, second, "b"),
+    );
+    first.meet(rt, &mut second);
+    expect_both(rt, alloc, &mut first);
+    expect_both(rt, alloc, &mut second);
+    Ok(())
+}
+
+#[test]
+fn two_threads_put_and_meet(rt: HostRuntime) -> Result<(), Fail> {
+    let alloc = rt.alloc();
+    let seats = make_seats(alloc, 2)?;
+    two_put_and_meet::<Brand, _>(&rt, alloc, &OpenGate, seats)
+}
+
+/// Puts the value at the key, as the entry at a position.
+pub fn put_at<N: Naming, G: Gate, R: Wait + Abort>(
+    rt: &R,
+    alloc: Global,
+    client: &mut Client<'_, N, G>,
+    pair: (&str, &str),
+    wanted: u64,
+) {
+    let key = Key::read(alloc, pair.0).expect(rt, "a key");
+    let value = Value::read(alloc, pair.1).expect(rt, "a value");
+    let Reply::Done(position) = client.put(rt, key, value) else {
+        panic!(rt; "no cause against it")
+    };
+    assert!(rt; position == wanted);
+}
+
+/// How many pairs of a user's timeline there are, and after how many entries.
+fn count_timeline<N: Naming, G: Gate, R: Wait + Abort>(
+    rt: &R,
+    alloc: Global,
+    client: &mut Client<'_, N, G>,
+) -> (u64, usize) {
+    let range = Range::read(alloc, "t|ann|", "t|ann}").expect(rt, "a range");
+    let found = client.read(rt, &range).expect(rt, "memory");
+    (found.position, found.pairs.len())
+}
+
+/// Declares the join of timelines, puts a subscription and a post, and reads the timeline.
+fn begin_timeline<N: Naming, R: Wait + Abort>(
+    rt: &R,
+    alloc: Global,
+    client: &mut Client<'_, N, OpenGate>,
+) {
+    let text = "t|<user>|<time>|<poster> = check s|<user>|<poster> copy p|<poster>|<time>";
+    let join = parse(alloc, text).expect(rt, "a join");
+    assert!(rt; matches!(client.declare(rt, join), Reply::Done(1)));
+    put_at(rt, alloc, client, ("s|ann|bob", "1"), 2);
+    put_at(rt, alloc, client, ("p|bob|100", "Hi"), 3);
+    assert!(rt; count_timeline(rt, alloc, client) == (3, 1));
+}
+
+/// A put marks the cell of the range that reads it, and the updater brings that forward, once.
+fn put_and_turn<N: Naming, R: Wait + Abort>(
+    rt: &R,
+    alloc: Global,
+    client: &mut Client<'_, N, OpenGate>,
+    updater: &mut Updater<'_, N, OpenGate>,
+) {
+    begin_timeline(rt, alloc, client);
+    assert!(rt; updater.turn(rt) == Turn::Idle);
+    put_at(rt, alloc, client, ("p|bob|120", "Yo"), 4);
+    let position = Some(4);
+    assert!(rt; updater.turn(rt) == Turn::Brought { id: 3, position });
+    assert!(rt; updater.turn(rt) == Turn::Idle);
+    assert!(rt; count_timeline(rt, alloc, client) == (4, 2));
+}
+
+/// Makes a cache with an updater, and has a client put and the updater turn.
+fn make_and_turn<N: Naming, R: Wait + Abort>(
+    rt: &R,
+    alloc: Global,
+    gate: &OpenGate,
+    seats: Seats,
+) -> Result<(), Fail>
+    requires named { seats.history ≡ N.history }
+    requires clients { AreWriters N.history (length seats.clients.items) seats.clients.items }
+    requires shards { AreOf N.history 16 seats.shards.items }
+    requires cells { AreOf N.history (length seats.cells.items) seats.cells.items }
+    requires count { length seats.cells.items ≡ 4 }
+    requires updater { IsFresh N.history seats.updater }
+{
+    let (mut clients, mut updater) = Cache::<N>::make_with_updater(alloc, seats, 1_000, gate)?;
+    let mut client = clients.pop().expect(rt, "a client");
+    put_and_turn(rt, alloc, &mut client, &mut updater);
+    Ok(())
+}
+
+#[test]
+fn an_updater_brings_a_kept_range_forward(rt: HostRuntime) -> Result<(), Fail> {
+    let alloc = rt.alloc();
+    let seats = make_seats(alloc, 1)?;
+    make_and_turn::<Brand, _>(&rt, alloc, &OpenGate, seats)
+}

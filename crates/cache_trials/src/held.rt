@@ -1,0 +1,187 @@
+// Two clients on two threads, of which one is held at the gate in the midst of a scan while the other is answered.
+ghost use Rattle.std.specs.Prelude.{◌≡◌, length};
+ghost use Rattle.pequod_cache.specs.Sitting.{AreOf, AreWriters};
+
+use crate::clients::{make_seats, put_at};
+use base_shards::Naming;
+use join_lang::parse;
+use key_space::Range;
+use pequod_cache::{Cache, Client, Seats};
+use pq_io::Gate;
+use request_codec::Reply;
+use std::alloc::Global;
+use std::marker::Brand;
+use std::process::Abort;
+use std::sync::{Arc, Mutex, Wait};
+use std::test::Fail;
+use std::thread;
+use std::thread::Threads;
+
+/// How often a thread looks for a stage before it gives up.
+const LOOKS: u32 = 10_000_000;
+
+/// How far the two have come.
+#[derive(Clone, Copy, Debug, PartialEq, Eq, PartialOrd, Ord)]
+enum Stage {
+    Begun,
+    /// The scan of the one is at the gate.
+    Held,
+    /// The other has its answers.
+    Passed,
+}
+
+/// How far they have come, and whether a thread gave up.
+#[derive(Clone, Copy)]
+struct Progress {
+    stage: Stage,
+    gave_up: bool,
+}
+
+/// What the threads tell one another of it.
+type Course = Arc<Mutex<Progress>>;
+
+/// Tells the other that a stage has come.
+fn come_to<R: Wait>(rt: &R, course: &Course, stage: Stage) {
+    course.lock(rt).stage = stage;
+}
+
+/// Goes on when the stage has come.
+fn wait_for<R: Wait>(rt: &R, course: &Course, stage: Stage) {
+    for _ in 0..LOOKS {
+        if course.lock(rt).stage >= stage {
+            return;
+        }
+    }
+    course.lock(rt).gave_up = true;
+}
+
+/// A gate that holds the ranges of the table `t` until the other client has its answers.
+#[derive(Drop)]
+struct Holding<'a, R> {
+    rt: &'a R,
+    course: Course,
+}
+
+impl<R: Wait> Gate for Holding<'_, R> {
+    fn pass(&self, table: &str) {
+        if table == "t" {
+            come_to(self.rt, &self.course, Stage::Held);
+            wait_for(self.rt, &self.course, Stage::Passed);
+        }
+    }
+}
+
+/// Declares the join of timelines, and puts a subscription and a post.
+fn write_timeline<N: Naming, G: Gate, R: Wait + Abort>(
+    rt: &R,
+    alloc: Global,
+    client: &mut Client<'_, N, G>,
+) {
+    let text = "t|<user>|<time>|<poster> = check s|<user>|<poster> copy p|<poster>|<time>";
+    let join = parse(alloc, text).expect(rt, "a join");
+    assert!(rt; matches!(client.declare(rt, join), Reply::Done(1)));
+    put_at(rt, alloc, client, ("s|ann|bob", "1"), 2);
+    put_at(rt, alloc, client, ("p|bob|100", "Hi"), 3);
+}
+
+/// A client reads a range after so many entries, and finds one pair.
+fn expect_one<N: Naming, G: Gate, R: Wait + Abort>(
+    rt: &R,
+    alloc: Global,
+    client: &mut Client<'_, N, G>,
+    bounds: (&str, &str),
+    position: u64,
+    wanted: (&str, &str),
+) {
+    let range = Range::read(alloc, bounds.0, bounds.1).expect(rt, "a range");
+    let found = client.read(rt, &range).expect(rt, "memory");
+    assert!(rt; found.position == position);
+    assert!(rt; found.pairs.len() == 1);
+    let pair = found.pairs.first().expect(rt, "a pair");
+    assert!(rt; pair.key.text() == wanted.0);
+    assert!(rt; pair.value.text() == wanted.1);
+}
+
+/// A client reads the timeline after so many entries.
+fn expect_timeline<N: Naming, G: Gate, R: Wait + Abort>(
+    rt: &R,
+    alloc: Global,
+    client: &mut Client<'_, N, G>,
+    position: u64,
+) {
+    let bounds = ("t|ann|", "t|ann}");
+    let wanted = ("t|ann|100|bob", "Hi");
+    expect_one(rt, alloc, client, bounds, position, wanted);
+}
+
+/// While the other is held, puts a pair of another table and reads that table.
+fn pass_by<'g, N: Naming, G: Gate, R: Wait + Abort>(
+    rt: &R,
+    alloc: Global,
+    course: &Course,
+    client: Client<'g, N, G>,
+) -> Client<'g, N, G> {
+    let mut client = client;
+    wait_for(rt, course, Stage::Held);
+    put_at(rt, alloc, &mut client, ("q|1", "x"), 4);
+    expect_one(rt, alloc, &mut client, ("q|", "q}"), 4, ("q|1", "x"));
+    come_to(rt, course, Stage::Passed);
+    client
+}
+
+/// Reads the timeline, and once more: the first read is after the entries that it found when it began, though the other wrote
+/// before it ended.
+fn read_twice<N: Naming, G: Gate, R: Wait + Abort>(
+    rt: &R,
+    alloc: Global,
+    client: Client<'_, N, G>,
+) {
+    let mut client = client;
+    expect_timeline(rt, alloc, &mut client, 3);
+    expect_timeline(rt, alloc, &mut client, 4);
+}
+
+/// One client of a cache is held in a read, and the other passes by, each on a thread. Then the other reads what was held.
+fn hold_and_pass<N: Naming + Send + Sync, G: Gate + Sync, R: Threads + Wait + Abort + Sync>(
+    rt: &R,
+    alloc: Global,
+    gate: &G,
+    seats: Seats,
+    course: &Course,
+) -> Result<(), Fail>
+    requires named { seats.history ≡ N.history }
+    requires clients { AreWriters N.history (length seats.clients.items) seats.clients.items }
+    requires shards { AreOf N.history 16 seats.shards.items }
+    requires cells { AreOf N.history (length seats.cells.items) seats.cells.items }
+    requires count { length seats.cells.items ≡ 4 }
+{
+    let mut clients = Cache::<N>::make(alloc, seats, 1_000, gate)?;
+    let other = clients.pop().expect(rt, "a client");
+    let mut held = clients.pop().expect(rt, "a client");
+    write_timeline(rt, alloc, &mut held);
+    let (_, mut other) = thread::join(
+        rt,
+        move || read_twice(rt, alloc, held),
+        move || pass_by(rt, alloc, course, other),
+    );
+    expect_timeline(rt, alloc, &mut other, 4);
+    Ok(())
+}
+
+#[test]
+fn a_held_read_holds_no_other_client(rt: HostRuntime) -> Result<(), Fail> {
+    let alloc: Global = rt.alloc();
+    let begun = Progress {
+        stage: Stage::Begun,
+        gave_up: false,
+    };
+    let course = Arc::new(alloc, Mutex::new(begun))?;
+    let gate = Holding {
+        rt: &rt,
+        course: Arc::try_clone(&course)?,
+    };
+    let seats = make_seats(alloc, 2)?;
+    hold_and_pass::<Brand, _, _>(&rt, alloc, &gate, seats, &course)?;
+    assert!(rt; !course.lock(&rt).gave_up);
+    Ok(())
+}

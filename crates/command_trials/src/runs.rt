@@ -1,0 +1,101 @@
+// The ways in which a case is run.
+use crate::case::Case;
+use pequod_commands::pequod;
+use pq_io::{Gate, MemDoors, MemLink, MemShelf, MemSink, MemSource};
+use session::serve_link;
+use std::alloc::{AllocError, Global};
+use std::str;
+use std::sync::Wait;
+use std::sync::atomic::AtomicU64;
+use std::sync::atomic::Ordering::SeqCst;
+use std::thread::Threads;
+use world_client::WorldClient;
+
+/// Counts its calls for the table `t`.
+#[derive(Drop)]
+struct Counting {
+    passed: AtomicU64,
+}
+
+impl Gate for Counting {
+    fn pass(&self, table: &str) {
+        if table == "t" {
+            self.passed.fetch_add(1, SeqCst);
+        }
+    }
+}
+
+/// Returns what was written, and how it ended behind it.
+fn told(alloc: Global, bytes: &[u8], ended: &str) -> Result<String, AllocError> {
+    let mut text = String::from_str(alloc, str::from_utf8(bytes).unwrap_or("no text\n"))?;
+    text.push_str("-> ")?;
+    text.push_str(ended)?;
+    text.push('\n')?;
+    Ok(text)
+}
+
+/// Runs the top call, and returns what it wrote with its status behind it, and with whether a range of the table `t` passed the
+/// gate where that is asked for.
+fn run_top<R: AllocGlobal + Threads + Wait + Sync>(
+    rt: &R,
+    case: &Case,
+    in_bytes: bool,
+    tells_gate: bool,
+) -> Result<String, AllocError> {
+    let alloc: Global = rt.alloc();
+    let count = if in_bytes { case.given.len() } else { 0 };
+    let cuts = vec![in alloc; 1; count]?;
+    let mut source = MemSource::new(case.given.clone()?, cuts, case.reads.clone()?);
+    let mut sink = MemSink::new(alloc, case.writes.clone()?);
+    let files = vec![in alloc; (String::from_str(alloc, "j")?, case.given.clone()?)]?;
+    let mut shelf = MemShelf::new(files, case.shelf.clone()?);
+    let mut doors: MemDoors<MemLink> = MemDoors::new(Vec::new(alloc), case.doors.clone()?);
+    let gate = Counting {
+        passed: AtomicU64::new(0),
+    };
+    let status = pequod(
+        rt,
+        alloc,
+        case.words.as_slice(),
+        &mut source,
+        &mut sink,
+        &mut shelf,
+        &mut doors,
+        &gate,
+    );
+    let passed = tells_gate && gate.passed.load(SeqCst) > 0;
+    let number = status.number;
+    let behind = if passed { ", by way of the gate" } else { "" };
+    let ended = format!(in alloc; "{number}{behind}")?;
+    told(alloc, sink.bytes(), ended.as_str())
+}
+
+/// Answers the lines by a client of a core of its own with so many cells, of 1 to 65,536, and returns the replies.
+fn run_core(alloc: Global, case: &Case, cells: u32) -> Result<String, AllocError> {
+    if cells < 1 || 65_536 < cells {
+        return told(alloc, b"", "no such room");
+    }
+    let source = MemSource::new(case.given.clone()?, Vec::new(alloc), Vec::new(alloc));
+    let mut link = MemLink::new(source, MemSink::new(alloc, Vec::new(alloc)));
+    let Ok(mut client) = WorldClient::new(alloc, cells, 100) else {
+        return told(alloc, b"", "memory");
+    };
+    serve_link(alloc, &mut client, &mut link);
+    told(alloc, link.bytes(), "answered")
+}
+
+/// Runs the case in the way that is asked for, and returns what is written and how it ends.
+pub fn run<R: AllocGlobal + Threads + Wait + Sync>(
+    rt: &R,
+    case: &Case,
+    how: &str,
+) -> Result<String, AllocError> {
+    let (kind, number) = how.split_once(' ').unwrap_or((how, ""));
+    match kind {
+        "" => run_top(rt, case, false, false),
+        "bytes" => run_top(rt, case, true, false),
+        "gate" => run_top(rt, case, false, true),
+        "core" => run_core(rt.alloc(), case, number.parse::<u32>().unwrap_or(0)),
+        _ => told(rt.alloc(), b"", "no such way"),
+    }
+}

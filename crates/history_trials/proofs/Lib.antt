@@ -1,0 +1,2 @@
+mod ShardTrialLemmas
+mod CellTrialLemmas

@@ -1,0 +1,5 @@
+use Rattle.history_trials.proofs.cells.many_parts_are_one.Given as goal
+
+-- the history that was just made
+abbrev pub ghosts-give_many : goal.ghosts-give_many
+ghosts-give_many g a = record { history = a.history.now }

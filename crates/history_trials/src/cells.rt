@@ -1,0 +1,255 @@
+// Cells that are given, found and evicted, and each call once, with ample memory.
+ghost use Rattle.std.specs.Prelude.{◌≡◌, ◌<◌, ◌≤◌, All, length, IfOk};
+ghost use Rattle.std.specs.Arc.{arc_value};
+
+use base_shards::{BaseShards, Naming};
+use key_space::Range;
+use out_of_memory::OutOfMemory;
+use shared_cells::{Part, SharedCells};
+use shared_reader::Use;
+use std::alloc::Global;
+use std::marker::Brand;
+use std::process::Abort;
+use std::sync::{Arc, Wait};
+use std::test::Fail;
+use write_history::{History, Pass};
+
+/// A history, and so many passes of it.
+fn make_passes(alloc: Global, count: u32) -> Result<(History, Vec<Pass>), OutOfMemory>
+    requires { 0 < count }
+    ensures count { IfOk result (λ made. length made.1.items ≡ count) }
+    ensures each { IfOk result (λ made. All (λ pass. pass.history ≡ made.0) made.1.items) }
+{
+    History::new(alloc, count)
+}
+
+/// A history, and its passes for the parts of the base pairs and for two cells.
+fn make_seats(alloc: Global) -> Result<(History, Vec<Pass>, Vec<Pass>), OutOfMemory>
+    ensures shard_count { IfOk result (λ made. length made.1.items ≡ 16) }
+    ensures shards { IfOk result (λ made. All (λ pass. pass.history ≡ made.0) made.1.items) }
+    ensures cell_count { IfOk result (λ made. length made.2.items ≡ 2) }
+    ensures cells { IfOk result (λ made. All (λ pass. pass.history ≡ made.0) made.2.items) }
+{
+    let (history, mut passes) = make_passes(alloc, 18)?;
+    let cells = passes.split_off(16)?;
+    Ok((history, passes, cells))
+}
+
+/// The range between two bounds.
+fn range_of(rt: &impl Abort, alloc: Global, low: &str, high: &str) -> Range {
+    Range::read(alloc, low, high).expect(rt, "a range")
+}
+
+/// The parts as text: of each the bounds, and the number of its cell, if it has one.
+fn shown<N: Naming>(alloc: Global, parts: &[Part<N>]) -> Result<String, Fail> {
+    let mut text = String::new(alloc);
+    for part in parts {
+        let (low, high) = (part.range.lo(), part.range.hi());
+        let line = match &part.cell {
+            Some((id, _)) => format!(in alloc; "{low} {high} {id}, ")?,
+            None => format!(in alloc; "{low} {high} -, ")?,
+        };
+        text.push_str(line.as_str())?;
+    }
+    Ok(text)
+}
+
+/// Covers a range of the join that was declared at a position, and compares the parts.
+fn cover<N: Naming, R: Wait + Abort>(
+    rt: &R,
+    alloc: Global,
+    cells: &SharedCells<N>,
+    at: u64,
+    bounds: (&str, &str),
+    keep: bool,
+    wanted: &str,
+) -> Result<(), Fail> {
+    let range = range_of(rt, alloc, bounds.0, bounds.1);
+    let parts = cells.cover(rt, at, &range, keep)?;
+    assert!(rt; shown(alloc, parts.as_slice())?.as_str() == wanted);
+    Ok(())
+}
+
+/// Two cells are given and found.
+fn give_two<N: Naming, R: Wait + Abort>(
+    rt: &R,
+    alloc: Global,
+    cells: &SharedCells<N>,
+) -> Result<(), Fail> {
+    let rows = [
+        (1, "t|b", "t|c", false, "t|b t|c -, "),
+        (1, "t|b", "t|c", true, "t|b t|c 1, "),
+        (1, "t|b", "t|c", false, "t|b t|c 1, "),
+        (2, "t|b", "t|c", false, "t|b t|c -, "),
+        (1, "t|a", "t|d", true, "t|a t|b 0, t|b t|c 1, t|c t|d -, "),
+        (2, "t|b", "t|c", true, "t|b t|c -, "),
+        (1, "t|ab", "t|bb", true, "t|ab t|b 0, t|b t|bb 1, "),
+        (1, "t|a", "t|a", true, ""),
+    ];
+    for (at, low, high, keep, wanted) in rows {
+        cover(rt, alloc, cells, at, (low, high), keep, wanted)?;
+    }
+    Ok(())
+}
+
+/// The two cells are evicted, and their numbers and ranges are given again.
+fn evict_two<N: Naming, R: Wait + Abort>(
+    rt: &R,
+    alloc: Global,
+    cells: &SharedCells<N>,
+    shards: &BaseShards<N>,
+) -> Result<(), Fail> {
+    give_two(rt, alloc, cells)?;
+    evict(rt, cells, shards, 1)?;
+    cells.evict(rt, shards, 1);
+    cells.evict(rt, shards, 2);
+    cover(rt, alloc, cells, 2, ("t|b", "t|c"), true, "t|b t|c 1, ")?;
+    evict(rt, cells, shards, 0)?;
+    cover(rt, alloc, cells, 1, ("t|", "t}"), true, "t| t} 0, ")
+}
+
+/// A cell whose pass has not come back gives its number to no range, as while another thread evicts it.
+fn lose_one<N: Naming, R: Wait + Abort>(
+    rt: &R,
+    alloc: Global,
+    cells: &SharedCells<N>,
+    shards: &BaseShards<N>,
+) -> Result<(), Fail> {
+    give_two(rt, alloc, cells)?;
+    let shared = cells.find(rt, 1)?.expect(rt, "a cell");
+    assert!(rt; shared.lock(rt).take().is_some());
+    evict(rt, cells, shards, 1)?;
+    cover(rt, alloc, cells, 1, ("t|b", "t|c"), true, "t|b t|c -, ")
+}
+
+/// Of a table 32 ranges have a cell. They are read with 32 gaps as 64 parts, and with one gap more as one part.
+fn give_many<N: Naming, R: Wait + Abort>(
+    rt: &R,
+    alloc: Global,
+    history: &History,
+    passes: Vec<Pass>,
+) -> Result<(), Fail>
+    requires named { history.now ≡ N.history }
+    requires some { 1 ≤ length passes.items }
+    requires few { length passes.items ≤ 65536 }
+    requires same_history { All (λ pass. pass.history ≡ N.history) passes.items }
+{
+    let cells: SharedCells<N> = SharedCells::new(alloc, passes, 100)?;
+    for number in 10..42u32 {
+        let low = format!(in alloc; "t|{number}a")?;
+        let high = format!(in alloc; "t|{number}b")?;
+        let parts = cells.cover(rt, 1, &range_of(rt, alloc, &low, &high), true)?;
+        assert!(rt; parts.len() == 1);
+    }
+    let parts = cells.cover(rt, 1, &range_of(rt, alloc, "t|", "t|41b"), false)?;
+    assert!(rt; parts.len() == 64);
+    let bounds = ("t|", "t|41c");
+    cover(rt, alloc, &cells, 1, bounds, true, "t| t|41c -, ")?;
+    let bounds = ("t|41b", "t|41c");
+    cover(rt, alloc, &cells, 1, bounds, false, "t|41b t|41c -, ")
+}
+
+#[test]
+fn many_parts_are_one(rt: HostRuntime) -> Result<(), Fail> {
+    let alloc = rt.alloc();
+    let (history, passes) = make_passes(alloc, 33)?;
+    give_many::<Brand, _>(&rt, alloc, &history, passes)
+}
+
+/// That threads may share a value.
+fn share<T: Sync>(_value: &T) {}
+
+/// Evicts a cell, which is found before and not after.
+fn evict<N: Naming, R: Wait + Abort>(
+    rt: &R,
+    cells: &SharedCells<N>,
+    shards: &BaseShards<N>,
+    id: u32,
+) -> Result<(), Fail> {
+    assert!(rt; cells.find(rt, id)?.is_some());
+    cells.evict(rt, shards, id);
+    assert!(rt; cells.find(rt, id)?.is_none());
+    Ok(())
+}
+
+/// The calls of what threads share: the cell that was used least recently goes where two weigh too much together.
+fn settle_two<N: Naming + Send + Sync, R: Wait + Abort>(
+    rt: &R,
+    alloc: Global,
+    cells: &SharedCells<N>,
+    shards: &BaseShards<N>,
+) -> Result<(), Fail> {
+    share(cells);
+    for (low, high) in [("t|a", "t|b"), ("t|b", "t|c")] {
+        cells.cover(rt, 1, &range_of(rt, alloc, low, high), true)?;
+    }
+    cover(
+        rt,
+        alloc,
+        cells,
+        1,
+        ("t|a", "t|c"),
+        false,
+        "t|a t|b 1, t|b t|c 0, ",
+    )?;
+    let used = [
+        Use { id: 1, rows: 2 },
+        Use { id: 7, rows: 9 },
+        Use { id: 0, rows: 3 },
+    ];
+    cells.settle(rt, shards, &used);
+    cover(
+        rt,
+        alloc,
+        cells,
+        1,
+        ("t|a", "t|c"),
+        false,
+        "t|a t|b -, t|b t|c 0, ",
+    )?;
+    evict(rt, cells, shards, 0)?;
+    cells.evict(rt, shards, 7);
+    cover(rt, alloc, cells, 1, ("t|a", "t|c"), true, "t|a t|c 0, ")
+}
+
+/// What is tried on two cells.
+#[derive(Clone, Copy)]
+enum Tried {
+    Evicted,
+    Lost,
+    Settled,
+}
+
+/// Makes two cells of these passes, over parts of these, and tries what is asked for.
+fn make_and_try<N: Naming + Send + Sync, R: Wait + Abort>(
+    rt: &R,
+    alloc: Global,
+    history: Arc<History>,
+    shards: Vec<Pass>,
+    cells: Vec<Pass>,
+    tried: Tried,
+) -> Result<(), Fail>
+    requires named { arc_value history ≡ N.history }
+    requires shard_count { length shards.items ≡ 16 }
+    requires shards { All (λ pass. pass.history ≡ N.history) shards.items }
+    requires cell_count { length cells.items ≡ 2 }
+    requires cells { All (λ pass. pass.history ≡ N.history) cells.items }
+{
+    let shards: BaseShards<N> = BaseShards::new(alloc, history, shards, 2)?;
+    let cells: SharedCells<N> = SharedCells::new(alloc, cells, 6)?;
+    match tried {
+        Tried::Evicted => evict_two(rt, alloc, &cells, &shards),
+        Tried::Lost => lose_one(rt, alloc, &cells, &shards),
+        Tried::Settled => settle_two(rt, alloc, &cells, &shards),
+    }
+}
+
+#[test]
+fn cells_are_given_evicted_and_settled(rt: HostRuntime) -> Result<(), Fail> {
+    let alloc = rt.alloc();
+    for tried in [Tried::Evicted, Tried::Lost, Tried::Settled] {
+        let (history, shards, cells) = make_seats(alloc)?;
+        make_and_try::<Brand, _>(&rt, alloc, Arc::new(alloc, history)?, shards, cells, tried)?;
+    }
+    Ok(())
+}

@@ -1,0 +1,12 @@
+// What keeps the writes: the base pairs at every position, the history that threads share, the parts of the base pairs and the cells
+// that they share. Tests alone, with nothing for other crates: most of them need threads, or values whose types name a history.
+#![tactic(auto)]
+
+#[cfg(test)]
+mod appends;
+#[cfg(test)]
+mod cells;
+#[cfg(test)]
+mod shards;
+#[cfg(test)]
+mod versions;

@@ -1,0 +1,271 @@
+// Worked rows, with ample memory.
+ghost use Rattle.std.specs.Prelude.{◌≡◌, ◌<◌, ◌≤◌, IfOk};
+
+use base_versions::{BaseVersions, shard_of};
+use join_types::{Entry, Write};
+use key_space::{Key, Range, Value};
+use std::alloc::Global;
+use std::marker::Brand;
+use std::process::Abort;
+use std::sync::ledger::{Blank, Ledger};
+use std::test::Fail;
+use steps::Steps;
+
+fn key(rt: &impl Abort, alloc: Global, text: &str) -> Key {
+    Key::read(alloc, text).expect(rt, "a key")
+}
+
+fn put(rt: &impl Abort, alloc: Global, text: &str, value: &str) -> Entry {
+    let value = Value::read(alloc, value).expect(rt, "a value");
+    Entry {
+        client: 0,
+        write: Write::Put(key(rt, alloc, text), value),
+    }
+}
+
+fn removal(rt: &impl Abort, alloc: Global, text: &str) -> Entry {
+    Entry {
+        client: 1,
+        write: Write::Remove(key(rt, alloc, text)),
+    }
+}
+
+/// Two tables: keys that are put, put again, removed, and removed though they were never there.
+fn entries(rt: &impl Abort, alloc: Global) -> Result<Vec<Entry>, Fail> {
+    let mut entries = Vec::new(alloc);
+    entries.push(put(rt, alloc, "k|b", "1"))?;
+    entries.push(put(rt, alloc, "k|a", "x"))?;
+    entries.push(removal(rt, alloc, "k|c"))?;
+    entries.push(put(rt, alloc, "k|b", "2"))?;
+    entries.push(put(rt, alloc, "j|z", "9"))?;
+    entries.push(removal(rt, alloc, "k|a"))?;
+    entries.push(put(rt, alloc, "k|b", "2"))?;
+    entries.push(put(rt, alloc, "k|d", "y"))?;
+    entries.push(removal(rt, alloc, "k|b"))?;
+    entries.push(put(rt, alloc, "k|b", "3"))?;
+    Ok(entries)
+}
+
+/// The base pairs of a shard after all entries, which come in two parts.
+fn known(rt: &impl Abort, alloc: Global, shard: u8, shards: u8) -> Result<BaseVersions, Fail>
+    requires { shard < shards }
+    ensures shard { IfOk result (λ base. base.shard ≡ shard) }
+    ensures shards { IfOk result (λ base. base.shards ≡ shards) }
+{
+    let entries = entries(rt, alloc)?;
+    assert!(rt; entries.len() == 10);
+    let mut base = BaseVersions::new(alloc, shard, shards);
+    assert!(rt; base.position() == 0);
+    advance(rt, &mut base, &entries[..4])?;
+    assert!(rt; base.position() == 4);
+    advance(rt, &mut base, &entries[4..])?;
+    assert!(rt; base.position() == 10);
+    Ok(base)
+}
+
+fn advance(rt: &impl Abort, base: &mut BaseVersions, entries: &[Entry]) -> Result<(), Fail>
+    ensures shard { base.new.shard ≡ base.old.shard }
+    ensures shards { base.new.shards ≡ base.old.shards }
+{
+    assert!(rt; base.position() < 100 && entries.len() < 100);
+    base.advance(entries)?;
+    Ok(())
+}
+
+/// The pairs of a range at a position, as text.
+fn pairs<L: Ledger>(
+    rt: &impl Abort,
+    alloc: Global,
+    base: &BaseVersions,
+    at: (u64, &str, &str),
+    blank: Blank,
+) -> Result<String, Fail>
+    requires name { blank.name ≡ L.name }
+    requires parts { blank.parts ≡ L.parts }
+    requires some { 0 < blank.parts }
+    requires one { base.now.shards ≡ 1 }
+    requires first { base.now.shard ≡ 0 }
+{
+    let (p, low, high) = at;
+    let range = Range::read(alloc, low, high).expect(rt, "a range");
+    let mut steps: Steps<L> = Steps::open(blank);
+    assert!(rt; p <= base.position());
+    let found = base.pairs_at(p, &range, &mut steps)?;
+    let mut text = String::new(alloc);
+    for pair in found {
+        text.push_str(pair.key.text())?;
+        text.push('=')?;
+        text.push_str(pair.value.text())?;
+        text.push(' ')?;
+    }
+    Ok(text)
+}
+
+/// The keys of a range that change between two positions, as text.
+fn changed<L: Ledger>(
+    rt: &impl Abort,
+    alloc: Global,
+    base: &BaseVersions,
+    at: (u64, u64, &str, &str),
+    blank: Blank,
+) -> Result<String, Fail>
+    requires name { blank.name ≡ L.name }
+    requires parts { blank.parts ≡ L.parts }
+    requires some { 0 < blank.parts }
+    requires one { base.now.shards ≡ 1 }
+    requires first { base.now.shard ≡ 0 }
+{
+    let (q, p, low, high) = at;
+    let range = Range::read(alloc, low, high).expect(rt, "a range");
+    let mut steps: Steps<L> = Steps::open(blank);
+    assert!(rt; q <= p && p <= base.position());
+    let found = base.changed(q, p, &range, &mut steps)?;
+    let mut text = String::new(alloc);
+    for key in found {
+        text.push_str(key.text())?;
+        text.push(' ')?;
+    }
+    Ok(text)
+}
+
+/// The text followed by the letter a up to 513 bytes.
+fn longest(alloc: Global, text: &str) -> Result<String, Fail> {
+    let mut whole = String::from_str(alloc, text)?;
+    for _ in text.len()..513 {
+        whole.push('a')?;
+    }
+    Ok(whole)
+}
+
+#[test]
+fn pairs_at_positions(rt: HostRuntime) -> Result<(), Fail> {
+    let alloc = rt.alloc();
+    let base = known(&rt, alloc, 0, 1)?;
+    let rows = [
+        (0, ""),
+        (1, "k|b=1 "),
+        (2, "k|a=x k|b=1 "),
+        (3, "k|a=x k|b=1 "),
+        (4, "k|a=x k|b=2 "),
+        (5, "k|a=x k|b=2 "),
+        (6, "k|b=2 "),
+        (7, "k|b=2 "),
+        (8, "k|b=2 k|d=y "),
+        (9, "k|d=y "),
+        (10, "k|b=3 k|d=y "),
+    ];
+    for (p, wanted) in rows {
+        let found = pairs::<Brand>(&rt, alloc, &base, (p, "k|", "k}"), Blank::new(1))?;
+        assert!(rt; found.as_str() == wanted);
+    }
+    Ok(())
+}
+
+#[test]
+fn pairs_in_ranges(rt: HostRuntime) -> Result<(), Fail> {
+    let alloc = rt.alloc();
+    let base = known(&rt, alloc, 0, 1)?;
+    let longest = longest(alloc, "k|a")?;
+    let rows = [
+        (10, "k|b", "k|d", "k|b=3 "),
+        (10, "k|b", "k|b", ""),
+        (10, "k|c", "k}", "k|d=y "),
+        (8, "k|", "k|d", "k|b=2 "),
+        (8, "k|", "k|", ""),
+        (5, longest.as_str(), "k}", "k|b=2 "),
+        (5, "k|", longest.as_str(), "k|a=x "),
+        (4, "j|", "j}", ""),
+        (5, "j|", "j}", "j|z=9 "),
+        (10, "a|", "a}", ""),
+    ];
+    for (p, low, high, wanted) in rows {
+        let found = pairs::<Brand>(&rt, alloc, &base, (p, low, high), Blank::new(1))?;
+        assert!(rt; found.as_str() == wanted);
+    }
+    Ok(())
+}
+
+#[test]
+fn changed_keys(rt: HostRuntime) -> Result<(), Fail> {
+    let alloc = rt.alloc();
+    let base = known(&rt, alloc, 0, 1)?;
+    let longest = longest(alloc, "k|a")?;
+    let rows = [
+        (0, 0, "k|", "k}", ""),
+        (0, 10, "k|", "k}", "k|a k|b k|c k|d "),
+        (2, 3, "k|", "k}", "k|c "),
+        (3, 5, "k|", "k}", "k|b "),
+        (4, 5, "k|", "k}", ""),
+        (4, 5, "j|", "j}", "j|z "),
+        (5, 6, "k|", "k}", "k|a "),
+        (6, 10, "k|", "k}", "k|b k|d "),
+        (0, 10, "k|b", "k|d", "k|b k|c "),
+        (0, 10, "k|", longest.as_str(), "k|a "),
+        (0, 10, longest.as_str(), "k}", "k|b k|c k|d "),
+        (10, 10, "k|", "k}", ""),
+        (0, 10, "a|", "a}", ""),
+    ];
+    for (q, p, low, high, wanted) in rows {
+        let found = changed::<Brand>(&rt, alloc, &base, (q, p, low, high), Blank::new(1))?;
+        assert!(rt; found.as_str() == wanted);
+    }
+    Ok(())
+}
+
+#[test]
+fn values_at_positions(rt: HostRuntime) -> Result<(), Fail> {
+    let alloc = rt.alloc();
+    let base = known(&rt, alloc, 1, 2)?;
+    let rows = [
+        (0, "k|b", None),
+        (1, "k|b", Some("1")),
+        (3, "k|b", Some("1")),
+        (7, "k|b", Some("2")),
+        (9, "k|b", None),
+        (10, "k|b", Some("3")),
+        (5, "k|a", Some("x")),
+        (6, "k|a", None),
+        (10, "k|c", None),
+        (10, "k|e", None),
+    ];
+    for (p, text, wanted) in rows {
+        let key = key(&rt, alloc, text);
+        assert!(rt; p <= base.position());
+        let found = value_at(&rt, &base, p, &key);
+        assert!(rt; found == wanted);
+    }
+    Ok(())
+}
+
+/// The value at a key of the second of two shards, as text.
+fn value_at<'a>(rt: &impl Abort, base: &'a BaseVersions, p: u64, key: &Key) -> Option<&'a str>
+    requires within { p ≤ base.now.position }
+    requires two { base.now.shards ≡ 2 }
+    requires second { base.now.shard ≡ 1 }
+{
+    let shard = shard_of(key.table(), 2);
+    assert!(rt; shard == 1);
+    match base.get_at(p, key) {
+        None => None,
+        Some(value) => Some(value.text()),
+    }
+}
+
+#[test]
+fn each_shard_counts_every_entry(rt: HostRuntime) -> Result<(), Fail> {
+    let alloc = rt.alloc();
+    let first = known(&rt, alloc, 0, 2)?;
+    let second = known(&rt, alloc, 1, 2)?;
+    assert!(rt; first.position() == 10 && second.position() == 10);
+    assert!(rt; shard_of("j", 2) == 0 && shard_of("k", 2) == 1 && shard_of("jk", 16) == 5);
+    Ok(())
+}
+
+fn is_shared<T: Send + Sync>(_: &T) -> bool {
+    true
+}
+
+#[test]
+fn shared(rt: HostRuntime) {
+    assert!(rt; is_shared(&BaseVersions::new(rt.alloc(), 2, 3)));
+}

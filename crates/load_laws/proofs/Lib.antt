@@ -1,3 +1,0 @@
-pub mod PosterLemmas
-pub mod WriteLemmas
-pub mod SharedLemmas

@@ -1,5 +1,0 @@
-use Rattle.load_laws.proofs.SharedLemmas.{shared_load_is_load}
-use Rattle.load_laws.proofs.laws.shared_load_is_load.Goals as goal
-
-pub returns : goal.returns
-returns c = shared_load_is_load

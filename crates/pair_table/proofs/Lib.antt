@@ -1,2 +1,0 @@
-pub mod PlacedLemmas
-pub mod FittingLemmas

@@ -1,6 +1,0 @@
-use Rattle.std.proofs.Common.{◌≡◌, take}
-use Rattle.pair_table.proofs.FittingLemmas.{without_keys}
-use Rattle.pair_table.proofs.table.Table.drop_keys.Given as goal
-
-abbrev pub invariant-loop-key : goal.invariant-loop-key
-invariant-loop-key l = l.self ≡ without_keys l.fn.self (take l.key-index l.keys)

@@ -1,5 +1,0 @@
-use Rattle.pequod.proofs.RunLemmas.{runs_to_no_memory}
-use Rattle.pequod.proofs.run.run.Goals as goal
-
-pub returns-in_default-clause-run : goal.returns-in_default-clause-run
-returns-in_default-clause-run g c = runs_to_no_memory _ _

@@ -1,5 +1,0 @@
-use Rattle.pequod_cache.proofs.tests.each_client_reads_what_the_other_wrote.Given as goal
-
--- the history that was just made
-abbrev pub ghosts-run : goal.ghosts-run
-ghosts-run g a = record { history = a.seats.history }

@@ -1,4 +1,0 @@
-use Rattle.pequod_cache.proofs.tests.threads.two_threads_put_and_look_40_000.Given as goal
-
-abbrev pub ghosts-share_the_work : goal.ghosts-share_the_work
-ghosts-share_the_work g a = record { history = a.seats.history }

@@ -1,5 +1,0 @@
-use Rattle.pequod_cache.proofs.tests.two_threads_put_and_meet.Given as goal
-
--- the history that was just made
-abbrev pub ghosts-two_put_and_meet : goal.ghosts-two_put_and_meet
-ghosts-two_put_and_meet g a = record { history = a.seats.history }

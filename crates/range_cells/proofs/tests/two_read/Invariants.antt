@@ -1,4 +1,0 @@
-use Rattle.range_cells.proofs.tests.two_read.Given as goal
-
-abbrev pub ghosts-read_at : goal.ghosts-read_at
-ghosts-read_at g a = record { name = a.blank.name; parts = a.blank.parts }

@@ -1,2 +1,0 @@
-mod RingLemmas
-pub mod SinceLemmas

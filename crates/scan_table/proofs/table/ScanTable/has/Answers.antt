@@ -1,6 +1,0 @@
-use Rattle.std.proofs.Common.{◌∙◌}
-use Rattle.scan_table.proofs.TableLemmas.{has_found}
-use Rattle.scan_table.proofs.table.ScanTable.has.Goals as goal
-
-pub returns : goal.returns
-returns c = c.contains_key.ensures ∙ has_found c.args.number c.self.inside.scans.entries c.args.self.now c.self.view_is

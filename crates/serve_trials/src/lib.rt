@@ -1,0 +1,16 @@
+// Links that `serve` answers, sources and sinks that fail at each place, loads, and workers: tests alone, with nothing for other
+// crates. What can be told as rows stands in `command_trials`; here is what needs threads, loops over failures or links of its own.
+#![tactic(auto)]
+
+#[cfg(test)]
+mod copying;
+#[cfg(test)]
+mod faults;
+#[cfg(test)]
+mod held;
+#[cfg(test)]
+mod linked;
+#[cfg(test)]
+mod loads;
+#[cfg(test)]
+mod staffed;

@@ -1,0 +1,153 @@
+// What is written to links that two workers serve, or one alone, and how serving ends, with ample memory.
+ghost use Rattle.std.specs.Prelude.{◌≡◌, ◌≤◌, IfOk, length};
+ghost use Rattle.pequod_cache.specs.Sitting.{AreOf, AreWriters, IsFresh};
+ghost use Rattle.server.specs.Staffs.{AreDeclarable};
+
+use crate::copying::{Copying, Taken, expect_taken, link_of};
+use base_shards::Naming;
+use join_lang::parse;
+use join_set::Standing;
+use join_types::{Join, Write};
+use out_of_memory::OutOfMemory;
+use pequod_cache::Seats;
+use pq_io::{MemDoors, OpenGate};
+use server::{Ended, serve_doors, staff};
+use std::alloc::Global;
+use std::marker::Brand;
+use std::process::Abort;
+use std::sync::Wait;
+use std::test::Fail;
+use std::thread::Threads;
+
+/// A join whose output has what its source has, alone in a list.
+fn one_join(rt: &impl Abort, alloc: Global) -> Vec<Join>
+    ensures { AreDeclarable result.items }
+{
+    let write = Write::Declare(parse(alloc, "b|<x> = copy a|<x>").expect(rt, "a join"));
+    let cause = Standing::new(alloc).judge(&write).expect(rt, "memory");
+    assert!(rt; cause.is_none());
+    let mut joins = Vec::new(alloc);
+    match write {
+        Write::Declare(join) => joins.push(join).expect(rt, "memory"),
+        Write::Put(_key, _value) => {}
+        Write::Remove(_key) => {}
+    }
+    joins
+}
+
+/// The seats of so many clients, and of four cells.
+fn make_seats(alloc: Global, clients: u32) -> Result<Seats, OutOfMemory>
+    requires some { 2 ≤ clients }
+    requires few { clients ≤ 65 }
+    ensures clients { IfOk result (λ seats. AreWriters seats.history (length seats.clients.items) seats.clients.items) }
+    ensures two { IfOk result (λ seats. 2 ≤ length seats.clients.items) }
+    ensures shards { IfOk result (λ seats. AreOf seats.history 16 seats.shards.items) }
+    ensures cells { IfOk result (λ seats. AreOf seats.history (length seats.cells.items) seats.cells.items) }
+    ensures count { IfOk result (λ seats. length seats.cells.items ≡ 4) }
+    ensures updater { IfOk result (λ seats. IsFresh seats.history seats.updater) }
+{
+    Seats::make(alloc, clients, 4)
+}
+
+/// Serves doors that give the links and fail at these calls, by all clients but the first, which declares a join.
+fn serve<N: Naming + Send + Sync, R: Threads + Wait + Abort + Sync>(
+    rt: &R,
+    alloc: Global,
+    seats: Seats,
+    links: Vec<Copying<'_, R>>,
+    fails: Vec<usize>,
+) -> Result<Ended, Fail>
+    requires named { seats.history ≡ N.history }
+    requires clients { AreWriters N.history (length seats.clients.items) seats.clients.items }
+    requires two { 2 ≤ length seats.clients.items }
+    requires shards { AreOf N.history 16 seats.shards.items }
+    requires cells { AreOf N.history (length seats.cells.items) seats.cells.items }
+    requires count { length seats.cells.items ≡ 4 }
+    requires updater { IsFresh N.history seats.updater }
+{
+    let joins = one_join(rt, alloc);
+    let (workers, updater) = staff::<N, _, _>(rt, alloc, seats, 1_000, joins, &OpenGate)?;
+    let mut doors = MemDoors::new(links, fails);
+    Ok(serve_doors(rt, alloc, &mut doors, workers, updater))
+}
+
+/// Puts a pair, and reads the join's output.
+const OF_A_WRITER: &str = "[\"put\",\"a|1\",\"Hi\"]\n[\"scan\",\"b|\",\"b}\"]\n";
+
+/// What that is answered.
+const TO_A_WRITER: &str = "[\"ok\",2]\n[\"pairs\",2,[[\"b|1\",\"Hi\"]]]\n";
+
+/// Reads the join's output, and takes leave.
+const OF_A_READER: &str = "[\"get\",\"b|1\"]\n[\"quit\"]\n";
+
+/// Serves a writer and then a reader by workers with clients of their own, one fewer than so many clients, and gives what the
+/// two links took.
+fn serve_both<R: Threads + Wait + Abort + Sync>(
+    rt: &R,
+    alloc: Global,
+    clients: u32,
+) -> Result<(Taken, Taken), Fail>
+    requires some { 2 ≤ clients }
+    requires few { clients ≤ 65 }
+{
+    let (writer, to_writer) = link_of(rt, alloc, OF_A_WRITER, Vec::new(alloc))?;
+    let (reader, to_reader) = link_of(rt, alloc, OF_A_READER, Vec::new(alloc))?;
+    let mut links = Vec::new(alloc);
+    links.push(writer)?;
+    links.push(reader)?;
+    let seats = make_seats(alloc, clients)?;
+    let ended = serve::<Brand, _>(rt, alloc, seats, links, Vec::new(alloc))?;
+    assert!(rt; ended == Ended::Closed);
+    Ok((to_writer, to_reader))
+}
+
+#[test]
+fn two_workers_serve_two_links(rt: HostRuntime) -> Result<(), Fail> {
+    let (to_writer, to_reader) = serve_both(&rt, rt.alloc(), 3)?;
+    expect_taken(&rt, &to_writer, TO_A_WRITER);
+    // The reader may come before the writer or after.
+    let before = "[\"none\",1]\n[\"bye\"]\n".as_bytes();
+    let after = "[\"value\",2,\"Hi\"]\n[\"bye\"]\n".as_bytes();
+    let told = to_reader.lock(&rt);
+    assert!(rt; told.as_slice() == before || told.as_slice() == after);
+    Ok(())
+}
+
+#[test]
+fn one_client_serves_links_in_order(rt: HostRuntime) -> Result<(), Fail> {
+    let (to_writer, to_reader) = serve_both(&rt, rt.alloc(), 2)?;
+    expect_taken(&rt, &to_writer, TO_A_WRITER);
+    expect_taken(&rt, &to_reader, "[\"value\",2,\"Hi\"]\n[\"bye\"]\n");
+    Ok(())
+}
+
+#[test]
+fn closed_doors_end_it(rt: HostRuntime) -> Result<(), Fail> {
+    let alloc: Global = rt.alloc();
+    for clients in [2, 3] {
+        let seats = make_seats(alloc, clients)?;
+        let ended = serve::<Brand, _>(&rt, alloc, seats, Vec::new(alloc), Vec::new(alloc))?;
+        assert!(rt; ended == Ended::Closed);
+    }
+    Ok(())
+}
+
+#[test]
+fn links_before_a_failure_are_served(rt: HostRuntime) -> Result<(), Fail> {
+    let alloc: Global = rt.alloc();
+    for (clients, call, told) in [
+        (2, 1, ""),
+        (2, 2, TO_A_WRITER),
+        (3, 1, ""),
+        (3, 2, TO_A_WRITER),
+    ] {
+        let (writer, to_writer) = link_of(&rt, alloc, OF_A_WRITER, Vec::new(alloc))?;
+        let mut links = Vec::new(alloc);
+        links.push(writer)?;
+        let seats = make_seats(alloc, clients)?;
+        let ended = serve::<Brand, _>(&rt, alloc, seats, links, vec![in alloc; call; 1]?)?;
+        assert!(rt; ended == Ended::Failed);
+        expect_taken(&rt, &to_writer, told);
+    }
+    Ok(())
+}

@@ -1,5 +1,0 @@
-use Rattle.server.proofs.tests.closed_doors_end_it.Given as goal
-
--- the history that was just made
-abbrev pub ghosts-serve : goal.ghosts-serve
-ghosts-serve g a = record { history = a.seats.history }

@@ -1,4 +1,0 @@
-use Rattle.source_changes.proofs.tests.a_worked_advance.Given as goal
-
-abbrev pub ghosts-advanced_timeline : goal.ghosts-advanced_timeline
-ghosts-advanced_timeline g a = record { name = a.blank.name; parts = a.blank.parts }

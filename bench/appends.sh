@@ -5,7 +5,11 @@
 # takes the turn, reads the number of entries and frees the turn, as an append does beside its verdict and its entry.
 # Usage: bench/appends.sh TESTS, the test program of write_history, which `rt test` leaves as crates/write_history/out/write_history_tests
 set -euo pipefail
-tests=${1:?the path of the test program of write_history}
+tests=${1:-}
+if [ ! -f "$tests" ] || [ ! -x "$tests" ]; then
+  echo "bench/appends.sh: no program at '$tests'" >&2
+  exit 2
+fi
 TIMEFORMAT='%R'
 
 # least TEST: the seconds of the shortest of five runs.

@@ -3,15 +3,19 @@
 # how many times one thread's that is. Each thread has a client of its own and puts into a table of its own, one of ten keys at a
 # time, and after each put reads the output of a join over that table, which is kept. The time is that of a whole test of 40,000
 # puts and as many reads.
-# Usage: bench/threads.sh TESTS, the test program of pequod_cache, which `rt test` leaves as crates/pequod_cache/out/pequod_cache_tests
+# Usage: bench/threads.sh TESTS, the test program of cache_trials, which `rt test` leaves as crates/cache_trials/out/cache_trials_tests
 set -euo pipefail
-tests=${1:?the path of the test program of pequod_cache}
+tests=${1:-}
+if [ ! -f "$tests" ] || [ ! -x "$tests" ]; then
+  echo "bench/threads.sh: no program at '$tests'" >&2
+  exit 2
+fi
 TIMEFORMAT='%R'
 
 # least TEST: the seconds of the shortest of five runs.
 least() {
   for _ in 1 2 3 4 5; do
-    { time "$tests" "tests::threads::$1" > /dev/null; } 2>&1
+    { time "$tests" "threads::$1" > /dev/null; } 2>&1
   done | sort -n | head -n 1
 }
 

@@ -18,7 +18,13 @@ import unittest
 import pequod
 
 HOST = "127.0.0.1"
+PROGRAM = os.environ.get("PEQUOD", "")
 TIMELINE = "t|<user>|<time>|<poster> = check s|<user>|<poster> copy p|<poster>|<time>"
+
+
+def setUpModule():
+    if not os.access(PROGRAM, os.X_OK):
+        raise SystemExit("These tests start the built program, and PEQUOD is no path of one that may be run.")
 
 
 def free_port():
@@ -37,8 +43,7 @@ class Server:
             file.write_text("".join(f"{line}\n" for line in joins), encoding="utf-8")
             options = (*options, "--joins", str(file))
         self.port = free_port()
-        program = os.environ["PEQUOD"]
-        self.process = subprocess.Popen([program, "serve", f"{HOST}:{self.port}", *options])
+        self.process = subprocess.Popen([PROGRAM, "serve", f"{HOST}:{self.port}", *options])
         try:
             self.connect().close()
         except BaseException:

@@ -15,7 +15,13 @@ FOLDER = pathlib.Path(__file__).resolve().parent
 sys.path.insert(0, str(FOLDER.parent.parent / "clients" / "python"))
 import pequod  # noqa: E402
 
+PROGRAM = os.environ.get("PEQUOD", "")
 NASTY = "<script>alert('x')</script> & \"quoted\"\n| caf\u00e9 \u65e5\u672c"
+
+
+def setUpModule():
+    if not os.access(PROGRAM, os.X_OK):
+        raise SystemExit("These tests start the built program, and PEQUOD is no path of one that may be run.")
 
 
 def free_port():
@@ -28,7 +34,7 @@ class Page(unittest.TestCase):
     def setUp(self):
         self.pequod = f"127.0.0.1:{free_port()}"
         joins = str(FOLDER / "timeline.joins")
-        self.start(os.environ["PEQUOD"], "serve", self.pequod, "--joins", joins)
+        self.start(PROGRAM, "serve", self.pequod, "--joins", joins)
         app = self.start(sys.executable, str(FOLDER / "app.py"), "--port", "0", "--pequod", self.pequod)
         self.page = app.stdout.readline().decode().strip()
         end = time.monotonic() + 20

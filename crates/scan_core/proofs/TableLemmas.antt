@@ -4,7 +4,7 @@ use Rattle.std.specs.Cmp.{nat_cmp_is}
 use Rattle.std.specs.Map.{lookup, set_value}
 use Rattle.std.proofs.lemmas.Bool.{cases_lt, ne_eqb, eq-eqb, eqb-true}
 use Rattle.std.proofs.lemmas.Option.{none-some, same_Some}
-use Rattle.scan_core.specs.declared.table.UnderWay.{UnderWay}
+use Rattle.scan_core.specs.declared.scan_table.UnderWay.{UnderWay}
 use Rattle.scan_core.specs.Progress.{Progress, progress_at, Puts}
 use Rattle.scan_core.specs.Stored.{progress_of, table_of, LiesInRange, AllLieInRange}
 

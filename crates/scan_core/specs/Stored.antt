@@ -3,7 +3,7 @@ use Rattle.std.specs.Prelude.{◌≡◌, ℕ, List, map, true, Some}
 use Rattle.std.specs.Map.{lookup}
 use Rattle.std.specs.Ordering.{is_eq, is_le, nat_cmp}
 use Rattle.semantics.specs.Texts.{text_cmp}
-use Rattle.scan_core.specs.declared.table.UnderWay.{UnderWay}
+use Rattle.scan_core.specs.declared.scan_table.UnderWay.{UnderWay}
 use Rattle.scan_core.specs.Progress.{Progress}
 
 -- a scan that is kept under a number

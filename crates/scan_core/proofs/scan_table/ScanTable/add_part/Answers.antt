@@ -4,7 +4,7 @@ use Rattle.std.proofs.lemmas.Bool.{and_parts}
 use Rattle.key_ranges.specs.Ranges.{is_below}
 use Rattle.key_ranges.proofs.OrderLemmas.{is_up_to, up_to_trans, up_to_from_below}
 use Rattle.core_events.specs.Plain.{goes_on}
-use Rattle.scan_core.specs.declared.table.UnderWay.{UnderWay}
+use Rattle.scan_core.specs.declared.scan_table.UnderWay.{UnderWay}
 use Rattle.scan_core.specs.Progress.{Puts, further}
 use Rattle.scan_core.specs.Stored.{progress_of, table_of, LiesInRange}
 use Rattle.scan_core.proofs.TableLemmas.{stored_at, found_in, puts, same_table, lie_after}

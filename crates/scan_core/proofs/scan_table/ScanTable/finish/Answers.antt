@@ -4,7 +4,7 @@ use Rattle.std.specs.Ordering.{is_lt}
 use Rattle.std.proofs.lemmas.Option.{same_Some}
 use Rattle.semantics.specs.Texts.{text_cmp}
 use Rattle.range_set.proofs.BoundLemmas.{equal_bounds}
-use Rattle.scan_core.specs.declared.table.UnderWay.{UnderWay}
+use Rattle.scan_core.specs.declared.scan_table.UnderWay.{UnderWay}
 use Rattle.scan_core.specs.Progress.{Puts, IsEnded, IsShort}
 use Rattle.scan_core.specs.Stored.{progress_of, table_of}
 use Rattle.scan_core.proofs.TableLemmas.{stored_at, found_in, puts, lie_after}

@@ -15,7 +15,7 @@ TIMEFORMAT='%R'
 # least TEST: the seconds of the shortest of five runs.
 least() {
   for _ in 1 2 3 4 5; do
-    { time "$tests" "tests::$1" > /dev/null; } 2>&1
+    { time "$tests" "appends::$1" > /dev/null; } 2>&1
   done | sort -n | head -n 1
 }
 

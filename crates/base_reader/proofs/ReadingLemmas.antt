@@ -1,28 +1,22 @@
 -- Reading base pairs after some entries.
-use Rattle.std.proofs.Common.{◌≡◌, ◌==◌, ℕ, zero, suc, ◌+◌, ◌-◌, ◌%◌, ◌<◌, ◌≤◌, true, false, cond, not, List, [], ◌∷◌, ◌++◌, length, get_or, take, drop, slice_get, Contains, Some, None, IsSomeAnd, max, refl, sym, ap, ◌∙◌, subst, ⊎_elim, arith, Bool, sum, Option, option_map, Result, Ok, Err, OnOk, OnErr}
-use Rattle.std.proofs.lemmas.Bool.{false_from_ne_true, cases_lt}
-use Rattle.std.proofs.lemmas.List.{take_more, take_all, take-append-drop, length-drop}
-use Rattle.std.proofs.lemmas.Option.{slice_get-get_or, none-some, same_Some}
-use Rattle.semantics.specs.Texts.{Text, same, Table, value_at, is_range, Range, within, pairs_within, pairs_where}
-use Rattle.semantics.specs.Histories.{Write, put, remove, declare, Entry, History, DeclaredJoin, joins_of, base_after, base_of, is_computed}
+use Rattle.std.proofs.Common.{◌≡◌, ◌==◌, ℕ, zero, suc, ◌+◌, ◌-◌, ◌%◌, ◌≤◌, ◌⊎◌, inl, inr, true, false, cond, not, List, [], ◌∷◌, ◌++◌, length, take, drop, slice_get, Contains, Some, None, refl, sym, ap, ◌∙◌, subst, arith, Bool, sum, Option, option_map, Result, Ok, Err, OnOk, OnErr}
+use Rattle.std.proofs.lemmas.List.{take_all, take-append-drop, length-drop}
+use Rattle.std.proofs.lemmas.Option.{none-some, same_Some}
+use Rattle.semantics.specs.Texts.{Text, Table, value_at, is_range, Range, within, pairs_within, pairs_where}
+use Rattle.semantics.specs.Histories.{Entry, History, DeclaredJoin, joins_of, changed_at, base_of, is_computed}
 use Rattle.semantics.specs.States.{below}
-use Rattle.semantics.proofs.PieceLemmas.{equal_by_same}
-use Rattle.semantics.proofs.TableLemmas.{value_at-with_pair}
-use Rattle.semantics.proofs.MergedLemmas.{value_at-without_key}
-use Rattle.semantics.proofs.BaseLemmas.{base_of-push, value_at-visible}
+use Rattle.semantics.proofs.BaseLemmas.{value_at-visible}
 use Rattle.semantics.proofs.StateLemmas.{below-zero}
 use Rattle.semantics.proofs.MemberLemmas.{contains_from_has}
-use Rattle.growing_history.specs.Changes.{Same, is_bare, changed_keys}
-use Rattle.growing_history.specs.ChangeLaws.{Writes}
+use Rattle.growing_history.specs.Changes.{Same, is_bare, IsBareThroughout, changed_keys}
 use Rattle.growing_history.specs.Entered.{HasEntered}
 use Rattle.growing_history.proofs.ChangeLemmas.{changed_keys_are_written, changed_keys_ascend}
 use Rattle.growing_history.proofs.ElementLemmas.{all_from_has}
 use Rattle.growing_history.proofs.EnteredLemmas.{has_entered_taken, declares_joins}
-use Rattle.growing_history.proofs.UnchangedLemmas.{bare_is_base}
+use Rattle.growing_history.proofs.UnchangedLemmas.{bare_is_base, base_kept, unchanged_is_same}
 use Rattle.layering.specs.Standing.{last_declared}
-use Rattle.layering.proofs.StandingLemmas.{last_is_declared, joins_stay_from_last, joins_stay_after_last, last_lies_within, no_base_before}
+use Rattle.layering.proofs.StandingLemmas.{joins_stay_since, last_is_declared}
 use Rattle.layering.proofs.LayerLemmas.{visible_within}
-use Rattle.layering.proofs.SameLemmas.{same_from_last_up_to}
 use Rattle.join_eval.specs.Answers.{ListsChanges}
 use Rattle.base_versions.specs.Kept.{Kept, has_table, StandsFor, HasEnteredInPart}
 
@@ -49,18 +43,11 @@ take_then (suc n) k (x ∷ xs) = ap (λ ys. x ∷ ys) (take_then n k xs) ∙ ap 
 -- ---- the pairs that no output hides
 
 -- where the versions have given the base pairs of a range, and those that no output hides are left, these are what is visible
-pub visible_read : (h : History) (p : ℕ) (range : Range) (joins : List DeclaredJoin) (found left : Table) → HasEntered h → joins ≡ joins_of h → found ≡ pairs_within range (base_of (take p h)) →
+pub visible_read : (h : History) (p : ℕ) (range : Range) (joins : List DeclaredJoin) (found left : Table) → joins ≡ joins_of (take p h) → found ≡ pairs_within range (base_of (take p h)) →
     left ≡ pairs_where (λ key. not (is_computed joins key)) found → left ≡ pairs_within range (below (take p h) 0)
-visible_read h p range joins found left entered same_joins is hidden =
+visible_read h p range joins found left same_joins is hidden =
     hidden
     ∙ (λ i. pairs_where (λ key. not (is_computed (same_joins i) key)) (is i))
-    ∙ ⊎_elim
-    (λ (before : p < last_declared (joins_of h)).
-    let none : pairs_within range (base_of (take p h)) ≡ [] = ap (pairs_within range) (no_base_before h p entered (omega arith)) in
-    ap (pairs_where (λ key. not (is_computed (joins_of h) key))) none
-    ∙ sym (ap (pairs_where (λ key. not (is_computed (joins_of (take p h)) key))) none))
-    (λ past. ap (λ js. pairs_where (λ key. not (is_computed js key)) (pairs_within range (base_of (take p h)))) (sym (joins_stay_from_last h p past)))
-    (cases_lt p (last_declared (joins_of h)))
     ∙ sym (visible_within (take p h) range)
     ∙ ap (pairs_within range) (sym (below-zero (take p h)))
 
@@ -81,58 +68,37 @@ left_fewer test (e ∷ es) = by (test e.0) (left_fewer test es)
 
 -- ---- what is the same
 
-base_kept_by : (write : Write) (key : Text) (table : Table) → (Writes write key → ⊥) → value_at key (base_after write table) ≡ value_at key table
-base_kept_by (put k v) key table other =
-    let apart : same key k ≡ false = false_from_ne_true (same key k) (λ e. other (sym (equal_by_same key k e))) in
-    value_at-with_pair key k v table ∙ ap (λ b. cond b (Some v) (value_at key table)) apart
-base_kept_by (remove k) key table other =
-    let apart : same key k ≡ false = false_from_ne_true (same key k) (λ e. other (sym (equal_by_same key k e))) in
-    value_at-without_key key k table ∙ ap (λ b. cond (not b) (value_at key table) None) apart
-base_kept_by (declare j) key table other = refl
-
-taken_more : (h : History) (x : ℕ) → x < length h → (e : Entry) × (slice_get h x ≡ Some e) × (take (x + 1) h ≡ take x h ++ e ∷ [])
-taken_more [] x l = absurd (omega arith)
-taken_more (first ∷ h) x l = (get_or (first ∷ h) x first, slice_get-get_or (first ∷ h) x first l, take_more (first ∷ h) x first l)
-
-base_kept_once : (h : History) (x : ℕ) (key : Text) → (IsSomeAnd (slice_get h x) (λ e. Writes e.write key) → ⊥) → value_at key (base_of (take (x + 1) h)) ≡ value_at key (base_of (take x h))
-base_kept_once h x key other = ⊎_elim
-    (λ (l : x < length h).
-    let w = taken_more h x l in
-    ap (λ k. value_at key (base_of k)) w.2 ∙ ap (value_at key) (base_of-push (take x h) w.0)
-    ∙ base_kept_by w.0.write key (base_of (take x h)) (λ writes. other (subst (λ o. IsSomeAnd o (λ e. Writes e.write key)) (sym w.1) writes)))
-    (λ past. ap (λ k. value_at key (base_of k)) (take_all (x + 1) h (omega arith) ∙ sym (take_all x h past)))
-    (cases_lt x (length h))
-
-base_kept : (h : History) (q n : ℕ) (key : Text) → ((x : ℕ) → q ≤ x → x < q + n → IsSomeAnd (slice_get h x) (λ e. Writes e.write key) → ⊥) → value_at key (base_of (take (q + n) h)) ≡ value_at key (base_of (take q h))
-base_kept h q zero key other = ap (λ x. value_at key (base_of (take x h))) (omega arith)
-base_kept h q (suc n) key other =
-    ap (λ x. value_at key (base_of (take x h))) (let e : q + suc n ≡ (q + n) + 1 = omega arith in e)
-    ∙ base_kept_once h (q + n) key (other (q + n) (omega arith) (omega arith))
-    ∙ base_kept h q n key (λ x up below. other x up (omega arith))
-
--- at a key that no entry between writes the same is visible
-visible_same : (h : History) (q p : ℕ) (range : Range) (key : Text) → HasEntered h → q ≤ p → within range key ≡ true → (Contains (changed_keys q p range h) key → ⊥) → Same h q p 0 key
-visible_same h q p range key entered order inside unlisted =
-    let last = last_lies_within h p in
-    let from = max q (last_declared (joins_of (take p h))) in
-    let stay = joins_stay_after_last h from p (omega arith) in
-    let at : (y : ℕ) → from ≤ y → y ≤ p → value_at key (below (take y h) 0) ≡ cond (not (is_computed (joins_of (take from h)) key)) (value_at key (base_of (take y h))) None = λ y up down.
-    ap (value_at key) (below-zero (take y h)) ∙ value_at-visible key (take y h) ∙ ap (λ js. cond (not (is_computed js key)) (value_at key (base_of (take y h))) None) (stay y up down) in
-    same_from_last_up_to h q p 0 key entered (λ x up down.
-    let e : from + (x - from) ≡ x = omega arith in
+-- at a key that no entry between writes the same is visible, where no join is declared between
+visible_same : (h : History) (q p : ℕ) (range : Range) (key : Text) → q ≤ p → changed_at (take p h) ≤ q → within range key ≡ true → (Contains (changed_keys q p range h) key → ⊥) → Same h q p 0 key
+visible_same h q p range key order steady inside unlisted x up down =
+    let stay = joins_stay_since h q p steady in
+    let at : (y : ℕ) → q ≤ y → y ≤ p → value_at key (below (take y h) 0) ≡ cond (not (is_computed (joins_of (take q h)) key)) (value_at key (base_of (take y h))) None = λ y low high.
+    ap (value_at key) (below-zero (take y h)) ∙ value_at-visible key (take y h) ∙ ap (λ js. cond (not (is_computed js key)) (value_at key (base_of (take y h))) None) (stay y low high) in
+    let e : q + (x - q) ≡ x = omega arith in
     at x up down
-    ∙ ap (λ o. cond (not (is_computed (joins_of (take from h)) key)) o None)
+    ∙ ap (λ o. cond (not (is_computed (joins_of (take q h)) key)) o None)
     (ap (λ y. value_at key (base_of (take y h))) (sym e)
-    ∙ base_kept h from (x - from) key (λ y low high writes. unlisted ((changed_keys_are_written q p range h key).1 (inside, (y, omega arith, omega arith, writes)))))
-    ∙ sym (at from (omega arith) (omega arith)))
+    ∙ base_kept h q (x - q) key (λ y low high writes. unlisted ((changed_keys_are_written q p range h key).1 (inside, (y, low, omega arith, writes)))))
+    ∙ sym (at q (omega arith) order)
 
--- the changed keys list what may have changed at rank 0
-pub changed_listed : (h : History) (q p : ℕ) (range : Range) (keys : List Text) → HasEntered h → q ≤ p → keys ≡ changed_keys q p range h → ListsChanges h q p 0 range keys
-changed_listed h q p range keys entered order is = subst (ListsChanges h q p 0 range) (sym is) (record {
+-- the changed keys list what changed below a rank where the same stands below it at each key that is not among them
+lists : (h : History) (q p rank : ℕ) (range : Range) → ((key : Text) → within range key ≡ true → (Contains (changed_keys q p range h) key → ⊥) → Same h q p rank key) → ListsChanges h q p rank range (changed_keys q p range h)
+lists h q p rank range same = record {
   ascend = changed_keys_ascend q p range h;
   inside = all_from_has (λ key. within range key ≡ true) (changed_keys q p range h) (λ key has. ((changed_keys_are_written q p range h key).0 (contains_from_has (changed_keys q p range h) key has)).0);
-  complete = λ key inside unlisted. visible_same h q p range key entered order inside unlisted;
-})
+  complete = same;
+}
+
+-- they do at rank 0 where no join is declared between, and over a range that is bare throughout
+pub changed_listed : (h : History) (q p rank : ℕ) (range : Range) (keys : List Text) → HasEntered h → is_range range.low range.high ≡ true → q ≤ p → rank ≤ 0 → keys ≡ changed_keys q p range h →
+    (changed_at (take p h) ≤ q) ⊎ IsBareThroughout h q p range → ListsChanges h q p rank range keys
+changed_listed h q p rank range keys entered ok order none is (inl steady) =
+    let zero_rank : 0 ≡ rank = omega arith in
+    subst (ListsChanges h q p rank range) (sym is)
+    (subst (λ r. ListsChanges h q p r range (changed_keys q p range h)) zero_rank (lists h q p 0 range (λ key inside unlisted. visible_same h q p range key order steady inside unlisted)))
+changed_listed h q p rank range keys entered ok order none is (inr bare) =
+    subst (ListsChanges h q p rank range) (sym is)
+    (lists h q p rank range (λ key inside unlisted. unchanged_is_same h q p rank range key (λ x. declares_joins (take x h) (has_entered_taken x h entered)) ok bare inside unlisted))
 
 -- ---- versions that catch up
 
@@ -161,10 +127,3 @@ last_at joins i at (Some s) there is long = sym (same_Some s.position at is) ∙
 -- rank 0
 pub at_rank_zero : (h : History) (p rank : ℕ) (range : Range) (left : Table) → rank ≤ 0 → left ≡ pairs_within range (below (take p h) 0) → left ≡ pairs_within range (below (take p h) rank)
 at_rank_zero h p rank range left none is = is ∙ ap (λ r. pairs_within range (below (take p h) r)) (let e : 0 ≡ rank = omega arith in e)
-
--- what is left of base pairs is visible, where the versions stand for the entries
-pub read_exact : (h : History) (p rank : ℕ) (range : Range) (base : Kept) (joins : List DeclaredJoin) (found left : Table) → HasEntered h → StandsFor 0 base h →
-    ((start : ℕ) (l : History) → StandsFor start base l → start ≤ p → found ≡ pairs_within range (base_of (take p l))) → joins ≡ joins_of h → left ≡ pairs_where (λ key. not (is_computed joins key)) found → rank ≤ 0 →
-    left ≡ pairs_within range (below (take p h) rank)
-read_exact h p rank range base joins found left entered stands is same_joins hidden none =
-    at_rank_zero h p rank range left none (visible_read h p range joins found left entered same_joins (is 0 h stands (omega arith)) hidden)

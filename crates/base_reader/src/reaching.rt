@@ -1,10 +1,13 @@
 // The joins whose outputs a range reaches.
-ghost use Rattle.std.specs.Prelude.{◌≡◌, ◌<◌, IfOk, length, map};
+ghost use Rattle.std.specs.Prelude.{◌≡◌, ◌<◌, ◌-◌, IfOk, length, map};
 ghost use Rattle.semantics.specs.Verdicts.{AllEntered};
 ghost use Rattle.join_set.specs.Summaries.{StandsFor};
+ghost use Rattle.growing_history.specs.Changes.{is_bare};
 ghost use Rattle.layering.specs.Reached.{reached};
-ghost use Rattle.base_reader.specs.Reaching.{IsRankIn, IsReachedAt};
+ghost use Rattle.layering.specs.Standing.{last_declared};
+ghost use Rattle.base_reader.specs.Reaching.{IsRankIn, IsReachedAt, SaysBetween};
 
+use join_eval::{Between, has_table};
 use join_set::{JoinSet, Standing};
 use join_types::Entry;
 use key_space::Range;
@@ -52,6 +55,43 @@ pub fn rank_of(joins: &JoinSet, at: u64) -> Option<u8>
         }
     }
     None
+}
+
+/// Returns the position of the last join, 0 where there is none: that of the last declaration.
+pub fn last_declared(joins: &JoinSet) -> u64
+    ensures { result ≡ last_declared joins.now }
+{
+    if joins.is_empty() {
+        return 0;
+    }
+    joins.at(joins.len() - 1)
+}
+
+/// Returns whether no join has its output in the range's table. Linear in the joins.
+fn is_bare(joins: &JoinSet, range: &Range) -> bool
+    ensures { result ≡ is_bare range.now joins.now }
+{
+    let table = range.table();
+    for i in 0..joins.len() {
+        if has_table(&joins.join(i).output, table) {
+            return false;
+        }
+    }
+    true
+}
+
+/// Says what is so of the joins, for the range, from a position on up to the one after which these stand. It compares two
+/// numbers; where a join is declared between, it is linear in the joins.
+pub fn between(joins: &JoinSet, q: u64, range: &Range) -> Between
+    ensures { SaysBetween joins.now q range.now result }
+{
+    if last_declared(joins) <= q {
+        return Between::Steady;
+    }
+    if is_bare(joins, range) {
+        return Between::Bare;
+    }
+    Between::Other
 }
 
 /// What is kept of entries, each of which entered at its place: the joins that stand after them. It compares, for each

@@ -5,8 +5,8 @@ ghost use Rattle.semantics.specs.Joins.{Join as PlainJoin};
 ghost use Rattle.semantics.specs.Histories.{History, joins_of};
 ghost use Rattle.key_ranges.specs.Ranges.{is_open};
 ghost use Rattle.layering.specs.Reached.{reached};
-ghost use Rattle.layering.specs.Standing.{last_declared};
 ghost use Rattle.layering.specs.Parts.{IsWithin, JoinTo};
+ghost use Rattle.join_eval.specs.Answers.{TellsBetween};
 ghost use Rattle.kept_ranges.specs.Sound.{KeptRange};
 ghost use Rattle.range_serving.specs.Serving.{IsPast};
 ghost use Rattle.cell_slots.specs.declared.slot.Slot.TheVariants.{Lent, Held};
@@ -14,7 +14,7 @@ ghost use Rattle.cell_slots.specs.Slots.{Frame, Holdings, IsDeclared, IsReached,
 ghost use Rattle.cell_slots.specs.Spending.{CoversReady, MayKeep, Reserves, Spends};
 
 use crate::slot::Part;
-use join_eval::Reader;
+use join_eval::{Between, Reader};
 use join_types::Join;
 use key_space::Range;
 use out_of_memory::OutOfMemory;
@@ -32,10 +32,11 @@ pub trait Cells: Reader {
         requires { p ≤ length (Self.list self.now) }
         ensures { IfOk result (λ ats. ats.items ≡ map (λ s. s.position) (reached range.now rank (joins_of (take p (Self.list self.now))))) };
 
-    /// The position of the last declaration among the first p entries, 0 where there is none.
-    fn last_declared(&self, p: u64) -> Result<u64, OutOfMemory>
-        requires { p ≤ length (Self.list self.now) }
-        ensures { IfOk result (λ at. at ≡ last_declared (joins_of (take p (Self.list self.now)))) };
+    /// Says what is so of the joins between the first q and the first p entries, for the range.
+    fn between(&self, q: u64, p: u64, range: &Range) -> Result<Between, OutOfMemory>
+        requires order { q ≤ p }
+        requires within { p ≤ length (Self.list self.now) }
+        ensures { IfOk result (TellsBetween (Self.list self.now) q p range.now) };
 
     /// A copy of the join that was declared at a position.
     fn join_at(&self, at: u64) -> Result<Join, OutOfMemory>

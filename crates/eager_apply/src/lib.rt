@@ -1,7 +1,7 @@
-// One changed source pair of a copy join, applied to kept rows through one of their needs.
+// One changed source pair, applied to the kept rows of a copy join through one of their needs.
 //
-// The layers above may use `output_key`, which finds the row that a source key gives, `apply`, which sets that row alone, and
-// the law: contracts see rows as the record of their pairs and needs.
+// The layers above may use `output_key`, which finds the row, or the group of an aggregate, that a source key gives; `apply`,
+// which sets the row of a copy join alone; and the law: contracts see rows as the record of their pairs and needs.
 #![tactic(auto)]
 
 pub mod applying;

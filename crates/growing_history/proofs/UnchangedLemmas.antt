@@ -106,7 +106,7 @@ base_kept_once h x key other = ⊎_elim
     (cases_lt x (length h))
 
 -- a key that no entry from q on writes keeps its base pair
-base_kept : (h : History) (q n : ℕ) (key : Text) → ((x : ℕ) → q ≤ x → x < q + n → IsSomeAnd (slice_get h x) (λ e. Writes e.write key) → ⊥) → value_at key (base_of (take (q + n) h)) ≡ value_at key (base_of (take q h))
+pub base_kept : (h : History) (q n : ℕ) (key : Text) → ((x : ℕ) → q ≤ x → x < q + n → IsSomeAnd (slice_get h x) (λ e. Writes e.write key) → ⊥) → value_at key (base_of (take (q + n) h)) ≡ value_at key (base_of (take q h))
 base_kept h q zero key other = ap (λ x. value_at key (base_of (take x h))) (omega arith)
 base_kept h q (suc n) key other =
     ap (λ x. value_at key (base_of (take x h))) (let e : q + suc n ≡ (q + n) + 1 = omega arith in e)
@@ -121,7 +121,7 @@ state_is_base h rank key declares none =
     value_at-below_elsewhere h rank key declares none ∙ value_at-visible key h ∙ ap (λ b. cond (not b) (value_at key (base_of h)) None) none
 
 -- at a key of a bare range the state is the base pair
-bare_at : (h : History) (rank : ℕ) (r : Range) (key : Text) → DeclaresJoins h → is_range r.low r.high ≡ true → is_bare r (joins_of h) ≡ true → within r key ≡ true → value_at key (below h rank) ≡ value_at key (base_of h)
+pub bare_at : (h : History) (rank : ℕ) (r : Range) (key : Text) → DeclaresJoins h → is_range r.low r.high ≡ true → is_bare r (joins_of h) ≡ true → within r key ≡ true → value_at key (below h rank) ≡ value_at key (base_of h)
 bare_at h rank r key declares range bare inside =
     let first = first_segment r key range inside in
     state_is_base h rank key declares (uncomputed key (joins_of h) (unfit_in key (table_of r.low) first.0 (joins_of h) first.1 declares bare))
@@ -131,18 +131,13 @@ pub bare_is_base : BareIsBase
 bare_is_base h rank r declares range bare =
     same_within r (below h rank) (base_of h) (ascending-below h rank) (ascending-base_of h) (λ key inside. bare_at h rank r key declares range bare inside)
 
--- at a key of a bare range that is not changed the state is the same
+-- at a key of a range that is bare throughout and that is not changed the state is the same
 pub unchanged_is_same : UnchangedIsSame
 unchanged_is_same h q p rank r key declares range bare inside unchanged x up down =
-    let first = first_segment r key range inside in
-    let unfit = unfit_in key (table_of r.low) first.0 (joins_of (take p h)) first.1 (all_earlier (λ s. is_join s.join ≡ true) h p declares) bare in
-    let none : (y : ℕ) → y ≤ p → is_computed (joins_of (take y h)) key ≡ false = λ y l.
-    uncomputed key (joins_of (take y h))
-    (subst (λ k. AllByRecursion (λ s. fits s.join.output key ≡ false) (joins_of k)) (take-take y p h l) (all_earlier (λ s. fits s.join.output key ≡ false) (take p h) y unfit)) in
-    let base : (y : ℕ) → y ≤ p → value_at key (below (take y h) rank) ≡ value_at key (base_of (take y h)) = λ y l.
-    state_is_base (take y h) rank key (all_earlier (λ s. is_join s.join ≡ true) h y declares) (none y l) in
+    let base : (y : ℕ) → q ≤ y → y ≤ p → value_at key (below (take y h) rank) ≡ value_at key (base_of (take y h)) = λ y from to.
+    bare_at (take y h) rank r key (declares y) range (bare y from to) inside in
     let e : q + (x - q) ≡ x = omega arith in
-    base x down
+    base x up down
     ∙ ap (λ y. value_at key (base_of (take y h))) (sym e)
     ∙ base_kept h q (x - q) key (λ y from to writes. unchanged ((changed_keys_are_written q p r h key).1 (inside, (y, from, omega arith, writes))))
-    ∙ sym (base q (omega arith))
+    ∙ sym (base q (omega arith) (omega arith))

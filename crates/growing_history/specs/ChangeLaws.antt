@@ -7,7 +7,7 @@ use Rattle.semantics.specs.Patterns.{Pattern, is_pattern, fits}
 use Rattle.semantics.specs.Histories.{Write, put, remove, declare, History, joins_of, base_of}
 use Rattle.semantics.specs.States.{below}
 use Rattle.semantics.specs.StateLaws.{DeclaresJoins}
-use Rattle.growing_history.specs.Changes.{changed_keys, Same, has_table, is_bare}
+use Rattle.growing_history.specs.Changes.{changed_keys, Same, has_table, is_bare, IsBareThroughout}
 
 -- the write puts or removes the key
 abbrev pub Writes : Write → Text → Type 0
@@ -19,6 +19,10 @@ Writes (declare j) key = ⊥
 abbrev pub IsWrittenBetween : ℕ → ℕ → History → Text → Type 0
 IsWrittenBetween q p h key = (x : ℕ) × (q ≤ x) × (x < p) × IsSomeAnd (slice_get h x) (λ e. Writes e.write key)
 
+-- whatever is declared is a join
+abbrev pub DeclaresAlways : History → Type 0
+DeclaresAlways h = (x : ℕ) → DeclaresJoins (take x h)
+
 -- the changed keys ascend, each once
 abbrev pub ChangedKeysAscend : Type 0
 ChangedKeysAscend = (q p : ℕ) (r : Range) (h : History) → IsStrictlySortedBy text_cmp (changed_keys q p r h)
@@ -27,9 +31,9 @@ ChangedKeysAscend = (q p : ℕ) (r : Range) (h : History) → IsStrictlySortedBy
 abbrev pub ChangedKeysAreWritten : Type 0
 ChangedKeysAreWritten = (q p : ℕ) (r : Range) (h : History) (key : Text) → Contains (changed_keys q p r h) key ↔ ((within r key ≡ true) × IsWrittenBetween q p h key)
 
--- at a key of a bare range that is not among the changed ones the state is the same at all positions from q to p
+-- at a key of a range that is bare at all positions from q to p and that is not among the changed ones the state is the same at all of them
 abbrev pub UnchangedIsSame : Type 0
-UnchangedIsSame = (h : History) (q p rank : ℕ) (r : Range) (key : Text) → DeclaresJoins h → is_range r.low r.high ≡ true → is_bare r (joins_of (take p h)) ≡ true →
+UnchangedIsSame = (h : History) (q p rank : ℕ) (r : Range) (key : Text) → DeclaresAlways h → is_range r.low r.high ≡ true → IsBareThroughout h q p r →
     within r key ≡ true → (Contains (changed_keys q p r h) key → ⊥) → Same h q p rank key
 
 -- of the keys that fit a pattern each is of the pattern's table

@@ -1,9 +1,9 @@
 -- What changes between two positions of a history.
-use Rattle.std.specs.Prelude.{◌≡◌, ℕ, ◌-◌, ◌≤◌, List, [], ◌∷◌, map, filter, flat_map, fold, take, drop, Bool, false, not}
+use Rattle.std.specs.Prelude.{◌≡◌, ℕ, ◌-◌, ◌≤◌, List, [], ◌∷◌, map, filter, flat_map, fold, take, drop, Bool, true, false, not}
 use Rattle.std.specs.List.{list_all}
 use Rattle.semantics.specs.Texts.{Text, same, table_of, value_at, with_pair, Range, within}
 use Rattle.semantics.specs.Patterns.{literal, slot, Pattern}
-use Rattle.semantics.specs.Histories.{Write, put, remove, declare, History, DeclaredJoin}
+use Rattle.semantics.specs.Histories.{Write, put, remove, declare, History, DeclaredJoin, joins_of}
 use Rattle.semantics.specs.States.{below}
 
 -- the key that a write puts or removes
@@ -37,3 +37,11 @@ has_table (slot place width ∷ ss) table = false
 -- no join that stands has its output in the table of the range
 abbrev pub is_bare : Range → List DeclaredJoin → Bool
 is_bare r joins = list_all (λ s. not (has_table s.join.output (table_of r.low))) joins
+
+-- the range is bare at a position: no join that stands there has its output in the range's table
+abbrev pub IsBareAt : History → ℕ → Range → Type 0
+IsBareAt h x range = is_bare range (joins_of (take x h)) ≡ true
+
+-- the range is bare at all positions from q to p
+abbrev pub IsBareThroughout : History → ℕ → ℕ → Range → Type 0
+IsBareThroughout h q p range = (x : ℕ) → q ≤ x → x ≤ p → IsBareAt h x range

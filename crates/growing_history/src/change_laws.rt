@@ -11,7 +11,8 @@ pub fn changed_keys_are_written()
     ensures { ChangedKeysAreWritten }
 {}
 
-/// At a key of a bare range that is not among the changed ones the state is the same at all positions between the two.
+/// At a key of a range that is bare between two positions, and that is not among the changed ones, the state is the same at
+/// all positions between the two.
 pub fn unchanged_is_same()
     ensures { UnchangedIsSame }
 {}

@@ -6,7 +6,7 @@ use Rattle.std.proofs.lemmas.Bool.{cases_lt}
 use Rattle.std.proofs.lemmas.List.{take-take}
 use Rattle.semantics.specs.Texts.{Text, Table, value_at, is_range, Range, within}
 use Rattle.semantics.specs.Joins.{is_join}
-use Rattle.semantics.specs.Histories.{History, DeclaredJoin, joins_of}
+use Rattle.semantics.specs.Histories.{History, DeclaredJoin, joins_of, base_of}
 use Rattle.semantics.specs.Outputs.{out}
 use Rattle.semantics.specs.States.{of_rank, merged, below}
 use Rattle.semantics.proofs.MergedLemmas.{value_at-merged}
@@ -18,12 +18,12 @@ use Rattle.growing_history.specs.Changes.{Same}
 use Rattle.growing_history.proofs.EnteredLemmas.{declares_joins, has_entered_taken}
 use Rattle.growing_history.proofs.ElementLemmas.{has_of_all}
 use Rattle.layering.specs.Reached.{reaches}
-use Rattle.layering.specs.Standing.{last_declared, SameOutput}
-use Rattle.layering.specs.SameLaws.{SameBelowNext, SameBelowNextWithin, SameBefore, SameFromLast, SameFromLastUpTo, SameThrough}
+use Rattle.layering.specs.Standing.{SameOutput}
+use Rattle.layering.specs.SameLaws.{SameBelowNext, SameBelowNextWithin, SameWhereBare, SameThrough}
 use Rattle.layering.proofs.ListLemmas.{all_from_filter, none_from_test}
 use Rattle.layering.proofs.ReachLemmas.{unreached_fits_not}
 use Rattle.layering.proofs.LayerLemmas.{rank_joins}
-use Rattle.layering.proofs.StandingLemmas.{last_lies_within, nothing_before}
+use Rattle.growing_history.proofs.UnchangedLemmas.{bare_at}
 
 -- ---- below the next rank
 
@@ -73,42 +73,14 @@ same_below_next_within h q p r range key entered is inside stay same outputs =
     (all_from_filter (λ s. SameOutput h q p r key s.join) (reaches range) joins outputs
     (λ s has none. unreached_same h q p r range key s (has_of_all (λ (t : DeclaredJoin). is_join t.join ≡ true) joins s are has) is inside none))
 
--- ---- up to the last declaration
+-- ---- where a range is bare throughout
 
--- up to the last declaration the same stands everywhere
-pub same_before : SameBefore
-same_before h q p r key entered up x from to =
-    ap (value_at key) (nothing_before h x r entered (omega arith)) ∙ sym (ap (value_at key) (nothing_before h q r entered (omega arith)))
-
--- from the last declaration on, where it comes after the first position
-from_last : (h : History) (q p r d m : ℕ) (key : Text) → HasEntered h → d ≡ last_declared (joins_of h) → m ≡ max q d → Same h m p r key → Same h q p r key
-from_last h q p r d m key entered last later same x from to =
-    ⊎_elim
-    (λ (before : x < d). ap (value_at key) (nothing_before h x r entered (omega arith)) ∙ sym (ap (value_at key) (nothing_before h q r entered (omega arith))))
-    (λ past. ⊎_elim
-    (λ (early : q < d).
-    let at : m ≡ d = omega arith in
-    same x (omega arith) to ∙ ap (λ n. value_at key (below (take n h) r)) at ∙ ap (value_at key) (nothing_before h d r entered (omega arith)) ∙ sym (ap (value_at key) (nothing_before h q r entered (omega arith))))
-    (λ late.
-    let at : m ≡ q = omega arith in
-    same x (omega arith) to ∙ ap (λ n. value_at key (below (take n h) r)) at)
-    (cases_lt q d))
-    (cases_lt x d)
-
--- so it is enough to look from there on
-pub same_from_last : SameFromLast
-same_from_last h q p r key entered same = from_last h q p r (last_declared (joins_of h)) (max q (last_declared (joins_of h))) key entered refl refl same
-
--- and from the last declaration up to the later position on
-pub same_from_last_up_to : SameFromLastUpTo
-same_from_last_up_to h q p r key entered same x from to =
-    let earlier : (y : ℕ) → y ≤ p → take y (take p h) ≡ take y h = λ y down. take-take y p h down in
-    let last = last_lies_within h p in
-    let cut : Same (take p h) (max q (last_declared (joins_of (take p h)))) p r key = λ y up down.
-    ap (λ es. value_at key (below es r)) (earlier y down) ∙ same y up down ∙ ap (λ es. value_at key (below es r)) (sym (earlier (max q (last_declared (joins_of (take p h)))) (omega arith))) in
-    ap (λ es. value_at key (below es r)) (sym (earlier x to))
-    ∙ same_from_last (take p h) q p r key (has_entered_taken p h entered) cut x from to
-    ∙ ap (λ es. value_at key (below es r)) (earlier q (omega arith))
+-- what stands below a rank at a key of a bare range is the base pair
+pub same_where_bare : SameWhereBare
+same_where_bare h q p r rank range key entered is inside bare same x from to =
+    let base : (y n : ℕ) → q ≤ y → y ≤ p → value_at key (below (take y h) n) ≡ value_at key (base_of (take y h)) = λ y n up down.
+    bare_at (take y h) n range key (declares_joins (take y h) (has_entered_taken y h entered)) is (bare y up down) inside in
+    base x rank from to ∙ sym (base x r from to) ∙ same x from to ∙ base q r (omega arith) (omega arith) ∙ sym (base q rank (omega arith) (omega arith))
 
 -- what is the same on both ways is so on the whole way
 pub same_through : SameThrough

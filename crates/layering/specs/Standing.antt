@@ -6,7 +6,7 @@ use Rattle.semantics.specs.Histories.{History, DeclaredJoin, joins_of}
 use Rattle.semantics.specs.Outputs.{out}
 use Rattle.semantics.specs.States.{below}
 
--- the position of the last declaration, 0 where there is none
+-- the position of the last join, 0 where there is none
 abbrev pub last_declared : List DeclaredJoin → ℕ
 last_declared joins = fold (λ position s. s.position) 0 joins
 

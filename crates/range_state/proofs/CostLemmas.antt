@@ -4,11 +4,10 @@ use Rattle.std.specs.Option.{IsSomeAnd}
 use Rattle.std.proofs.lemmas.Option.{same_Some}
 use Rattle.semantics.specs.Texts.{Text, Range}
 use Rattle.semantics.specs.Histories.{History, IsPrefix, joins_of}
-use Rattle.growing_history.specs.Changes.{is_bare}
+use Rattle.growing_history.specs.Changes.{is_bare, IsBareAt}
 use Rattle.growing_history.proofs.PrefixLemmas.{take_prefix}
 use Rattle.key_ranges.specs.Ranges.{just}
 use Rattle.range_evaluation.specs.Trees.{Need}
-use Rattle.join_eval.specs.Answers.{IsBareAt}
 use Rattle.kept_ranges.specs.Rules.{Application, is_left, applications}
 use Rattle.kept_ranges.specs.Sound.{KeptRange}
 use Rattle.source_changes.specs.Asking.{HaveRanges, AreListed, asking_steps}

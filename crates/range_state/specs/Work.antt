@@ -7,11 +7,10 @@ use Rattle.semantics.specs.Patterns.{Slots, bind}
 use Rattle.semantics.specs.Joins.{is_check, Join}
 use Rattle.semantics.specs.Histories.{History, joins_of}
 use Rattle.semantics.specs.States.{below}
-use Rattle.growing_history.specs.Changes.{changed_keys}
+use Rattle.growing_history.specs.Changes.{changed_keys, IsBareThroughout}
 use Rattle.key_ranges.specs.Containing.{bind_range, only}
 use Rattle.range_evaluation.specs.Trees.{Need, tree, reading_steps}
 use Rattle.lazy_log.specs.Pending.{meets_output}
-use Rattle.join_eval.specs.Answers.{IsBareThroughout}
 use Rattle.join_eval.specs.Walks.{AreBare}
 use Rattle.kept_ranges.specs.Notes.{note_limit}
 use Rattle.kept_ranges.specs.Rules.{source_of}

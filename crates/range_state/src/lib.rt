@@ -4,6 +4,9 @@
 // The layers above may use `RangeState`, over any reader: contracts see it as the kept range of the definitions, and each call
 // keeps `IsSound` over the reader's list. They see `Notes` as their list in the order in which they were made, and the
 // position from which they are complete.
+//
+// Dangerous here: a call that finds no memory may leave nothing kept, so whoever goes on asks for the `position` again. What is
+// pending stays until it is mended, and each advance walks it.
 #![tactic(auto)]
 
 mod advancing;

@@ -229,8 +229,9 @@ impl RangeState {
 
     /// Mends it where something pending meets a range: the rows under those slots are found again where it stands.
     ///
-    /// For each of the slots it takes the search for the rows under them, and what evaluating the join under them takes. Where
-    /// many needs are found, all needs are put in order once, and each that is found is looked for in logarithmic steps.
+    /// For each of the slots it takes the search for the rows under them, and what evaluating the join under them takes. The first
+    /// 32 needs that are found are compared with all needs. Where more are found, all needs are put in order once, and each further
+    /// one is looked for in logarithmic steps.
     ///
     /// On `OutOfMemory` it is unchanged, or nothing is kept.
     ///

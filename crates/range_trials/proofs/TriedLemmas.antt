@@ -9,7 +9,7 @@ use Rattle.semantics.specs.States.{ranks_of}
 use Rattle.growing_history.specs.Entered.{HasEntered, HasRank}
 use Rattle.growing_history.proofs.EnteredLemmas.{rank_of_place}
 use Rattle.layering.specs.Standing.{last_declared}
-use Rattle.layering.specs.StandingLaws.{JoinsStayFromLast, LastIsDeclared}
+use Rattle.layering.specs.StandingLaws.{LastIsChanged, LastIsDeclared, SameJoinsSince}
 use Rattle.kept_ranges.specs.Sound.{KeptRange}
 use Rattle.range_state.specs.Held.{forgotten}
 use Rattle.range_trials.specs.Tried.{IsTried}
@@ -25,17 +25,17 @@ sized zero len e f = absurd (true≢false f)
 sized (suc n) len e f = omega (arith, e)
 
 -- a kept range of the last join of a history with nothing kept, whose rank is the join's, is tried from the join's declaration on
-pub tried_start : JoinsStayFromLast → LastIsDeclared → (h read : History) (joins : List DeclaredJoin) (j : Join) (last rank at n : ℕ) (range : Range) (s : KeptRange) →
+pub tried_start : SameJoinsSince → LastIsChanged → LastIsDeclared → (h read : History) (joins : List DeclaredJoin) (j : Join) (last rank at n : ℕ) (range : Range) (s : KeptRange) →
     read ≡ h → HasEntered read → joins ≡ joins_of h → n ≡ length h → length joins ≡ last + 1 → option_map (λ t. t.join) (slice_get joins last) ≡ Some j → rank ≡ slice_index (ranks_of joins) last → rank ≤ 7 →
     option_map (λ t. t.position) (slice_get joins last) ≡ Some at → s ≡ forgotten j rank range → IsTried read at n s
-tried_start stay declared h read joins j last rank at n range s same entered stand long len is ranked small placed fresh =
+tried_start stay changed declared h read joins j last rank at n range s same entered stand long len is ranked small placed fresh =
     subst (λ (v : KeptRange). IsTried read at n v) (sym fresh) (record {
       entered = entered;
       long = let e = ap length same in omega arith;
       ranked = omega arith;
       stands = λ p from to.
           subst (λ (js : List DeclaredJoin). HasRank js j rank)
-          (stand ∙ sym (stay h p (subst (λ (d : ℕ). d ≤ p) (sym (ap last_declared (sym stand) ∙ declared_last declared joins last at _ refl placed len)) from)) ∙ sym (ap (λ (es : History). joins_of (take p es)) same))
+          (stand ∙ sym (stay h p (subst (λ (d : ℕ). d ≤ p) (sym (sym (changed h) ∙ ap last_declared (sym stand) ∙ declared_last declared joins last at _ refl placed len)) from)) ∙ sym (ap (λ (es : History). joins_of (take p es)) same))
           (rank_of_place joins j last rank _ refl is ranked);
       sound = tt;
     })

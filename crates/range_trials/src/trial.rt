@@ -8,7 +8,7 @@ use crate::refusing::RefusingReader;
 use crate::telling::Told;
 use join_types::Pair;
 use key_space::Range;
-use layering::standing_laws::{joins_stay_from_last, last_is_declared};
+use layering::standing_laws::{last_is_changed, last_is_declared, same_joins_since};
 use list_reader::ListReader;
 use out_of_memory::OutOfMemory;
 use range_state::RangeState;
@@ -43,7 +43,8 @@ pub fn start(rt: &impl Abort, alloc: Global, told: Told, range: &Range) -> Resul
         panic!(rt; "no join");
     }
     let last = joins.len() - 1;
-    joins_stay_from_last();
+    same_joins_since();
+    last_is_changed();
     last_is_declared();
     let join = joins.join(last).copy(alloc)?;
     Ok(Trial {

@@ -1,27 +1,26 @@
 -- Reading one rank more.
-use Rattle.std.proofs.Common.{◌≡◌, ℕ, ◌+◌, ◌-◌, ◌≤◌, List, [], ◌∷◌, length, map, max, take, true, false, Contains, None, ◌⊎◌, inl, inr, refl, sym, ap, ◌∙◌, subst, arith}
+use Rattle.std.proofs.Common.{◌≡◌, ℕ, ◌+◌, ◌-◌, ◌<◌, ◌≤◌, List, [], ◌∷◌, length, map, take, true, false, Contains, None, ◌⊎◌, inl, inr, refl, sym, ap, ◌∙◌, subst, arith}
 use Rattle.std.specs.List.{AllByRecursion}
 use Rattle.std.proofs.lemmas.Bool.{false≢true}
 use Rattle.semantics.specs.Texts.{Text, Table, is_range, Range, within, pairs_within}
-use Rattle.semantics.specs.Histories.{History, IsPrefix, DeclaredJoin, joins_of}
+use Rattle.semantics.specs.Histories.{History, IsPrefix, DeclaredJoin, joins_of, changed_at}
 use Rattle.semantics.specs.States.{below}
 use Rattle.key_ranges.specs.Ranges.{is_open}
 use Rattle.key_ranges.specs.Containing.{bind_range}
-use Rattle.growing_history.specs.Changes.{Same, is_bare}
+use Rattle.growing_history.specs.Changes.{Same, is_bare, IsBareThroughout}
 use Rattle.growing_history.specs.Entered.{HasEntered}
 use Rattle.growing_history.proofs.EnteredLemmas.{has_entered_taken, declares_joins}
 use Rattle.growing_history.proofs.PrefixLemmas.{take_prefix}
 use Rattle.semantics.proofs.OfRankLemmas.{all_at}
 use Rattle.layering.specs.Reached.{reached, ReachesNoneBelow, with_parts}
-use Rattle.layering.specs.Standing.{last_declared}
 use Rattle.layering.proofs.ReachLemmas.{bare_reaches_none, reaches_none_below_each, reached_stand}
 use Rattle.layering.proofs.LayerLemmas.{below_next_within}
-use Rattle.layering.proofs.StandingLemmas.{last_lies_within, joins_stay_after_last}
-use Rattle.layering.proofs.SameLemmas.{same_below_next_within, same_from_last_up_to}
+use Rattle.layering.proofs.StandingLemmas.{joins_stay_since}
+use Rattle.layering.proofs.SameLemmas.{same_below_next_within, same_where_bare}
 use Rattle.layering.specs.Standing.{SameOutput}
 use Rattle.join_eval.specs.declared.reading.Changed.{Changed}
 use Rattle.join_eval.specs.declared.reading.Changed.TheVariants.{Keys, All}
-use Rattle.join_eval.specs.Answers.{AnswersChanges, IsBareThroughout, ListsChanges, MeetsOutput}
+use Rattle.join_eval.specs.Answers.{AnswersChanges, ListsChanges, MayNotBeKnown, MeetsOutput}
 use Rattle.key_ranges.proofs.OrderLemmas.{up_to_below}
 use Rattle.std.proofs.lemmas.List.{take_all}
 use Rattle.std.proofs.lemmas.Bool.{and_parts}
@@ -136,49 +135,55 @@ pub entered_before : (h more : History) → IsPrefix h more → HasEntered more 
 entered_before h more prefix entered =
     subst HasEntered (take_prefix (length h) h more (omega arith) prefix ∙ take_all (length h) h (omega arith)) (has_entered_taken (length h) more entered)
 
--- where the joins of the rank that the range reaches make the same from the last declaration on, the same stands below the next rank where it does below the rank
-same_next : (h : History) (q p since rank : ℕ) (range : Range) (key : Text) → HasEntered h → is_range range.low range.high ≡ true → q ≤ p → since ≡ max q (last_declared (joins_of (take p h))) → within range key ≡ true →
-    Same h q p rank key → AllByRecursion (λ s. SameOutput h since p rank key s.join) (reached range rank (joins_of (take p h))) → Same h q p (rank + 1) key
-same_next h q p since rank range key entered is order from inside same outputs =
-    let last = last_lies_within h p in
-    let stay = joins_stay_after_last h since p (omega (arith, from)) in
-    same_from_last_up_to h q p (rank + 1) key entered
-    (subst (λ n. Same h n p (rank + 1) key) from
-    (same_below_next_within h since p rank range key entered is inside stay
-    (λ x up down. same x (omega (arith, from)) down ∙ sym (same since (omega (arith, from)) (omega (arith, from, last))))
-    (subst (λ joins. AllByRecursion (λ s. SameOutput h since p rank key s.join) (reached range rank joins)) (stay p (omega (arith, from, last)) (omega arith)) outputs)))
-
--- where the range reaches no output of the rank, the same stands below the next rank where it does below the rank
-same_above : (h : History) (q p rank : ℕ) (range : Range) (key : Text) → HasEntered h → is_range range.low range.high ≡ true → q ≤ p → reached range rank (joins_of (take p h)) ≡ [] → within range key ≡ true →
-    Same h q p rank key → Same h q p (rank + 1) key
-same_above h q p rank range key entered is order none inside same =
-    same_next h q p (max q (last_declared (joins_of (take p h)))) rank range key entered is order refl inside same
-    (subst (AllByRecursion (λ s. SameOutput h (max q (last_declared (joins_of (take p h)))) p rank key s.join)) (sym none) tt)
+-- where the joins of the rank that the range reaches make the same, the same stands below the next rank where it does below the rank
+same_next : (h : History) (q p rank : ℕ) (range : Range) (key : Text) → HasEntered h → is_range range.low range.high ≡ true → q ≤ p → changed_at (take p h) ≤ q → within range key ≡ true →
+    Same h q p rank key → AllByRecursion (λ s. SameOutput h q p rank key s.join) (reached range rank (joins_of (take p h))) → Same h q p (rank + 1) key
+same_next h q p rank range key entered is order steady inside same outputs =
+    let stay = joins_stay_since h q p steady in
+    same_below_next_within h q p rank range key entered is inside stay same
+    (subst (λ joins. AllByRecursion (λ s. SameOutput h q p rank key s.join) (reached range rank joins)) (stay p order (omega arith)) outputs)
 
 -- a range with a key is not empty
 not_empty : (range : Range) (key : Text) → within range key ≡ true → is_open range ≡ true
 not_empty range key inside = let parts = and_parts _ _ inside in up_to_below range.low key range.high parts.0 parts.1
 
--- what is said below a rank holds below the next one, where the range reaches no output of the rank or is empty
-pub answers_above : (h : History) (q p rank : ℕ) (range : Range) (answer : Changed) → HasEntered h → is_range range.low range.high ≡ true → q ≤ p →
-    (reached range rank (joins_of (take p h)) ≡ []) ⊎ (is_open range ≡ false) → AnswersChanges h q p rank range answer → AnswersChanges h q p (rank + 1) range answer
-answers_above h q p rank range (Keys keys) entered is order (inl none) lists = record {
+-- what may not be known below a rank may not be below the next one
+pub unknown_above : (h : History) (q p rank : ℕ) (range : Range) → MayNotBeKnown h q p rank range → MayNotBeKnown h q p (rank + 1) range
+unknown_above h q p rank range unknown = record { computed = unknown.computed; why = by unknown.why }
+  where
+    by : (q < changed_at (take p h)) ⊎ MeetsOutput (joins_of (take p h)) rank range → (q < changed_at (take p h)) ⊎ MeetsOutput (joins_of (take p h)) (rank + 1) range
+    by (inl later) = inl later
+    by (inr meets) = inr (record {
+      open_range = meets.open_range;
+      place = meets.place;
+      standing = meets.standing;
+      stands = meets.stands;
+      is_below = omega (arith, meets.is_below);
+      meets = meets.meets;
+    })
+
+-- keys that are listed below a rank are listed below the next one, where the joins are steady and the range reaches no output of the rank or is empty
+pub lists_above : (h : History) (q p rank : ℕ) (range : Range) (keys : List Text) → HasEntered h → is_range range.low range.high ≡ true → q ≤ p → changed_at (take p h) ≤ q →
+    (reached range rank (joins_of (take p h)) ≡ []) ⊎ (is_open range ≡ false) → ListsChanges h q p rank range keys → ListsChanges h q p (rank + 1) range keys
+lists_above h q p rank range keys entered is order steady (inl none) lists = record {
   ascend = lists.ascend;
   inside = lists.inside;
-  complete = λ key inside unlisted. same_above h q p rank range key entered is order none inside (lists.complete key inside unlisted);
+  complete = λ key inside unlisted. same_next h q p rank range key entered is order steady inside (lists.complete key inside unlisted)
+      (subst (AllByRecursion (λ s. SameOutput h q p rank key s.join)) (sym none) tt);
 }
-answers_above h q p rank range (Keys keys) entered is order (inr empty) lists = record {
+lists_above h q p rank range keys entered is order steady (inr empty) lists = record {
   ascend = lists.ascend;
   inside = lists.inside;
   complete = λ key inside unlisted. absurd (false≢true (sym empty ∙ not_empty range key inside));
 }
-answers_above h q p rank range All entered is order why meets = record {
-  open_range = meets.open_range;
-  place = meets.place;
-  standing = meets.standing;
-  stands = meets.stands;
-  is_below = omega (arith, meets.is_below);
-  meets = meets.meets;
+
+-- so are they over a range that is bare throughout
+pub lists_bare : (h : History) (q p rank : ℕ) (range : Range) (keys : List Text) → HasEntered h → is_range range.low range.high ≡ true → IsBareThroughout h q p range →
+    ListsChanges h q p rank range keys → ListsChanges h q p (rank + 1) range keys
+lists_bare h q p rank range keys entered is bare lists = record {
+  ascend = lists.ascend;
+  inside = lists.inside;
+  complete = λ key inside unlisted. same_where_bare h q p rank (rank + 1) range key entered is inside bare (lists.complete key inside unlisted);
 }
 
 meets_by : (joins found : List DeclaredJoin) (range : Range) (rank : ℕ) → reached range rank joins ≡ found → is_open range ≡ true → (found ≡ [] → ⊥) → MeetsOutput joins (rank + 1) range
@@ -208,16 +213,23 @@ some_positions joins ats is some none = some (ap length (is ∙ ap (map (λ s. s
 
 -- ---- what changed, with the outputs of the rank
 
--- keys that are listed below a rank, with those that its joins add, are listed below the next one
-pub answers_with : (h : History) (q p since rank : ℕ) (range : Range) (given : List Text) (answer : Changed) → HasEntered h → is_range range.low range.high ≡ true → q ≤ p → since ≡ max q (last_declared (joins_of (take p h))) →
+-- a range that reaches an output of a rank is not bare
+never_bare_at : (h : History) (q p rank : ℕ) (range : Range) → HasEntered h → is_range range.low range.high ≡ true → q ≤ p → (reached range rank (joins_of (take p h)) ≡ [] → ⊥) → IsBareThroughout h q p range → ⊥
+never_bare_at h q p rank range entered is order some bare = some (bare_reached h p rank range (has_entered_taken p h entered) is (bare p order (omega arith)))
+
+-- keys that are listed below a rank, with those that its joins add, are listed below the next one, where the joins are steady
+pub answers_with : (h : History) (q p rank : ℕ) (range : Range) (given : List Text) (answer : Changed) → HasEntered h → is_range range.low range.high ≡ true → q ≤ p → changed_at (take p h) ≤ q →
     is_open range ≡ true → (reached range rank (joins_of (take p h)) ≡ [] → ⊥) → ListsChanges h q p rank range given →
-    AddsChanges h since p rank range (reached range rank (joins_of (take p h))) given answer → AnswersChanges h q p (rank + 1) range answer
-answers_with h q p since rank range given (Keys keys) entered is order from opened some lists added = record {
+    AddsChanges h q p rank range (reached range rank (joins_of (take p h))) given answer → AnswersChanges h q p (rank + 1) range answer
+answers_with h q p rank range given (Keys keys) entered is order steady opened some lists added = record {
   ascend = added.ascend;
   inside = added.inside;
-  complete = λ key inside unlisted. same_next h q p since rank range key entered is order from inside (lists.complete key inside (λ has. unlisted (added.keeps key has))) (added.complete key inside unlisted);
+  complete = λ key inside unlisted. same_next h q p rank range key entered is order steady inside (lists.complete key inside (λ has. unlisted (added.keeps key has))) (added.complete key inside unlisted);
 }
-answers_with h q p since rank range given All entered is order from opened some lists added = meets_above (joins_of (take p h)) range rank opened some
+answers_with h q p rank range given All entered is order steady opened some lists added = record {
+  computed = never_bare_at h q p rank range entered is order some;
+  why = inr (meets_above (joins_of (take p h)) range rank opened some);
+}
 
 -- a range that reaches an output of a rank is not bare at all positions
 pub never_bare : (h more : History) (q p rank : ℕ) (range : Range) (ats : List ℕ) → q ≤ p → p ≤ length h → IsPrefix h more → HasEntered more → is_range range.low range.high ≡ true →

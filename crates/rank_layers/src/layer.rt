@@ -6,7 +6,7 @@ ghost use Rattle.cell_slots.specs.Spending.{Spends};
 
 use crate::above::{changed_above, pairs_above};
 use cell_slots::{Cells, Part};
-use join_eval::{Changed, Reader};
+use join_eval::{Between, Changed, Reader};
 use join_types::{Join, Pair};
 use key_space::Range;
 use out_of_memory::OutOfMemory;
@@ -88,8 +88,8 @@ impl<R: Cells> Cells for Layer<R> {
         self.inner.reached(p, range, rank)
     }
 
-    fn last_declared(&self, p: u64) -> Result<u64, OutOfMemory> {
-        self.inner.last_declared(p)
+    fn between(&self, q: u64, p: u64, range: &Range) -> Result<Between, OutOfMemory> {
+        self.inner.between(q, p, range)
     }
 
     fn join_at(&self, at: u64) -> Result<Join, OutOfMemory> {

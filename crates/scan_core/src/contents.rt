@@ -19,7 +19,7 @@ ghost use Rattle.scan_core.specs.Reading.{SpendsBase};
 use base_reader::BaseReader;
 use cell_slots::{Cells, Part, Slot};
 use cell_table::CellTable;
-use join_eval::{Changed, Reader};
+use join_eval::{Between, Changed, Reader};
 use join_types::{Cause, Entry, Join, Pair, Write};
 use key_space::Range;
 use out_of_memory::OutOfMemory;
@@ -227,8 +227,8 @@ impl Cells for Core {
         self.base.reached(p, range, rank)
     }
 
-    fn last_declared(&self, p: u64) -> Result<u64, OutOfMemory> {
-        self.base.last_declared(p)
+    fn between(&self, q: u64, p: u64, range: &Range) -> Result<Between, OutOfMemory> {
+        self.base.between(q, p, range)
     }
 
     fn join_at(&self, at: u64) -> Result<Join, OutOfMemory> {

@@ -1,5 +1,5 @@
 -- Writes, entries and the history; the joins that stand and the base pairs are folds over it.
-use Rattle.std.specs.Prelude.{◌≡◌, ℕ, ◌+◌, List, [], ◌∷◌, ◌++◌, fold, Bool, not}
+use Rattle.std.specs.Prelude.{◌≡◌, ℕ, ◌+◌, List, [], ◌∷◌, ◌++◌, fold, Bool, true, false, not, if◌then◌else◌}
 use Rattle.std.specs.List.{list_any}
 use Rattle.semantics.specs.Texts.{Text, Table, with_pair, without_key, pairs_where}
 use Rattle.semantics.specs.Patterns.{fits}
@@ -42,6 +42,21 @@ joins_from position joins (e ∷ es) = joins_from (position + 1) (joins_after po
 -- `Joins`: the joins that stand after the history, in order of position
 abbrev pub joins_of : History → List DeclaredJoin
 joins_of h = joins_from 1 [] h
+
+-- whether a write changes which joins stand
+abbrev pub is_of_joins : Write → Bool
+is_of_joins (put k v) = false
+is_of_joins (remove k) = false
+is_of_joins (declare j) = true
+
+-- the position of the last declaration of entries that begin at a position; where there is none, a given one
+abbrev pub changed_from : ℕ → ℕ → History → ℕ
+changed_from position last [] = last
+changed_from position last (e ∷ es) = changed_from (position + 1) (if is_of_joins e.write then position else last) es
+
+-- the position of the last declaration, 0 where there is none
+abbrev pub changed_at : History → ℕ
+changed_at h = changed_from 1 0 h
 
 -- the base pairs after a write
 abbrev pub base_after : Write → Table → Table

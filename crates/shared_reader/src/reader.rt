@@ -4,6 +4,7 @@ ghost use Rattle.std.proofs.Common.{rules};
 ghost use Rattle.semantics.specs.Texts.{is_range, pairs_where};
 ghost use Rattle.semantics.specs.Histories.{is_computed, joins_of};
 ghost use Rattle.join_set.specs.Summaries.{StandsFor};
+ghost use Rattle.join_eval.specs.Answers.{TellsBetween};
 ghost use Rattle.base_shards.specs.Reading.{ReadsOn};
 ghost use Rattle.base_shards.proofs.ReadingLemmas.{reads_on-refl, reads_on-trans};
 ghost use Rattle.shared_reader.specs.Readable.{IsReadable};
@@ -12,10 +13,9 @@ use crate::followed::Followed;
 use crate::noted::Noted;
 use crate::stacked::{Stacked, Use};
 use base_reader::hiding::hide_computed;
-use base_reader::reaching::{reached_in, standing_after};
-use base_reader::reader::last_declared;
+use base_reader::reaching::{between, reached_in, standing_after};
 use base_shards::{BaseShards, Naming};
-use join_eval::{Changed, Reader};
+use join_eval::{Between, Changed, Reader};
 use join_set::{JoinSet, Standing};
 use join_types::{Join, Kind, Pair, Write};
 use key_space::Range;
@@ -119,6 +119,20 @@ impl<'a, N: Naming, W: Wait> SharedReader<'a, N, W> {
             .follow(self.rt, &mut self.pass, id, fresh.as_slice())
     }
 
+    /// Says what is so of the joins between the first q and the first p entries, for the range.
+    fn say_between(&mut self, q: u64, p: u64, range: &Range) -> Result<Between, OutOfMemory>
+        requires order { q ≤ p }
+        requires within { p ≤ length self.old.view }
+        ensures said { IfOk result (TellsBetween self.old.view q p range.now) }
+        ensures same { self.new ≡ self.old }
+    {
+        if p == self.p {
+            return Ok(between(self.joins, q, range));
+        }
+        let standing = self.standing_at(p)?;
+        Ok(between(standing.joins(), q, range))
+    }
+
     /// Those of the base pairs after the first p entries that no output hides.
     fn visible(&mut self, p: u64, pairs: Vec<Pair>) -> Result<Vec<Pair>, OutOfMemory>
         requires { p ≤ length self.old.view }
@@ -192,7 +206,11 @@ impl<'a, N: Naming, W: Wait> Reader for SharedReader<'a, N, W> {
         let keys = self
             .shards
             .changed(self.rt, &mut self.pass, q, p, ranges, steps)?;
-        Ok(Changed::Keys(keys))
+        match self.say_between(q, p, range)? {
+            Between::Steady => Ok(Changed::Keys(keys)),
+            Between::Bare => Ok(Changed::Keys(keys)),
+            Between::Other => Ok(Changed::All),
+        }
     }
 }
 
@@ -211,12 +229,8 @@ impl<'a, N: Naming, W: Wait> Stacked<N> for SharedReader<'a, N, W> {
         reached_in(self.alloc, standing.joins(), rank, range)
     }
 
-    fn last_declared(&mut self, p: u64) -> Result<u64, OutOfMemory> {
-        if p == self.p {
-            return Ok(last_declared(self.joins));
-        }
-        let standing = self.standing_at(p)?;
-        Ok(last_declared(standing.joins()))
+    fn between(&mut self, q: u64, p: u64, range: &Range) -> Result<Between, OutOfMemory> {
+        self.say_between(q, p, range)
     }
 
     fn join_at(&mut self, at: u64) -> Result<Join, OutOfMemory> {

@@ -4,14 +4,14 @@ ghost use Rattle.semantics.specs.Joins.{Join as PlainJoin};
 ghost use Rattle.semantics.specs.Histories.{joins_of};
 ghost use Rattle.growing_history.specs.Entered.{HasEntered};
 ghost use Rattle.layering.specs.Reached.{reached};
-ghost use Rattle.layering.specs.Standing.{last_declared};
 ghost use Rattle.write_history.specs.Passes.{GoesOn, own};
+ghost use Rattle.join_eval.specs.Answers.{TellsBetween};
 ghost use Rattle.join_eval.specs.Moves.{Moves};
 ghost use Rattle.cell_slots.specs.Slots.{IsDeclared};
 
 use crate::followed::Followed;
 use base_shards::Naming;
-use join_eval::Reader;
+use join_eval::{Between, Reader};
 use join_types::Join;
 use key_space::Range;
 use out_of_memory::OutOfMemory;
@@ -45,10 +45,11 @@ pub trait Stacked<N: Naming>: Reader {
         ensures reached { IfOk result (λ ats. ats.items ≡ map (λ s. s.position) (reached range.now rank (joins_of (take p (Self.list self.old))))) }
         ensures moves { Moves Self.list Self.floor Self.went self.old self.new };
 
-    /// The position of the last declaration among the first p entries, 0 where there is none.
-    fn last_declared(&mut self, p: u64) -> Result<u64, OutOfMemory>
-        requires { p ≤ length (Self.list self.old) }
-        ensures last { IfOk result (λ at. at ≡ last_declared (joins_of (take p (Self.list self.old)))) }
+    /// Says what is so of the joins between the first q and the first p entries, for the range.
+    fn between(&mut self, q: u64, p: u64, range: &Range) -> Result<Between, OutOfMemory>
+        requires order { q ≤ p }
+        requires within { p ≤ length (Self.list self.old) }
+        ensures said { IfOk result (TellsBetween (Self.list self.old) q p range.now) }
         ensures moves { Moves Self.list Self.floor Self.went self.old self.new };
 
     /// A copy of the join that was declared at a position.

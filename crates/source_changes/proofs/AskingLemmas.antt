@@ -7,7 +7,7 @@ use Rattle.std.proofs.lemmas.List.Kept.{IsStrictlySortedBy-filter}
 use Rattle.semantics.specs.Texts.{Text, Range, text_cmp, within}
 use Rattle.semantics.specs.Histories.{History, IsPrefix}
 use Rattle.semantics.proofs.MemberLemmas.{Has, has_from_contains, contains_from_has, has_append_left, has_append_right, has_append_cases, has_filter, has_filtered, has_flat_map, has_flat_mapped, any_from_has}
-use Rattle.growing_history.specs.Changes.{changed_keys, Same}
+use Rattle.growing_history.specs.Changes.{changed_keys, Same, IsBareThroughout}
 use Rattle.growing_history.specs.ChangeLaws.{IsWrittenBetween}
 use Rattle.growing_history.proofs.ElementLemmas.{all_from_has, has_of_all}
 use Rattle.growing_history.proofs.EnteredLemmas.{all_more}
@@ -17,7 +17,7 @@ use Rattle.range_evaluation.specs.Trees.{Need}
 use Rattle.kept_ranges.specs.SoundLaws.{AreReportedBetween}
 use Rattle.join_eval.specs.declared.reading.Changed.{Changed}
 use Rattle.join_eval.specs.declared.reading.Changed.TheVariants.{Keys, All}
-use Rattle.join_eval.specs.Answers.{ListsChanges, AnswersChanges, ListsExactly, IsBareThroughout}
+use Rattle.join_eval.specs.Answers.{ListsChanges, AnswersChanges, ListsExactly}
 use Rattle.source_changes.specs.Asking.{LieInRanges, AreBareThroughout, AreListed, ListsWritten, changed_count, asking_steps}
 use Rattle.source_changes.proofs.LongerLemmas.{same_before, changed_longer, bare_longer}
 use Rattle.source_changes.proofs.OrderLemmas.{same_sorted}

@@ -9,12 +9,11 @@ use Rattle.semantics.specs.Histories.{History, joins_of}
 use Rattle.semantics.proofs.MemberLemmas.{has_filter}
 use Rattle.key_ranges.specs.Ranges.{just}
 use Rattle.key_ranges.proofs.RangeLemmas.{within_table}
-use Rattle.growing_history.specs.Changes.{has_table}
+use Rattle.growing_history.specs.Changes.{has_table, IsBareAt, IsBareThroughout}
 use Rattle.growing_history.proofs.ElementLemmas.{all_from_has, has_of_all}
 use Rattle.range_evaluation.specs.Trees.{Need}
 use Rattle.kept_ranges.specs.Rules.{source_of, reported_in, touch_of, touches_by, touches, output_of, application_at, applications_by, applications}
 use Rattle.kept_ranges.proofs.ApplyLemmas.{application_from}
-use Rattle.join_eval.specs.Answers.{IsBareAt, IsBareThroughout}
 use Rattle.source_changes.specs.Asking.{ListsWritten, changed_count}
 use Rattle.source_changes.specs.Laws.{is_check_source, is_value_source, FewTouches, FewApplications, AdvanceIsCheap, AppliedAreBare}
 

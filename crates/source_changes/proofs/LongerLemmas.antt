@@ -1,12 +1,12 @@
 -- What is said of changes over a list that has grown is so over the list before.
-use Rattle.std.proofs.Common.{◌≡◌, ℕ, ◌-◌, ◌≤◌, length, take, drop, true, sym, ap, ◌∙◌, subst, arith, length-drop}
+use Rattle.std.proofs.Common.{◌≡◌, ℕ, ◌-◌, ◌<◌, ◌≤◌, ◌⊎◌, length, take, drop, true, sym, ap, ◌∙◌, subst, arith, length-drop}
 use Rattle.std.proofs.lemmas.List.{take-append-le, drop-append-le}
 use Rattle.semantics.specs.Texts.{Text, Range, value_at}
-use Rattle.semantics.specs.Histories.{History, IsPrefix, joins_of}
+use Rattle.semantics.specs.Histories.{History, IsPrefix, changed_at, joins_of}
 use Rattle.semantics.specs.States.{below}
-use Rattle.growing_history.specs.Changes.{entries_between, changed_keys, Same, is_bare}
+use Rattle.growing_history.specs.Changes.{entries_between, changed_keys, Same, is_bare, IsBareAt, IsBareThroughout}
 use Rattle.growing_history.proofs.PrefixLemmas.{take_prefix}
-use Rattle.join_eval.specs.Answers.{IsBareAt, IsBareThroughout}
+use Rattle.join_eval.specs.Answers.{MayNotBeKnown, MeetsOutput}
 
 -- what is the same at all positions of a longer history is so of the shorter one
 pub same_before : (h more : History) (q p rank : ℕ) (key : Text) → IsPrefix h more → p ≤ length h → q ≤ p → Same more q p rank key → Same h q p rank key
@@ -32,6 +32,13 @@ pub bare_longer : (h more : History) (q p : ℕ) (range : Range) → IsPrefix h 
 bare_longer h more q p range prefix within bare x above up =
     let at_x : take x more ≡ take x h = take_prefix x h more (omega arith) prefix in
     subst (λ (es : History). is_bare range (joins_of es) ≡ true) (sym at_x) (bare x above up)
+
+-- what may not be known of changes over a longer history may not be known over the history
+pub unknown_before : (h more : History) (q p rank : ℕ) (range : Range) → IsPrefix h more → p ≤ length h → MayNotBeKnown more q p rank range → MayNotBeKnown h q p rank range
+unknown_before h more q p rank range prefix within unknown = record {
+  computed = λ bare. unknown.computed (bare_longer h more q p range prefix within bare);
+  why = subst (λ (es : History). (q < changed_at es) ⊎ MeetsOutput (joins_of es) rank range) (take_prefix p h more within prefix) unknown.why;
+}
 
 -- one that is bare at a position is so over a longer history
 pub bare_at_longer : (h more : History) (p : ℕ) (range : Range) → IsPrefix h more → p ≤ length h → IsBareAt h p range → IsBareAt more p range

@@ -3,10 +3,9 @@ use Rattle.std.specs.Prelude.{◌≡◌, ℕ, ◌+◌, List, length, true}
 use Rattle.std.specs.List.{list_any, sum_by, AllByRecursion}
 use Rattle.semantics.specs.Texts.{Text, is_range, within}
 use Rattle.semantics.specs.Histories.{History}
-use Rattle.growing_history.specs.Changes.{changed_keys}
+use Rattle.growing_history.specs.Changes.{changed_keys, IsBareThroughout}
 use Rattle.range_evaluation.specs.Trees.{Need}
 use Rattle.kept_ranges.specs.Rules.{reported_in}
-use Rattle.join_eval.specs.Answers.{IsBareThroughout}
 
 -- the range of each need is a range
 abbrev pub HaveRanges : List Need → Type 0

@@ -2,11 +2,23 @@ use Rattle.std.proofs.Common.{◌≡◌, ◌+◌, ◌++◌, take, sym, ap, ◌�
 use Rattle.growing_history.specs.Changes.{changed_keys}
 use Rattle.range_evaluation.specs.Trees.{Need}
 use Rattle.kept_ranges.specs.SoundLaws.{AreReportedBetween}
+use Rattle.join_eval.specs.Answers.{AnswersChanges, MayNotBeKnown}
 use Rattle.join_eval.proofs.MovesLemmas.{moves_trans}
 use Rattle.source_changes.specs.Asking.{LieInRanges}
+use Rattle.source_changes.proofs.LongerLemmas.{unknown_before}
 use Rattle.source_changes.proofs.ListLemmas.{flat_map_more}
 use Rattle.source_changes.proofs.AskingLemmas.{inside_more, complete_more, asking_more, bare_read, lists_no_all, lists_keys, lists_changed, steps_changed}
 use Rattle.source_changes.proofs.asking.gather_answers.Goals as goal
+
+pub returns-in-All-clause-unknown : goal.returns-in-All-clause-unknown
+returns-in-All-clause-unknown g c =
+    let h = g.R.Reader.list c.args.reader.now in
+    let here = g.R.Reader.list c.loop-need.reader in
+    let need = c.need-item.result in
+    let same : c.need.inside.range ≡ need.range = ap (λ (n : Need). n.range) c.need.view_is in
+    let answer = subst (AnswersChanges here c.args.q c.args.p c.args.rank c.need.inside.range) c.in-All.is c.in_ok-keys.ensures.exact in
+    let unknown = subst (MayNotBeKnown here c.args.q c.args.p c.args.rank) same answer in
+    (c.loop-need.need-index, need, c.loop-need-test.true, sym c.need-item.is, unknown_before h here c.args.q c.args.p c.args.rank need.range c.loop-need.invariant.moves.kept c.requires.within unknown)
 
 pub returns-in-All-clause-bare : goal.returns-in-All-clause-bare
 returns-in-All-clause-bare g c =

@@ -4,7 +4,7 @@ use Rattle.std.proofs.lemmas.Option.{same_Some}
 use Rattle.semantics.specs.Texts.{Text}
 use Rattle.semantics.specs.Histories.{History, joins_of}
 use Rattle.growing_history.specs.Entered.{HasRank}
-use Rattle.growing_history.proofs.PrefixLemmas.{prefix_trans}
+use Rattle.growing_history.proofs.PrefixLemmas.{prefix_trans, take_prefix}
 use Rattle.key_space.specs.declared.key.Key.{Key}
 use Rattle.join_eval.specs.Moves.{Moves}
 use Rattle.join_eval.proofs.MovesLemmas.{moves_trans}
@@ -25,6 +25,14 @@ use Rattle.range_state.proofs.state.RangeState.advance.Goals.{in-None+in_ok-adva
 pub returns-in_err-advanced-in-None-clause-moves : goal.returns-in_err-advanced-in-None-clause-moves
 returns-in_err-advanced-in-None-clause-moves g c =
     moves_trans g.R.Reader.list g.R.Reader.floor g.R.Reader.went c.args.reader.now c.ask_needs.new.reader c.fill_at.new.reader (g.met.R.Reader.went_trans c.args.reader.now c.ask_needs.new.reader c.fill_at.new.reader) c.ask_needs.ensures.moves c.fill_at.ensures.moves
+
+pub fill_at-requires-clause-stands : goal.fill_at-requires-clause-stands
+fill_at-requires-clause-stands g c =
+    let s = c.self.inside.subject in
+    let h = g.R.Reader.list c.args.reader.now in
+    let here = g.R.Reader.list c.ask_needs.new.reader in
+    let stands : HasRank (joins_of (take c.args.p h)) s.join s.rank = subject_stands _ s c.self.inside.held c.args.self.now c.self.view_is c.requires.stands in
+    subst (λ (l : History). HasRank (joins_of l) s.join s.rank) (sym (take_prefix c.args.p h here c.requires.within c.ask_needs.ensures.moves.kept)) stands
 
 pub advance_held-requires-clause-is_range : goal.advance_held-requires-clause-is_range
 advance_held-requires-clause-is_range g c = c.look.ensures

@@ -3,15 +3,13 @@ use Rattle.semantics.specs.Histories.{joins_of}
 use Rattle.semantics.specs.Verdicts.{AllEntered}
 use Rattle.growing_history.proofs.EnteredLemmas.{entered_taken}
 use Rattle.layering.specs.Standing.{last_declared}
-use Rattle.layering.proofs.StandingLemmas.{joins_stay_from_last}
-use Rattle.base_reader.proofs.reader.BaseReader.last_declared.Goals as goal
+use Rattle.base_reader.proofs.ReachingLemmas.{none_later}
+use Rattle.base_reader.proofs.reader.BaseReader.earlier.Goals as goal
 
-pub returns-then-last-p : goal.returns-then-last-p
-returns-then-last-p c =
+pub returns-then-last_declared-p : goal.returns-then-last_declared-p
+returns-then-last_declared-p c =
     let joins_are : c.joins.result.now ≡ joins_of c.args.self.now = c.joins.ensures.joins ∙ c.self.invariant.summary.same_joins ∙ ap joins_of c.self.view_is in
-    let is : c.last_declared-last.result ≡ last_declared (joins_of c.args.self.now) = c.last_declared-last.ensures ∙ ap last_declared joins_are in
-    let upto : last_declared (joins_of c.args.self.now) ≤ c.args.p = subst (λ n. n ≤ c.args.p) is c.if-last-p.true in
-    is ∙ ap last_declared (sym (joins_stay_from_last c.args.self.now c.args.p upto))
+    none_later c.args.self.now c.args.p (subst (λ n. n ≤ c.args.p) (c.last_declared.ensures ∙ ap last_declared joins_are) c.if-last_declared-p.true)
 
 pub standing_after-requires : goal.standing_after-requires
 standing_after-requires c =

@@ -1,7 +1,7 @@
 use Rattle.std.proofs.Common.{◌-◌, ◌≤◌, length, slice_get, refl, arith}
 use Rattle.std.proofs.lemmas.Grind.{common_steps}
 use Rattle.base_reader.proofs.ReadingLemmas.{last_at}
-use Rattle.base_reader.proofs.reader.last_declared.Goals as goal
+use Rattle.base_reader.proofs.reaching.last_declared.Goals as goal
 
 pub returns : goal.returns
 returns c =

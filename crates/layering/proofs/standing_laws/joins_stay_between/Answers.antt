@@ -1,5 +1,0 @@
-use Rattle.layering.proofs.StandingLemmas.{joins_stay_between}
-use Rattle.layering.proofs.standing_laws.joins_stay_between.Goals as goal
-
-pub returns : goal.returns
-returns c = joins_stay_between

@@ -35,8 +35,9 @@ pub struct Reading {
 /// Reads the state of a history at any position that a pass has seen, and keeps ranges of the joins' outputs in cells. Threads
 /// share it.
 ///
-/// Locks are taken in one order: the cell of a join, cells of joins of lower ranks, a part of the base pairs, the history's turn.
-/// The directory of the cells and the book of their use are locked alone.
+/// Locks are taken in one order: a cell, cells of lower ranks, a part of the base pairs, the history's turn. A cell has its rank
+/// for good, so that this is one order for all reads, also where between their positions the ranks of joins changed. The
+/// directory of the cells and the book of their use are locked alone.
 #[derive(Drop)]
 pub struct RangeCells<N: Naming> {
     pub(crate) alloc: Global,
@@ -76,7 +77,8 @@ impl<N: Naming> RangeCells<N> {
     /// While another thread has a cell, or a part of the base pairs, that this one needs, this one sleeps.
     ///
     /// What cells keep is read, brought forward or mended; what they lack is evaluated and, for a push join, kept while a cell is
-    /// free. Then the least recently used cells are evicted, until what is kept is within the limit.
+    /// free. Of the cells of a join those are used that are for the rank that it has after p entries. Then the least recently
+    /// used cells are evicted, until what is kept is within the limit.
     pub fn read<W: Wait, G: Gate, L: Ledger>(
         &self,
         rt: &W,

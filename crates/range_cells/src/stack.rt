@@ -1,10 +1,10 @@
 // The reader of all ranks, where threads share the history.
-ghost use Rattle.std.specs.Prelude.{◌≡◌, ◌≤◌, length, take, IfOk, IfSome, OnOk};
+ghost use Rattle.std.specs.Prelude.{◌≡◌, ◌≤◌, length, take, IfOk, IfSome};
 ghost use Rattle.semantics.specs.Texts.{pairs_within};
 ghost use Rattle.semantics.specs.States.{state};
 ghost use Rattle.base_shards.specs.Reading.{ReadsOn};
 ghost use Rattle.join_eval.specs.Moves.{Moves};
-ghost use Rattle.shared_cells.specs.Bringing.{BringsTo, IsRankOf};
+ghost use Rattle.shared_cells.specs.Bringing.{BringsCell, IsRankOf};
 
 use base_shards::Naming;
 use join_eval::Reader;
@@ -108,8 +108,8 @@ fn read_lower<'a, N: Naming, W: Wait, G: Gate, R: Stacked<N>, L: Ledger>(
     read_middle(tower, p, range, steps)
 }
 
-/// Brings what a cell keeps to where the first p entries stand, by a reader. The cell follows the ranges of base pairs that are
-/// read for it.
+/// Brings what a cell keeps to where the first p entries stand, by a reader, if the cell is for the rank. The cell follows the
+/// ranges of base pairs that are read for it.
 fn bring_by<N: Naming, R: Stacked<N>, L: Ledger>(
     reader: &mut R,
     cell: &mut Cell<N>,
@@ -121,7 +121,7 @@ fn bring_by<N: Naming, R: Stacked<N>, L: Ledger>(
     requires within { p ≤ length (R.list reader.old) }
     requires rank { IsRankOf (R.list reader.old) p cell.old.at rank }
     requires ranked { IfSome rank (λ r. r ≤ R.top) }
-    ensures brought { OnOk result (BringsTo p rank cell.old.held cell.new.held) }
+    ensures brings { BringsCell p rank result cell.old cell.new }
     ensures met { cell.new.pass.view ≡ R.list reader.new }
     ensures moves { Moves R.list R.floor R.went reader.old reader.new }
     ensures counted { steps.old ≤ steps.new }
@@ -145,7 +145,7 @@ fn bring_top<'a, N: Naming, W: Wait, G: Gate, R: Stacked<N>, L: Ledger>(
     requires within { p ≤ length (R.list two.old.inner.inner) }
     requires rank { IsRankOf (R.list two.old.inner.inner) p cell.old.at rank }
     requires ranked { IfSome rank (λ r. r ≤ 7) }
-    ensures brought { OnOk result (BringsTo p rank cell.old.held cell.new.held) }
+    ensures brings { BringsCell p rank result cell.old cell.new }
     ensures met { cell.new.pass.view ≡ R.list two.new.inner.inner }
     ensures went { R.went two.old.inner.inner two.new.inner.inner }
     ensures counted { steps.old ≤ steps.new }
@@ -166,7 +166,7 @@ fn bring_upper<'a, N: Naming, W: Wait, G: Gate, R: Stacked<N>, L: Ledger>(
     requires within { p ≤ length (R.list four.old.inner.inner.inner.inner) }
     requires rank { IsRankOf (R.list four.old.inner.inner.inner.inner) p cell.old.at rank }
     requires ranked { IfSome rank (λ r. r ≤ 7) }
-    ensures brought { OnOk result (BringsTo p rank cell.old.held cell.new.held) }
+    ensures brings { BringsCell p rank result cell.old cell.new }
     ensures met { cell.new.pass.view ≡ R.list four.new.inner.inner.inner.inner }
     ensures went { R.went four.old.inner.inner.inner.inner four.new.inner.inner.inner.inner }
     ensures counted { steps.old ≤ steps.new }
@@ -187,7 +187,7 @@ fn bring_middle<'a, N: Naming, W: Wait, G: Gate, R: Stacked<N>, L: Ledger>(
     requires within { p ≤ length (R.list six.old.inner.inner.inner.inner.inner.inner) }
     requires rank { IsRankOf (R.list six.old.inner.inner.inner.inner.inner.inner) p cell.old.at rank }
     requires ranked { IfSome rank (λ r. r ≤ 7) }
-    ensures brought { OnOk result (BringsTo p rank cell.old.held cell.new.held) }
+    ensures brings { BringsCell p rank result cell.old cell.new }
     ensures met { cell.new.pass.view ≡ R.list six.new.inner.inner.inner.inner.inner.inner }
     ensures went { R.went six.old.inner.inner.inner.inner.inner.inner six.new.inner.inner.inner.inner.inner.inner }
     ensures counted { steps.old ≤ steps.new }
@@ -208,7 +208,7 @@ fn bring_lower<'a, N: Naming, W: Wait, G: Gate, R: Stacked<N>, L: Ledger>(
     requires within { p ≤ length (R.list tower.old.inner.inner.inner.inner.inner.inner.inner.inner) }
     requires rank { IsRankOf (R.list tower.old.inner.inner.inner.inner.inner.inner.inner.inner) p cell.old.at rank }
     requires ranked { IfSome rank (λ r. r ≤ 7) }
-    ensures brought { OnOk result (BringsTo p rank cell.old.held cell.new.held) }
+    ensures brings { BringsCell p rank result cell.old cell.new }
     ensures met { cell.new.pass.view ≡ R.list tower.new.inner.inner.inner.inner.inner.inner.inner.inner }
     ensures went { R.went tower.old.inner.inner.inner.inner.inner.inner.inner.inner tower.new.inner.inner.inner.inner.inner.inner.inner.inner }
     ensures counted { steps.old ≤ steps.new }
@@ -260,8 +260,8 @@ impl<'a, N: Naming, W: Wait, G: Gate> Stack<'a, N, W, G> {
     }
 
     /// Brings what a cell with a number keeps to where the first p entries that the pass has seen stand, where it stands below.
-    /// The rank is the one that its join has then; where none is given, nothing is brought. The cell follows the ranges of base
-    /// pairs that are read for it; its pass and this one see what either has seen.
+    /// The rank is the one that its join has then; where none is given, or another than the cell's, what it keeps stays as it
+    /// is. The cell follows the ranges of base pairs that are read for it; its pass and this one see what either has seen.
     pub fn bring<L: Ledger>(
         &mut self,
         cell: &mut Cell<N>,
@@ -273,7 +273,7 @@ impl<'a, N: Naming, W: Wait, G: Gate> Stack<'a, N, W, G> {
         requires within { p ≤ length self.old.view }
         requires rank { IsRankOf self.old.view p cell.old.at rank }
         requires ranked { IfSome rank (λ r. r ≤ 7) }
-        ensures brought { OnOk result (BringsTo p rank cell.old.held cell.new.held) }
+        ensures brings { BringsCell p rank result cell.old cell.new }
         ensures met { cell.new.pass.view ≡ self.new.view }
         ensures reads_on { ReadsOn self.old self.new }
         ensures counted { steps.old ≤ steps.new }

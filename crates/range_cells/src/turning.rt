@@ -4,6 +4,7 @@ ghost use Rattle.semantics.specs.Histories.{joins_of};
 ghost use Rattle.write_history.specs.Entries.{IsRecorded};
 ghost use Rattle.base_shards.specs.Reading.{ReadsOn};
 ghost use Rattle.base_reader.specs.Reaching.{IsRankIn};
+ghost use Rattle.shared_cells.specs.Bringing.{IsRankOf};
 ghost use Rattle.range_cells.specs.Turns.{IsWithinView};
 
 use crate::range_cells::RangeCells;
@@ -23,7 +24,8 @@ use write_history::Pass;
 /// What a turn did.
 #[derive(Clone, Copy, Debug, PartialEq, Eq)]
 pub enum Turn {
-    /// The cell with this number was marked first of those of the first part that had a marked one.
+    /// The cell with this number was marked first of those of the first part that had a marked one, and was brought forward if
+    /// it is for the rank that its join has.
     Brought {
         /// The number.
         id: u32,
@@ -79,7 +81,7 @@ impl<N: Naming> RangeCells<N> {
     }
 
     /// Brings a cell to where the first p entries stand, says where it stands then, and which cells of lower ranks were used for
-    /// it, in order.
+    /// it, in order. A cell for another rank than its join has after p entries keeps what it keeps.
     fn bring_cell<W: Wait, G: Gate, L: Ledger>(
         &self,
         rt: &W,
@@ -95,6 +97,7 @@ impl<N: Naming> RangeCells<N> {
         requires recorded { IsRecorded pass.writers pass.view }
         requires within { p ≤ length pass.view }
         requires joins { joins.now ≡ joins_of (take p pass.view) }
+        ensures left { (IsRankOf pass.view p cell.old.at (Some cell.old.rank) → ⊥) → cell.new.held ≡ cell.old.held }
         ensures within { IsWithinView result.0.turn result.0.pass.view }
         ensures reads_on { ReadsOn pass result.0.pass }
         ensures counted { steps.old ≤ steps.new }
@@ -196,10 +199,10 @@ impl<N: Naming> RangeCells<N> {
     /// part that has a marked cell, the one that was marked there first is advanced, if it stands below. These are the joins that
     /// stand then.
     ///
-    /// What is pending in the cell then stays so, what is forgotten stays so, and what is kept with another rank than the join
-    /// has is let go. Before a range of a lower rank is filled or mended for it, the gate is passed. While another thread has a
-    /// part or a cell that this one needs, this one sleeps. That the cell was brought forward is no use of it; of the cells of lower
-    /// ranks that were read for it the book is told as after a read, and the least recently used are evicted.
+    /// What is pending in the cell then stays so, what is forgotten stays so, and a cell for another rank than its join has
+    /// keeps what it keeps. Before a range of a lower rank is filled or mended for it, the gate is passed. While another thread
+    /// has a part or a cell that this one needs, this one sleeps. That the cell was brought forward is no use of it; of the cells
+    /// of lower ranks that were read for it the book is told as after a read, and the least recently used are evicted.
     ///
     /// `Idle` comes only where no part had a marked cell when its lock was taken.
     pub fn turn<W: Wait, G: Gate, L: Ledger>(

@@ -122,7 +122,8 @@ fn expect_end<R: AllocGlobal + Threads + Wait + Abort + Sync>(
     let (end, replies) = wanted(read, write);
     let length = length_of(REPLIES, replies);
     let text = REPLIES.as_bytes();
-    assert!(rt; status == end && sink.bytes() == &text[..length.min(text.len())]);
+    let is_right = status == end && sink.bytes() == &text[..length.min(text.len())];
+    assert!(rt; is_right, "read {read}, write {write}");
     Ok(())
 }
 
@@ -171,7 +172,8 @@ fn each_byte_may_be_the_last_that_is_taken(rt: HostRuntime) -> Result<(), Fail> 
             } else {
                 Status::DONE
             };
-            assert!(rt; status == end && sink.0.bytes() == &written.as_bytes()[..write - 1]);
+            let is_right = status == end && sink.0.bytes() == &written.as_bytes()[..write - 1];
+            assert!(rt; is_right, "write {write}");
         }
     }
     Ok(())

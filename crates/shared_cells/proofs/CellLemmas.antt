@@ -1,7 +1,5 @@
 -- What a cell keeps, over longer histories, and as the join's that is asked for.
-use Rattle.std.proofs.Common.{◌≡◌, ℕ, zero, suc, ◌-◌, ◌<◌, ◌≤◌, List, [], ◌∷◌, ◌++◌, length, take, slice_get, Bool, true, false, nat_eq, eqb-true, eq-eqb, Option, IfSome, Some, None, refl, sym, ap, ◌∙◌, subst, arith}
-use Rattle.std.proofs.lemmas.Bool.{true≢false}
-use Rattle.std.proofs.lemmas.Option.{none-some, same_Some}
+use Rattle.std.proofs.Common.{◌≡◌, ℕ, zero, suc, ◌-◌, ◌<◌, ◌≤◌, List, [], ◌∷◌, ◌++◌, length, take, slice_get, Option, IfSome, Some, None, refl, sym, ap, ◌∙◌, subst, arith}
 use Rattle.std.specs.Option.{IsSomeAnd}
 use Rattle.atomic_table.specs.Seated.{TableId}
 use Rattle.semantics.specs.Texts.{Table, Range, value_at, pairs_within}
@@ -19,13 +17,14 @@ use Rattle.join_eval.specs.declared.reading.Changed.TheVariants.{Keys, All}
 use Rattle.kept_ranges.specs.Sound.{KeptRange, IsSound, IsSoundAt}
 use Rattle.kept_ranges.proofs.SoundLemmas.{sound_over_longer}
 use Rattle.range_state.specs.Held.{forgotten}
+use Rattle.range_state.specs.Ready.{IsReady}
 use Rattle.range_serving.specs.Serving.{IsBroughtTo, IsPast, output_within}
 use Rattle.range_serving.specs.Telling.{TellsOutput}
 use Rattle.cell_slots.specs.Slots.{IsDeclared, IsRightFor, StandsAs}
 use Rattle.rank_layers.specs.Telling.{TellsJoin}
 use Rattle.rank_layers.proofs.PartLemmas.{declared_over_longer, declared_once, stands_over}
 use Rattle.shared_cells.specs.Bringing.{BringsTo, IsRankOf}
-use Rattle.shared_cells.specs.Cells.{CellView, IsRightIn, IsCell, IsLentFor, IsOutput}
+use Rattle.shared_cells.specs.Cells.{CellView, IsRightIn, IsCell, HasSamePlace, IsCellFor, IsLentFor, IsOutput, CanServe, IsReadyCell}
 
 -- ---- over longer histories
 
@@ -37,24 +36,26 @@ right_over_longer h more at s prefix right = record {
 }
 
 -- so does what is kept, where a pass has seen more
-pub kept_over_longer : (held : Option KeptRange) (at : ℕ) (range : Range) (old new : PassView) → IsPrefix old.view new.view → IfSome held (IsRightIn at range old) → IfSome held (IsRightIn at range new)
-kept_over_longer None at range old new prefix right = tt
-kept_over_longer (Some s) at range old new prefix right = record { right = right_over_longer old.view new.view at s prefix right.right; just = right.just }
+pub kept_over_longer : (held : Option KeptRange) (at rank : ℕ) (range : Range) (old new : PassView) → IsPrefix old.view new.view → IfSome held (IsRightIn at rank range old) → IfSome held (IsRightIn at rank range new)
+kept_over_longer None at rank range old new prefix right = tt
+kept_over_longer (Some s) at rank range old new prefix right = record { right = right_over_longer old.view new.view at s prefix right.right; ranked = right.ranked; just = right.just }
 
 -- and the cell
-pub cell_goes_on : (name : TableId) (held : Option KeptRange) (at : ℕ) (range : Range) (old new : PassView) → GoesOn old new → IsCell name at range held old → IsCell name at range held new
-cell_goes_on name held at range old new on cell = record {
+pub cell_goes_on : (name : TableId) (held : Option KeptRange) (at rank : ℕ) (range : Range) (old new : PassView) → GoesOn old new → IsCell name at rank range held old → IsCell name at rank range held new
+cell_goes_on name held at rank range old new on cell = record {
   same_history = on.same_history ∙ cell.same_history;
-  right = kept_over_longer held at range old new on.begins cell.right;
+  right = kept_over_longer held at rank range old new on.begins cell.right;
 }
 
--- what is kept anew, where nothing is kept yet
-pub new_is_right : (h : History) (pass : PassView) (at asked rank : ℕ) (range copied : Range) (j : Join) (s : KeptRange) → IsPrefix h pass.view → at ≡ asked → copied ≡ range → IsDeclared h asked j → s ≡ forgotten j rank copied → IsRightIn at range pass s
-new_is_right h pass at asked rank range copied j s prefix place same declared is =
-    subst (λ (kept : KeptRange). IsRightIn at range pass kept) (sym is)
+-- what keeps nothing yet, in a cell that has the place for which it was made
+pub new_is_right : (h : History) (cell : CellView) (at rank : ℕ) (range : Range) (j : Join) (s : KeptRange) → IsPrefix h cell.pass.view → cell.at ≡ at → cell.rank ≡ rank → cell.range ≡ range → IsDeclared h at j → s ≡ forgotten j rank range →
+    IsRightIn cell.at cell.rank cell.range cell.pass s
+new_is_right h cell at rank range j s prefix place ranked just declared is =
+    subst (λ (kept : KeptRange). IsRightIn cell.at cell.rank cell.range cell.pass kept) (sym is)
     (record {
-      right = record { declared = subst (λ (n : ℕ). IsDeclared pass.view n j) (sym place) (declared_over_longer h pass.view asked j prefix declared); sound = tt };
-      just = same;
+      right = record { declared = subst (λ (n : ℕ). IsDeclared cell.pass.view n j) (sym place) (declared_over_longer h cell.pass.view at j prefix declared); sound = tt };
+      ranked = sym ranked;
+      just = sym just;
     })
 
 -- ---- the join that is asked for
@@ -66,19 +67,23 @@ right_of_lent cell h at rank p part s met lent = subst (λ (l : History). IsRigh
 -- it is of the join that stands
 same_join : (cell : CellView) (h more : History) (at rank p : ℕ) (part : Range) (s : KeptRange) (j : Join) → IsPrefix h more → cell.pass.view ≡ more → IsLentFor cell at rank p part s → StandsAs h p at rank j → s.join ≡ j
 same_join cell h more at rank p part s j prefix met lent stands =
-    declared_once more at s.join j (subst (λ (a : ℕ). IsDeclared more a s.join) lent.is_of (right_of_lent cell more at rank p part s met lent).declared)
+    declared_once more at s.join j (subst (λ (a : ℕ). IsDeclared more a s.join) lent.is_for.is_of (right_of_lent cell more at rank p part s met lent).declared)
     (declared_over_longer h more at j prefix stands.declared)
 
--- which stands with the rank that it is kept with
+-- it is kept with the rank that is asked for
+ranked_of_lent : (cell : CellView) (at rank p : ℕ) (part : Range) (s : KeptRange) → IsLentFor cell at rank p part s → s.rank ≡ rank
+ranked_of_lent cell at rank p part s lent = lent.right.ranked ∙ lent.is_for.ranked
+
+-- with which the join stands
 pub rank_of_lent : (cell : CellView) (h more : History) (at rank p : ℕ) (part : Range) (s : KeptRange) (j : Join) → p ≤ length h → IsPrefix h more → cell.pass.view ≡ more → IsLentFor cell at rank p part s → StandsAs h p at rank j →
     HasRank (joins_of (take p more)) s.join s.rank
 rank_of_lent cell h more at rank p part s j within prefix met lent stands =
-    subst (λ (r : ℕ). HasRank (joins_of (take p more)) s.join r) (sym lent.ranked)
+    subst (λ (r : ℕ). HasRank (joins_of (take p more)) s.join r) (sym (ranked_of_lent cell at rank p part s lent))
     (subst (λ (k : Join). HasRank (joins_of (take p more)) k rank) (sym (same_join cell h more at rank p part s j prefix met lent stands)) (stands_over h more p at rank j within prefix stands).ranked)
 
 -- it has the whole part
 whole_of_lent : (cell : CellView) (at rank p : ℕ) (part : Range) (s : KeptRange) → IsLentFor cell at rank p part s → IsWithin part s.range
-whole_of_lent cell at rank p part s lent = subst (IsWithin part) (sym lent.right.just) lent.whole
+whole_of_lent cell at rank p part s lent = subst (IsWithin part) (sym lent.right.just) lent.is_for.whole
 
 -- what it gives in the part is the join's output there
 pub output_of_lent : (cell : CellView) (h more : History) (at rank p : ℕ) (part : Range) (s : KeptRange) (pairs : Table) → p ≤ length h → IsPrefix h more → cell.pass.view ≡ more → IsLentFor cell at rank p part s →
@@ -86,7 +91,7 @@ pub output_of_lent : (cell : CellView) (h more : History) (at rank p : ℕ) (par
 output_of_lent cell h more at rank p part s pairs within prefix met lent is j stands =
     is
     ∙ part_of_range part s.range (out s.join (below (take p more) s.rank)) (λ key. within_is_kept part s.range key (whole_of_lent cell at rank p part s lent))
-    ∙ (λ i. pairs_within part (out (same_join cell h more at rank p part s j prefix met lent stands i) (below (take_prefix p h more within prefix i) (lent.ranked i))))
+    ∙ (λ i. pairs_within part (out (same_join cell h more at rank p part s j prefix met lent stands i) (below (take_prefix p h more within prefix i) (ranked_of_lent cell at rank p part s lent i))))
 
 -- what it says of its output in the part, it says of the join's
 pub told_of_lent : (cell : CellView) (h more : History) (at rank q p : ℕ) (part : Range) (s : KeptRange) (j : Join) (answer : Changed) → q ≤ p → p ≤ length h → IsPrefix h more → cell.pass.view ≡ more → IsLentFor cell at rank p part s → StandsAs h p at rank j →
@@ -96,7 +101,7 @@ told_of_lent cell h more at rank q p part s j (Keys keys) order within prefix me
   inside = told.inside;
   complete = λ key inside unlisted x from to.
       let step : (y : ℕ) → y ≤ p → value_at key (out s.join (below (take y more) s.rank)) ≡ value_at key (out j (below (take y h) rank)) =
-      λ y upto i. value_at key (out (same_join cell h more at rank p part s j prefix met lent stands i) (below (take_prefix y h more (omega arith) prefix i) (lent.ranked i))) in
+      λ y upto i. value_at key (out (same_join cell h more at rank p part s j prefix met lent stands i) (below (take_prefix y h more (omega arith) prefix i) (ranked_of_lent cell at rank p part s lent i))) in
       sym (step x to) ∙ told.complete x key from to (within_is_kept part s.range key (whole_of_lent cell at rank p part s lent) inside) inside unlisted ∙ step q order;
 }
 told_of_lent cell h more at rank q p part s j All order within prefix met lent stands told = tt
@@ -127,43 +132,83 @@ declared_before h more at j prefix upto d = record {
 }
 
 -- what a cell holds is right for what its pass has seen, by whatever name that goes
-pub right_here : (cell : CellView) (h : History) (at : ℕ) (s : KeptRange) → cell.pass.view ≡ h → cell.at ≡ at → IsRightIn cell.at cell.range cell.pass s → IsRightFor h at s
+pub right_here : (cell : CellView) (h : History) (at : ℕ) (s : KeptRange) → cell.pass.view ≡ h → cell.at ≡ at → IsRightIn cell.at cell.rank cell.range cell.pass s → IsRightFor h at s
 right_here cell h at s met place right =
     subst (λ (l : History). IsRightFor l at s) met (subst (λ (a : ℕ). IsRightFor cell.pass.view a s) place right.right)
 
--- what is kept with the rank that the join has after p entries stands with it there
-pub rank_of_kept : (h more : History) (p at rank : ℕ) (s : KeptRange) → p ≤ length h → IsPrefix h more → IsRankOf h p at (Some rank) → IsRightFor more at s → s.rank ≡ rank → HasRank (joins_of (take p more)) s.join s.rank
-rank_of_kept h more p at rank s within prefix is right ranked =
-    let there = is.1 s.join (declared_before h more at s.join prefix (omega (arith, is.0)) right.declared) in
-    subst (λ (r : ℕ). HasRank (joins_of (take p more)) s.join r) (sym ranked) (subst (λ (l : History). HasRank (joins_of l) s.join rank) (sym (take_prefix p h more within prefix)) there)
+-- the rank that the join has after p entries, it has there in longer histories
+pub rank_over_longer : (h more : History) (p at rank : ℕ) → p ≤ length h → IsPrefix h more → IsRankOf h p at (Some rank) → IsRankOf more p at (Some rank)
+rank_over_longer h more p at rank within prefix is =
+    (is.0, λ j declared. subst (λ (l : History). HasRank (joins_of l) j rank) (sym (take_prefix p h more within prefix)) (is.1 j (declared_before h more at j prefix (omega (arith, is.0)) declared)))
 
--- what was kept with another rank is let go
-pub lets_go : (p rank : ℕ) (held left found : Option KeptRange) → found ≡ None → left ≡ None → ((s : KeptRange) → held ≡ Some s → s.rank ≡ rank → found ≡ Some s) → BringsTo p (Some rank) held left
-lets_go p rank None left found none empty kept = empty
-lets_go p rank (Some s) left found none empty kept = ((λ same. absurd (none-some s (sym none ∙ kept s refl same))), (λ other. empty))
+-- what a cell holds stands after p entries with the cell's rank, where that is the one that its join has there
+pub rank_of_kept : (cell : CellView) (h more : History) (p : ℕ) (rank : Option ℕ) (s : KeptRange) → p ≤ length h → IsPrefix h more → cell.pass.view ≡ more → rank ≡ Some cell.rank → IsRankOf h p cell.at rank → IsRightIn cell.at cell.rank cell.range cell.pass s →
+    HasRank (joins_of (take p more)) s.join s.rank
+rank_of_kept cell h more p rank s within prefix met same is right =
+    let there = rank_over_longer h more p cell.at cell.rank within prefix (subst (IsRankOf h p cell.at) same is) in
+    subst (λ (r : ℕ). HasRank (joins_of (take p more)) s.join r) (sym right.ranked) (there.1 s.join (right_here cell more cell.at s met refl right).declared)
 
--- what was kept with this rank is brought there
-pub brings : (p rank : ℕ) (held after : Option KeptRange) (s t : KeptRange) → held ≡ Some s → s.rank ≡ rank → after ≡ Some t → IsBroughtTo p s t → BringsTo p (Some rank) held after
-brings p rank held after s t is ranked gives brought =
-    subst (λ (o : Option KeptRange). BringsTo p (Some rank) o after) (sym is)
-    ((λ r. subst (λ (o : Option KeptRange). IsSomeAnd o (IsBroughtTo p s)) (sym gives) brought), (λ other. absurd (other ranked)))
+-- nothing is brought where nothing is kept
+pub brings_nothing : (p : ℕ) (held left : Option KeptRange) → held ≡ None → left ≡ None → BringsTo p held left
+brings_nothing p held left none empty = subst (λ (o : Option KeptRange). BringsTo p o left) (sym none) empty
+
+-- what is kept was brought there
+pub brings : (p : ℕ) (held after : Option KeptRange) (s t : KeptRange) → held ≡ Some s → after ≡ Some t → IsBroughtTo p s t → BringsTo p held after
+brings p held after s t is gives brought =
+    subst (λ (o : Option KeptRange). BringsTo p o after) (sym is) (subst (λ (o : Option KeptRange). IsSomeAnd o (IsBroughtTo p s)) (sym gives) brought)
 
 -- ---- what can be served
+
+-- the place that a cell has, the other has
+pub same_place_back : (old new : CellView) → HasSamePlace old new → HasSamePlace new old
+same_place_back old new same = record { at = sym same.at; rank = sym same.rank; range = sym same.range }
+
+-- a cell with the same place is for what the other is for
+is_for_same : (old new : CellView) (at rank : ℕ) (part : Range) → HasSamePlace old new → IsCellFor old at rank part → IsCellFor new at rank part
+is_for_same old new at rank part same is = record {
+  is_of = same.at ∙ is.is_of;
+  ranked = same.rank ∙ is.ranked;
+  whole = subst (IsWithin part) (sym same.range) is.whole;
+}
+
+-- it can serve what the other can, if it keeps what that one keeps
+pub serves_same : (old new : CellView) (at rank p : ℕ) (part : Range) → HasSamePlace old new → new.held ≡ old.held → CanServe old at rank p part → CanServe new at rank p part
+serves_same old new at rank p part same held can = record {
+  is_for = is_for_same old new at rank part same can.is_for;
+  upto = subst (λ (o : Option KeptRange). IfSome o (λ s. IsPast p s → ⊥)) (sym held) can.upto;
+}
+
+-- what is ready stands past no position
+ready_is_not_past : (p : ℕ) (part : Range) (s : KeptRange) → IsReady p part s → IsPast p s → ⊥
+ready_is_not_past p part s ready past =
+    let later : p < p = subst (λ (o : Option ℕ). IsSomeAnd o (λ q. p < q)) ready.stands past in
+    absurd (omega (arith, later))
+
+-- a cell that can be read over a part at once can serve it
+pub ready_serves : (cell : CellView) (at rank p : ℕ) (part : Range) → IsReadyCell cell at rank p part → CanServe cell at rank p part
+ready_serves cell at rank p part ready = record {
+  is_for = ready.is_for;
+  upto = subst (λ (o : Option KeptRange). IfSome o (λ s. IsPast p s → ⊥)) (sym ready.holds) (ready_is_not_past p part ready.state ready.ready);
+}
+
+-- what a cell that can serve a part keeps can be read over it, once it is taken out
+pub lent_of_kept : (before after : CellView) (at rank p : ℕ) (part : Range) (s : KeptRange) → HasSamePlace before after → CanServe before at rank p part → before.held ≡ Some s → IsRightIn after.at after.rank after.range after.pass s →
+    IsLentFor after at rank p part s
+lent_of_kept before after at rank p part s same can holds right = record {
+  is_for = is_for_same before after at rank part same can.is_for;
+  right = right;
+  upto = subst (λ (o : Option KeptRange). IfSome o (λ t. IsPast p t → ⊥)) holds can.upto;
+}
 
 -- what stands nowhere stands past no position
 nowhere_is_not_past : (p : ℕ) (s : KeptRange) → s.position ≡ None → IsPast p s → ⊥
 nowhere_is_not_past p s is past = subst (λ (o : Option ℕ). IsSomeAnd o (λ q. p < q)) is past
 
-not_past_by : (b : Bool) (rank p : ℕ) (s state : KeptRange) → nat_eq s.rank rank ≡ b → (s.rank ≡ rank → state ≡ s) → ((s.rank ≡ rank → ⊥) → state.position ≡ None) →
-    (IsPast p s → ⊥) → IsPast p state → ⊥
-not_past_by true rank p s state is kept fresh upto past = upto (subst (IsPast p) (kept (eqb-true s.rank rank is)) past)
-not_past_by false rank p s state is kept fresh upto past =
-    nowhere_is_not_past p state (fresh (λ same. absurd (true≢false (sym (eq-eqb s.rank rank same) ∙ is)))) past
-
--- what is taken out does not stand past a position, where what was kept does not
-pub taken_is_not_past : (held : Option KeptRange) (rank p : ℕ) (state : KeptRange) → ((s : KeptRange) → held ≡ Some s → s.rank ≡ rank → state ≡ s) →
-    (((s : KeptRange) → held ≡ Some s → s.rank ≡ rank → ⊥) → state.position ≡ None) → IfSome held (λ s. IsPast p s → ⊥) → IsPast p state → ⊥
-taken_is_not_past None rank p state kept fresh upto past = nowhere_is_not_past p state (fresh (λ s is ranked. absurd (none-some s is))) past
-taken_is_not_past (Some s) rank p state kept fresh upto past =
-    not_past_by (nat_eq s.rank rank) rank p s state refl (kept s refl)
-    (λ other. fresh (λ t is ranked. other (subst (λ (u : KeptRange). u.rank ≡ rank) (sym (same_Some s t is)) ranked))) upto past
+-- so can what keeps nothing yet
+pub lent_of_new : (before after : CellView) (at rank p : ℕ) (part : Range) (s : KeptRange) → HasSamePlace before after → CanServe before at rank p part → s.position ≡ None → IsRightIn after.at after.rank after.range after.pass s →
+    IsLentFor after at rank p part s
+lent_of_new before after at rank p part s same can fresh right = record {
+  is_for = is_for_same before after at rank part same can.is_for;
+  right = right;
+  upto = nowhere_is_not_past p s fresh;
+}

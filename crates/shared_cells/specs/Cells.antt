@@ -13,59 +13,60 @@ use Rattle.range_state.specs.Ready.{IsReady}
 use Rattle.range_serving.specs.Serving.{IsPast}
 use Rattle.cell_slots.specs.Slots.{IsRightFor, StandsAs}
 
--- the position of the join's declaration, the range that the cell is for, what is kept of it, and the cell's pass
+-- the position of the join's declaration, the rank and the range that the cell is for, what is kept of it, and the cell's pass
 pub record CellView : Type 0 where
   pub at : ℕ
+  pub rank : ℕ
   pub range : Range
   pub held : Option KeptRange
   pub pass : PassView
 
--- what a cell holds is of the join that was declared at the position, of just the cell's range, and right for what the pass has seen
-pub record IsRightIn (at : ℕ) (range : Range) (pass : PassView) (s : KeptRange) : Type 0 where
+-- what a cell holds is of the join that was declared at the position, kept with just the cell's rank and of just its range, and right for what the pass has seen
+pub record IsRightIn (at rank : ℕ) (range : Range) (pass : PassView) (s : KeptRange) : Type 0 where
   pub right : IsRightFor pass.view at s
+  pub ranked : s.rank ≡ rank
   pub just : s.range ≡ range
 
 -- the pass is of the history, and what is kept is right
-pub record IsCell (history : TableId) (at : ℕ) (range : Range) (held : Option KeptRange) (pass : PassView) : Type 0 where
+pub record IsCell (history : TableId) (at rank : ℕ) (range : Range) (held : Option KeptRange) (pass : PassView) : Type 0 where
   pub same_history : pass.history ≡ history
-  pub right : IfSome held (IsRightIn at range pass)
+  pub right : IfSome held (IsRightIn at rank range pass)
 
--- the cell is for the range of the join that it was for
+-- the cell is for the range of the join, and for the rank of it, that it was for
 pub record HasSamePlace (old new : CellView) : Type 0 where
   pub at : new.at ≡ old.at
+  pub rank : new.rank ≡ old.rank
   pub range : new.range ≡ old.range
 
 -- the output of the join that was declared at a position in a range, after the first p entries
 abbrev pub IsOutput : History → ℕ → ℕ → ℕ → Range → Table → Type 0
 IsOutput h p at rank range pairs = (j : Join) → StandsAs h p at rank j → pairs ≡ pairs_within range (out j (below (take p h) rank))
 
+-- a cell is for the join that was declared at a position while it has this rank, and for a range that has the whole part
+pub record IsCellFor (cell : CellView) (at rank : ℕ) (part : Range) : Type 0 where
+  pub is_of : cell.at ≡ at
+  pub ranked : cell.rank ≡ rank
+  pub whole : IsWithin part cell.range
+
 -- what is taken out of a cell can be read over a part of its range, for the join that was declared at a position, with this rank: it is right, and does not stand past a position
 pub record IsLentFor (cell : CellView) (at rank p : ℕ) (part : Range) (s : KeptRange) : Type 0 where
-  pub is_of : cell.at ≡ at
-  pub right : IsRightIn cell.at cell.range cell.pass s
-  pub ranked : s.rank ≡ rank
+  pub is_for : IsCellFor cell at rank part
+  pub right : IsRightIn cell.at cell.rank cell.range cell.pass s
   pub upto : IsPast p s → ⊥
-  pub whole : IsWithin part cell.range
 
--- a cell can serve a part at a position: it is for the join that was declared at a position, it has the whole part, and what it keeps does not stand past the position
-pub record CanServe (cell : CellView) (at p : ℕ) (part : Range) : Type 0 where
-  pub is_of : cell.at ≡ at
-  pub whole : IsWithin part cell.range
+-- a cell can serve a part at a position: it is for the join and the rank, it has the whole part, and what it keeps does not stand past the position
+pub record CanServe (cell : CellView) (at rank p : ℕ) (part : Range) : Type 0 where
+  pub is_for : IsCellFor cell at rank part
   pub upto : IfSome cell.held (λ s. IsPast p s → ⊥)
 
--- what a cell keeps can be taken out of it for a part and a position: it is of the join that was declared at a position, was kept while the join had this rank and does not stand past the position, and the cell has the whole part
+-- what a cell keeps can be taken out of it for a part and a position: the cell can serve the part there, and keeps it
 pub record CanBeLent (cell : CellView) (at rank p : ℕ) (part : Range) (s : KeptRange) : Type 0 where
+  pub serves : CanServe cell at rank p part
   pub holds : cell.held ≡ Some s
-  pub is_of : cell.at ≡ at
-  pub ranked : s.rank ≡ rank
-  pub upto : IsPast p s → ⊥
-  pub whole : IsWithin part cell.range
 
--- the cell can be read over a part at a position: it holds a kept range of the join with this rank, which is ready there and has the whole part
+-- the cell can be read over a part at a position: it is for the join and the rank, it has the whole part, and it holds a kept range that is ready there
 pub record IsReadyCell (cell : CellView) (at rank p : ℕ) (part : Range) : Type 0 where
+  pub is_for : IsCellFor cell at rank part
   pub state : KeptRange
   pub holds : cell.held ≡ Some state
-  pub is_of : cell.at ≡ at
-  pub ranked : state.rank ≡ rank
   pub ready : IsReady p part state
-  pub whole : IsWithin part cell.range

@@ -14,9 +14,10 @@ ghost use Rattle.range_state.specs.Since.{AnswersSince};
 ghost use Rattle.range_serving.specs.Serving.{IsBroughtTo, IsPast, StandsFrom, output_within};
 ghost use Rattle.cell_slots.specs.Slots.{IsDeclared, IsRightFor, StandsAs};
 ghost use Rattle.rank_layers.specs.Telling.{TellsJoin};
-ghost use Rattle.shared_cells.specs.Bringing.{BringsTo, IsRankOf};
+ghost use Rattle.shared_cells.specs.Bringing.{BringsCell, IsRankOf};
 ghost use Rattle.shared_cells.specs.Cells.{CanBeLent, CanServe, HasSamePlace, IsLentFor, IsOutput, IsReadyCell, IsRightIn};
 
+use crate::ranked_join::RankedJoin;
 use base_shards::Naming;
 use join_eval::{Changed, Reader};
 use join_types::Pair;
@@ -42,11 +43,27 @@ pub struct Asked {
     pub p: u64,
 }
 
-/// A cell for a range of the output of a join: what is kept of it, and a pass. What is kept is right for what the pass has
-/// seen: that is true whenever the lock is free. The cell is for this range of this join as long as there is the cell.
+impl Asked {
+    /// The join with its rank.
+    pub fn join(self) -> RankedJoin
+        ensures at { result.at ≡ self.at }
+        ensures rank { result.rank ≡ self.rank }
+    {
+        RankedJoin {
+            at: self.at,
+            rank: self.rank,
+        }
+    }
+}
+
+/// A cell for a range of the output of a join while it has one rank: what is kept of it, and a pass. What is kept is kept with
+/// that rank, and is right for what the pass has seen: that is true whenever the lock is free. The cell is for this rank of
+/// this join and for this range as long as there is the cell. So whoever holds its lock and works on it reads joins of ranks
+/// below the cell's, at whichever position.
 #[derive(Drop)]
 pub struct Cell<N: Naming> {
     at: u64,
+    rank: u8,
     range: Range,
     held: Option<RangeState>,
     pass: Pass,
@@ -59,9 +76,9 @@ impl<N: Naming> Model for Cell<N> {
 
     ghost Value = { CellView };
 
-    ghost view = { λ c. record { at = c.at; range = c.range; held = c.held; pass = c.pass } };
+    ghost view = { λ c. record { at = c.at; rank = c.rank; range = c.range; held = c.held; pass = c.pass } };
 
-    ghost invariant = { λ c. IsCell N.history c.at c.range c.held c.pass };
+    ghost invariant = { λ c. IsCell N.history c.at c.rank c.range c.held c.pass };
 }
 
 /// Whether the second range begins at or before the first, and ends at or after it.
@@ -143,17 +160,19 @@ fn read_kept<R: Reader, G: Gate, L: Ledger>(
 }
 
 impl<N: Naming> Cell<N> {
-    /// A cell with a pass, for a range of the output of the join that was declared at a position. Nothing is kept yet, and it
-    /// follows no range. Nothing is allocated.
-    pub fn new(alloc: Global, at: u64, range: Range, pass: Pass) -> Cell<N>
+    /// A cell with a pass, for a range of the output of a join while it has its rank. Nothing is kept yet, and the cell follows
+    /// no range. Nothing is allocated.
+    pub fn new(alloc: Global, join: RankedJoin, range: Range, pass: Pass) -> Cell<N>
         requires { pass.history ≡ N.history }
-        ensures at { result.at ≡ at }
+        ensures at { result.at ≡ join.at }
+        ensures rank { result.rank ≡ join.rank }
         ensures range { result.range ≡ range }
         ensures held { result.held ≡ None }
         ensures pass { result.pass ≡ pass }
     {
         Cell {
-            at,
+            at: join.at,
+            rank: join.rank,
             range,
             held: None,
             pass,
@@ -218,50 +237,73 @@ impl<N: Naming> Cell<N> {
         }
     }
 
-    /// Whether it is for the join that was declared at a position, for a range that has the whole part, and keeps nothing that
-    /// stands past p.
-    fn can_serve(&self, at: u64, p: u64, part: &Range) -> bool
-        ensures yes { result ≡ true → CanServe self.now at p part.now }
-        ensures no { CanServe self.now at p part.now → result ≡ true }
+    /// Whether it is for the join that is asked for and for its rank, for a range that has the whole part, and keeps nothing
+    /// that stands past the position.
+    fn can_serve(&self, asked: Asked, part: &Range) -> bool
+        ensures yes { result ≡ true → CanServe self.now asked.at asked.rank asked.p part.now }
+        ensures no { CanServe self.now asked.at asked.rank asked.p part.now → result ≡ true }
     {
-        self.at == at && is_within(part, &self.range) && !self.is_past(p)
+        self.at == asked.at
+            && self.rank == asked.rank
+            && is_within(part, &self.range)
+            && !self.is_past(asked.p)
     }
 
-    /// Takes out what is kept, where it was kept while the join had this rank; otherwise it is let go, and nothing is kept yet
-    /// in what is given in its place. The pass and the reader see what either has seen.
-    ///
-    /// On `OutOfMemory` nothing is kept.
-    fn take_state<R: Stacked<N>>(
-        &mut self,
-        asked: Asked,
-        reader: &mut R,
-    ) -> Result<RangeState, OutOfMemory>
-        requires met { self.old.pass.view ≡ R.list reader.old }
-        requires is_of { self.old.at ≡ asked.at }
-        requires declared { (j : PlainJoin) × IsDeclared (R.list reader.old) asked.at j }
-        ensures right { IfOk result (IsRightIn self.new.at self.new.range self.new.pass) }
-        ensures ranked { IfOk result (λ state. state.rank ≡ asked.rank) }
-        ensures kept { (s : KeptRange) → self.old.held ≡ Some s → s.rank ≡ asked.rank → IfOk result (λ state. state ≡ s) }
-        ensures fresh { ((s : KeptRange) → self.old.held ≡ Some s → s.rank ≡ asked.rank → ⊥) → IfOk result (λ state. state.position ≡ None) }
+    /// The pass and the reader see what either has seen.
+    fn meet<R: Stacked<N>>(&mut self, reader: &mut R)
+        ensures held { self.new.held ≡ self.old.held }
         ensures same_place { HasSamePlace self.old self.new }
         ensures met { self.new.pass.view ≡ R.list reader.new }
-        ensures entered { HasEntered (R.list reader.old) → HasEntered (R.list reader.new) }
+        ensures entered { HasEntered (R.list reader.new) }
         ensures moves { Moves R.list R.floor R.went reader.old reader.new }
     {
-        if let Some(state) = self.held.take()
-            && state.rank() == asked.rank
-        {
-            return Ok(state);
-        }
-        let join = reader.join_at(asked.at);
         reader.meet(&mut self.pass);
-        let range = self.range.copy()?;
-        Ok(RangeState::new(asked.alloc, join?, asked.rank, range))
+    }
+
+    /// What keeps nothing yet of the cell's range, for its join and its rank. The pass and the reader see what either has seen.
+    fn begin<R: Stacked<N>>(
+        &mut self,
+        alloc: Global,
+        reader: &mut R,
+    ) -> Result<RangeState, OutOfMemory>
+        requires { (j : PlainJoin) × IsDeclared (R.list reader.old) self.old.at j }
+        ensures right { IfOk result (IsRightIn self.new.at self.new.rank self.new.range self.new.pass) }
+        ensures fresh { IfOk result (λ state. state.position ≡ None) }
+        ensures held { self.new.held ≡ self.old.held }
+        ensures same_place { HasSamePlace self.old self.new }
+        ensures met { self.new.pass.view ≡ R.list reader.new }
+        ensures entered { HasEntered (R.list reader.new) }
+        ensures moves { Moves R.list R.floor R.went reader.old reader.new }
+    {
+        let join = reader.join_at(self.at);
+        let range = self.range.copy();
+        let rank = self.rank;
+        self.meet(reader);
+        Ok(RangeState::new(alloc, join?, rank, range?))
+    }
+
+    /// Whether it is for this rank. Where none is given, it is not.
+    fn is_for(&self, rank: Option<u8>) -> bool
+        ensures yes { result ≡ true → rank ≡ Some self.now.rank }
+        ensures no { rank ≡ Some self.now.rank → result ≡ true }
+    {
+        rank == Some(self.rank)
+    }
+
+    /// Takes out what is kept: nothing is kept then.
+    fn take_held(&mut self) -> Option<RangeState>
+        ensures taken { result ≡ self.old.held }
+        ensures right { IfSome result (IsRightIn self.new.at self.new.rank self.new.range self.new.pass) }
+        ensures left { self.new.held ≡ None }
+        ensures pass { self.new.pass ≡ self.old.pass }
+        ensures same_place { HasSamePlace self.old self.new }
+    {
+        self.held.take()
     }
 
     /// Takes out what is kept, to read it over a part. None exactly where the cell cannot serve the part at the position: then
-    /// what is kept stays. Where nothing is kept with this rank, what is given keeps nothing yet. The pass and the reader see
-    /// what either has seen.
+    /// what is kept stays. Where nothing is kept, what is given keeps nothing yet. The pass and the reader see what either has
+    /// seen.
     ///
     /// On `OutOfMemory` nothing is kept.
     fn lend<R: Stacked<N>>(
@@ -273,26 +315,30 @@ impl<N: Naming> Cell<N> {
         requires { (j : PlainJoin) × IsDeclared (R.list reader.old) asked.at j }
         ensures lent { IfOk result (λ found. IfSome found (IsLentFor self.new asked.at asked.rank asked.p part.now)) }
         ensures kept { (s : KeptRange) → CanBeLent self.old asked.at asked.rank asked.p part.now s → IfOk result (λ found. found ≡ Some s) }
-        ensures served { CanServe self.old asked.at asked.p part.now → IfOk result (λ found. found ≡ None → ⊥) }
-        ensures none { (CanServe self.old asked.at asked.p part.now → ⊥) → IfOk result (λ found. found ≡ None) }
-        ensures left { (CanServe self.old asked.at asked.p part.now → ⊥) → self.new.held ≡ self.old.held }
+        ensures served { CanServe self.old asked.at asked.rank asked.p part.now → IfOk result (λ found. found ≡ None → ⊥) }
+        ensures none { (CanServe self.old asked.at asked.rank asked.p part.now → ⊥) → IfOk result (λ found. found ≡ None) }
+        ensures left { (CanServe self.old asked.at asked.rank asked.p part.now → ⊥) → self.new.held ≡ self.old.held }
         ensures ready { IsReadyCell self.old asked.at asked.rank asked.p part.now → IfOk result (λ found. found ≡ self.old.held) }
         ensures same_place { HasSamePlace self.old self.new }
         ensures met { self.new.pass.view ≡ R.list reader.new }
         ensures entered { HasEntered (R.list reader.new) }
         ensures moves { Moves R.list R.floor R.went reader.old reader.new }
     {
-        reader.meet(&mut self.pass);
-        if !self.can_serve(asked.at, asked.p, part) {
+        self.meet(reader);
+        if !self.can_serve(asked, part) {
             return Ok(None);
         }
-        let state = self.take_state(asked, reader)?;
+        if let Some(state) = self.take_held() {
+            return Ok(Some(state));
+        }
+        let state = self.begin(asked.alloc, reader)?;
         Ok(Some(state))
     }
 
     /// Keeps what was taken out. The pass and the reader see what either has seen.
     fn give_back<R: Stacked<N>>(&mut self, state: RangeState, reader: &mut R)
         requires right { IsRightFor (R.list reader.old) self.old.at state }
+        requires ranked { state.rank ≡ self.old.rank }
         requires just { state.range ≡ self.old.range }
         ensures held { self.new.held ≡ Some state }
         ensures same_place { HasSamePlace self.old self.new }
@@ -304,12 +350,13 @@ impl<N: Naming> Cell<N> {
     }
 
     /// What the join gives in a part after p entries, from what is kept. None, and then what is kept stays, exactly where the cell
-    /// is for another join or has not the whole part, and where what is kept stands past p. Where nothing is kept with this rank
-    /// the cell's whole range is filled; where it stands below p it is advanced, and where something pending meets the part it is
-    /// mended there. The gate is passed before a fill and before a mend.
+    /// is for another join or for another rank of it or has not the whole part, and where what is kept stands past p. Where
+    /// nothing is kept the cell's whole range is filled; where it stands below p it is advanced, and where something pending
+    /// meets the part it is mended there. The gate is passed before a fill and before a mend.
     ///
     /// The cell's pass and the reader see what either has seen. Where the cell can be read over the part at once, it takes one
-    /// step and one for each pair; where it gave pairs, it can be so read afterwards.
+    /// step and one for each pair; where it gave pairs, it can be so read afterwards. Where it cannot serve, it takes no step,
+    /// so that the reader reads nothing below a rank that is not the cell's.
     ///
     /// On `OutOfMemory` what is kept stands where it stood, or at p, or nothing is kept.
     pub fn serve<R: Stacked<N>, G: Gate, L: Ledger>(
@@ -324,9 +371,10 @@ impl<N: Naming> Cell<N> {
         requires stands { (j : PlainJoin) × StandsAs (R.list reader.old) asked.p asked.at asked.rank j }
         requires ranked { asked.rank ≤ R.top }
         ensures output { IfOk result (λ found. IfSome found (λ pairs. IsOutput (R.list reader.old) asked.p asked.at asked.rank part.now pairs.items)) }
-        ensures served { CanServe self.old asked.at asked.p part.now → IfOk result (λ found. found ≡ None → ⊥) }
-        ensures none { (CanServe self.old asked.at asked.p part.now → ⊥) → IfOk result (λ found. found ≡ None) }
-        ensures left { (CanServe self.old asked.at asked.p part.now → ⊥) → self.new.held ≡ self.old.held }
+        ensures served { CanServe self.old asked.at asked.rank asked.p part.now → IfOk result (λ found. found ≡ None → ⊥) }
+        ensures none { (CanServe self.old asked.at asked.rank asked.p part.now → ⊥) → IfOk result (λ found. found ≡ None) }
+        ensures left { (CanServe self.old asked.at asked.rank asked.p part.now → ⊥) → self.new.held ≡ self.old.held }
+        ensures idle { (CanServe self.old asked.at asked.rank asked.p part.now → ⊥) → steps.new ≡ steps.old }
         ensures ready { IfOk result (λ found. IfSome found (λ _. IsReadyCell self.new asked.at asked.rank asked.p part.now)) }
         ensures same_place { HasSamePlace self.old self.new }
         ensures met { self.new.pass.view ≡ R.list reader.new }
@@ -346,9 +394,9 @@ impl<N: Naming> Cell<N> {
 
     /// What changed in the join's output in a part between two positions, as what is kept says: it is advanced to the later one
     /// where it stands below; where it stands there already, or is forgotten, it is left as it is. Then `All` comes exactly where
-    /// it does not know, as `RangeState::changed_since` says. `All` may also come where the cell is for another join or has not
-    /// the whole part, and where what is kept stands past the later position: then it stays. It comes too where nothing is kept
-    /// with this rank; what was kept with another is let go.
+    /// it does not know, as `RangeState::changed_since` says. `All` may also come where the cell is for another join or for
+    /// another rank of it or has not the whole part, and where what is kept stands past the later position: then it stays, and
+    /// no step is taken. It comes too where nothing is kept.
     ///
     /// The cell's pass and the reader see what either has seen.
     ///
@@ -370,7 +418,8 @@ impl<N: Naming> Cell<N> {
         ensures brought { (s : KeptRange) → CanBeLent self.old asked.at asked.rank asked.p part.now s → OnOk result (IsSomeAnd self.new.held (IsBroughtTo asked.p s)) }
         ensures since { (s : KeptRange) → CanBeLent self.old asked.at asked.rank asked.p part.now s →
             IfOk result (λ told. IsSomeAnd self.new.held (λ after. AnswersSince since part.now after told)) }
-        ensures left { (CanServe self.old asked.at asked.p part.now → ⊥) → self.new.held ≡ self.old.held }
+        ensures left { (CanServe self.old asked.at asked.rank asked.p part.now → ⊥) → self.new.held ≡ self.old.held }
+        ensures idle { (CanServe self.old asked.at asked.rank asked.p part.now → ⊥) → steps.new ≡ steps.old }
         ensures same_place { HasSamePlace self.old self.new }
         ensures met { self.new.pass.view ≡ R.list reader.new }
         ensures moves { Moves R.list R.floor R.went reader.old reader.new }
@@ -385,67 +434,10 @@ impl<N: Naming> Cell<N> {
         told
     }
 
-    /// The pass and the reader see what either has seen.
-    fn meet<R: Stacked<N>>(&mut self, reader: &mut R)
-        ensures held { self.new.held ≡ self.old.held }
-        ensures same_place { HasSamePlace self.old self.new }
-        ensures met { self.new.pass.view ≡ R.list reader.new }
-        ensures entered { HasEntered (R.list reader.new) }
-        ensures moves { Moves R.list R.floor R.went reader.old reader.new }
-    {
-        reader.meet(&mut self.pass);
-    }
-
-    /// Takes out what is kept, where it was kept while the join had this rank; what was kept while it had another is let go.
-    fn take_kept(&mut self, rank: u8) -> Option<RangeState>
-        ensures right { IfSome result (IsRightIn self.new.at self.new.range self.new.pass) }
-        ensures ranked { IfSome result (λ state. state.rank ≡ rank) }
-        ensures was { IfSome result (λ state. self.old.held ≡ Some state) }
-        ensures kept { (s : KeptRange) → self.old.held ≡ Some s → s.rank ≡ rank → result ≡ Some s }
-        ensures left { self.new.held ≡ None }
-        ensures pass { self.new.pass ≡ self.old.pass }
-        ensures same_place { HasSamePlace self.old self.new }
-    {
-        if let Some(state) = self.held.take()
-            && state.rank() == rank
-        {
-            return Some(state);
-        }
-        None
-    }
-
-    /// Brings what was kept while the join had this rank to where the first p entries stand, where it stands below; what was
-    /// kept while it had another is let go.
-    fn bring_ranked<R: Stacked<N>, L: Ledger>(
-        &mut self,
-        p: u64,
-        rank: u8,
-        reader: &mut R,
-        steps: &mut Steps<L>,
-    ) -> Result<(), OutOfMemory>
-        requires within { p ≤ length (R.list reader.old) }
-        requires rank { IsRankOf (R.list reader.old) p self.old.at (Some rank) }
-        requires ranked { rank ≤ R.top }
-        ensures brought { OnOk result (BringsTo p (Some rank) self.old.held self.new.held) }
-        ensures same_place { HasSamePlace self.old self.new }
-        ensures met { self.new.pass.view ≡ R.list reader.new }
-        ensures moves { Moves R.list R.floor R.went reader.old reader.new }
-        ensures counted { steps.old ≤ steps.new }
-    {
-        self.meet(reader);
-        let Some(state) = self.take_kept(rank) else {
-            return Ok(());
-        };
-        let mut state = state;
-        let advanced = catch_up(&mut state, p, reader, steps);
-        self.give_back(state, reader);
-        advanced
-    }
-
     /// Brings what is kept to where the first p entries stand, where it stands below: it is advanced. What is pending then
-    /// stays so. The rank is the one that the join has after p entries. What was kept with it and is forgotten stays so, and
-    /// what stands past p stays there; what was kept while the join had another rank is let go. Where no rank is given,
-    /// nothing changes but what the cell's pass has seen: it and the reader see what either has seen.
+    /// stays so, what is forgotten stays so, and what stands past p stays there. The rank is the one that the join has after p
+    /// entries; where none is given, or another than the cell's, what is kept stays as it is and no step is taken, so that
+    /// nothing changes but what the cell's pass has seen. It and the reader see what either has seen.
     ///
     /// On `OutOfMemory` what is kept stands where it stood, or at p, or nothing is kept.
     pub fn bring<R: Stacked<N>, L: Ledger>(
@@ -458,18 +450,23 @@ impl<N: Naming> Cell<N> {
         requires within { p ≤ length (R.list reader.old) }
         requires rank { IsRankOf (R.list reader.old) p self.old.at rank }
         requires ranked { IfSome rank (λ r. r ≤ R.top) }
-        ensures brought { OnOk result (BringsTo p rank self.old.held self.new.held) }
+        ensures brings { BringsCell p rank result self.old self.new }
+        ensures idle { (rank ≡ Some self.old.rank → ⊥) → steps.new ≡ steps.old }
         ensures same_place { HasSamePlace self.old self.new }
         ensures met { self.new.pass.view ≡ R.list reader.new }
         ensures moves { Moves R.list R.floor R.went reader.old reader.new }
         ensures counted { steps.old ≤ steps.new }
     {
-        match rank {
-            Some(rank) => self.bring_ranked(p, rank, reader, steps),
-            None => {
-                self.meet(reader);
-                Ok(())
-            }
+        self.meet(reader);
+        if !self.is_for(rank) {
+            return Ok(());
         }
+        let Some(state) = self.take_held() else {
+            return Ok(());
+        };
+        let mut state = state;
+        let advanced = catch_up(&mut state, p, reader, steps);
+        self.give_back(state, reader);
+        advanced
     }
 }

@@ -8,6 +8,7 @@ ghost use Rattle.range_set.specs.Pieces.{range_of, ranges_of};
 
 use crate::cell::Cell;
 use crate::idle::IdlePass;
+use crate::ranked_join::RankedJoin;
 use base_shards::Naming;
 use key_space::Range;
 use out_of_memory::OutOfMemory;
@@ -30,7 +31,7 @@ pub struct Part<N: Naming> {
     pub cell: Option<(u32, SharedCell<N>)>,
 }
 
-/// The ranges of one join that have a cell, each with the cell's number, and the table that they are of.
+/// The ranges of one join that have a cell for one rank of it, each with the cell's number, and the table that they are of.
 #[derive(Drop)]
 struct Listing {
     table: String,
@@ -43,17 +44,18 @@ struct Listing {
 enum Spot<N: Naming> {
     /// No cell. Its pass, and the next number that has none.
     Free(IdlePass<N>, Option<u32>),
-    /// A cell: the position of its join's declaration, and its range.
-    Taken(u64, Range, SharedCell<N>),
+    /// A cell: its join with the rank that it is for, and its range.
+    Taken(RankedJoin, Range, SharedCell<N>),
     /// A cell that is being evicted, whose pass is on its way back.
     Leaving,
 }
 
-/// The ranges that have a cell, by the position of their join's declaration, and what stands at each cell's number.
+/// The ranges that have a cell, by their join with its rank, and what stands at each cell's number. A join whose rank changed
+/// has other cells than before.
 #[derive(Drop)]
 pub struct Directory<N: Naming> {
     alloc: Global,
-    listings: BTreeMap<u64, Listing>,
+    listings: BTreeMap<RankedJoin, Listing>,
     spots: Vec<Spot<N>>,
     free: Option<u32>,
 }
@@ -132,11 +134,12 @@ impl<N: Naming> Directory<N> {
         })
     }
 
-    /// The pieces of a range, in order: what it has in common with ranges of the join that have a cell, and the gaps.
-    fn pieces(&self, at: u64, range: &Range) -> Result<Vec<Piece<u32>>, OutOfMemory>
+    /// The pieces of a range, in order: what it has in common with ranges of the join that have a cell for its rank, and the
+    /// gaps.
+    fn pieces(&self, join: RankedJoin, range: &Range) -> Result<Vec<Piece<u32>>, OutOfMemory>
         ensures { IfOk result (λ pieces. JoinPieces range.now (ranges_of pieces.items)) }
     {
-        match self.listings.get(&at) {
+        match self.listings.get(&join) {
             Some(listing) => listing.ranges.cover(range),
             None => {
                 let none: RangeSet<u32> = RangeSet::new(self.alloc);
@@ -145,27 +148,38 @@ impl<N: Naming> Directory<N> {
         }
     }
 
-    /// The range in parts, in order, each with the cell of the join that has it, where one does. To be kept, each gap between
-    /// them is given a cell, while there is a number without one. A range in very many parts is one part without a cell.
+    /// The range in parts, in order, each with the cell that has it for the join and its rank, where one does. To be kept, each
+    /// gap between them is given a cell, while there is a number without one. A range in very many parts is one part without a
+    /// cell.
     ///
     /// It takes two searches, and for each part that is given a cell a few more. On `OutOfMemory` some gaps may have been given
     /// cells.
-    pub fn cover(&mut self, at: u64, range: &Range, keep: bool) -> Result<Vec<Part<N>>, OutOfMemory>
+    pub fn cover(
+        &mut self,
+        join: RankedJoin,
+        range: &Range,
+        keep: bool,
+    ) -> Result<Vec<Part<N>>, OutOfMemory>
         ensures { IfOk result (λ parts. JoinTo range.now (map (λ part. part.range) parts.items)) }
     {
-        let pieces = self.pieces(at, range)?;
+        let pieces = self.pieces(join, range)?;
         if range.lo() < range.hi() && pieces.len() > MOST_PARTS {
             return whole(self.alloc, range);
         }
         let mut parts = Vec::with_capacity(self.alloc, pieces.len())?;
         for piece in pieces {
-            parts.push(self.part(at, piece, keep)?)?;
+            parts.push(self.part(join, piece, keep)?)?;
         }
         Ok(parts)
     }
 
     /// A piece as a part. A gap that is to be kept is given a cell, if there is a number without one.
-    fn part(&mut self, at: u64, piece: Piece<u32>, keep: bool) -> Result<Part<N>, OutOfMemory>
+    fn part(
+        &mut self,
+        join: RankedJoin,
+        piece: Piece<u32>,
+        keep: bool,
+    ) -> Result<Part<N>, OutOfMemory>
         ensures { IfOk result (λ part. part.range ≡ range_of piece) }
     {
         match piece {
@@ -175,7 +189,7 @@ impl<N: Naming> Directory<N> {
             }
             Piece::Gap(range) => {
                 let cell = if keep {
-                    self.give_cell(at, &range)?
+                    self.give_cell(join, &range)?
                 } else {
                     None
                 };
@@ -192,12 +206,12 @@ impl<N: Naming> Directory<N> {
         }
     }
 
-    /// Gives a range of the join a cell, if there is a number without one and no other cell has some of it.
+    /// Gives a range of the join a cell for its rank, if there is a number without one and no other cell for them has some of it.
     ///
     /// On `OutOfMemory` the range may have been given the cell.
     fn give_cell(
         &mut self,
-        at: u64,
+        join: RankedJoin,
         range: &Range,
     ) -> Result<Option<(u32, SharedCell<N>)>, OutOfMemory> {
         let Some(id) = self.free else {
@@ -206,23 +220,23 @@ impl<N: Naming> Directory<N> {
         let place = range.copy()?;
         let own = range.copy()?;
         let shared: SharedCell<N> = Arc::new(self.alloc, Mutex::new(None))?;
-        if !self.list(at, range, id)? {
+        if !self.list(join, range, id)? {
             return Ok(None);
         }
-        if !self.put_cell(id, at, place, own, shared) {
-            self.unlist(at, range);
+        if !self.put_cell(id, join, place, own, shared) {
+            self.unlist(join, range);
             return Ok(None);
         }
         self.cell(id)
     }
 
-    /// Puts a cell for a range of the join at a number that has none, with the pass that waits there, and says whether it did:
-    /// it does not where the number has a cell, or where another thread has seen the lock, behind which the cell is to lie.
-    /// Then nothing changes.
+    /// Puts a cell for a range of the join and its rank at a number that has none, with the pass that waits there, and says
+    /// whether it did: it does not where the number has a cell, or where another thread has seen the lock, behind which the
+    /// cell is to lie. Then nothing changes.
     fn put_cell(
         &mut self,
         id: u32,
-        at: u64,
+        join: RankedJoin,
         place: Range,
         own: Range,
         mut shared: SharedCell<N>,
@@ -235,8 +249,8 @@ impl<N: Naming> Directory<N> {
         };
         match mem::replace(spot, Spot::Leaving) {
             Spot::Free(idle, next) => {
-                *lock.get_mut() = Some(Cell::new(self.alloc, at, own, idle.pass));
-                *spot = Spot::Taken(at, place, shared);
+                *lock.get_mut() = Some(Cell::new(self.alloc, join, own, idle.pass));
+                *spot = Spot::Taken(join, place, shared);
                 self.free = next;
                 true
             }
@@ -247,23 +261,23 @@ impl<N: Naming> Directory<N> {
         }
     }
 
-    /// Takes the range of the join off the list, if it is there. It takes two searches, and no memory.
-    fn unlist(&mut self, at: u64, range: &Range) {
-        if let Some(listing) = self.listings.get_mut(&at) {
+    /// Takes the range of the join with its rank off the list, if it is there. It takes two searches, and no memory.
+    fn unlist(&mut self, join: RankedJoin, range: &Range) {
+        if let Some(listing) = self.listings.get_mut(&join) {
             listing.remove(range);
         }
     }
 
-    /// Lists the range of the join with the number of its cell, and says whether it did.
+    /// Lists the range of the join with its rank, with the number of its cell, and says whether it did.
     ///
     /// On `OutOfMemory` the ranges are those that were.
-    fn list(&mut self, at: u64, range: &Range, id: u32) -> Result<bool, OutOfMemory> {
-        match self.listings.get_mut(&at) {
+    fn list(&mut self, join: RankedJoin, range: &Range, id: u32) -> Result<bool, OutOfMemory> {
+        match self.listings.get_mut(&join) {
             Some(listing) => listing.insert(range, id),
             None => {
                 let mut listing = Listing::new(self.alloc, range)?;
                 let is_listed = listing.insert(range, id)?;
-                self.listings.insert(at, listing)?;
+                self.listings.insert(join, listing)?;
                 Ok(is_listed)
             }
         }
@@ -276,10 +290,10 @@ impl<N: Naming> Directory<N> {
         if !matches!(spot, Spot::Taken(_, _, _)) {
             return None;
         }
-        let Spot::Taken(at, range, cell) = mem::replace(spot, Spot::Leaving) else {
+        let Spot::Taken(join, range, cell) = mem::replace(spot, Spot::Leaving) else {
             unreachable!()
         };
-        self.unlist(at, &range);
+        self.unlist(join, &range);
         Some(cell)
     }
 

@@ -4,6 +4,7 @@ ghost use Rattle.layering.specs.Parts.{JoinTo};
 
 use crate::book::CellBook;
 use crate::directory::{Directory, Part, SharedCell};
+use crate::ranked_join::RankedJoin;
 use base_shards::{BaseShards, Naming};
 use key_space::Range;
 use out_of_memory::OutOfMemory;
@@ -12,10 +13,16 @@ use std::alloc::Global;
 use std::sync::{Mutex, Wait};
 use write_history::Pass;
 
-/// Cells that keep ranges of the outputs of joins, which threads share. A join is named by the position of its declaration.
+/// Cells that keep ranges of the outputs of joins, which threads share. A join is named by the position of its declaration,
+/// and with it its rank, which later declarations may change.
 ///
-/// A cell is made for one range of one join and is for no other as long as there is the cell: who has looked it up and waits
-/// for its lock finds this range or none. The directory and the book are locked alone, one after the other.
+/// A cell is made for one range of one join while it has one rank, and is for no other range, join or rank as long as there
+/// is the cell: who has looked it up and waits for its lock finds this range or none. So the order of locks, that of the ranks
+/// from the greatest down, is one order for good: were a cell also used while its join has another rank, two threads that read
+/// where the ranks of two joins stand the other way round could wait for each other. A join whose rank changed is given other
+/// cells; those that it had stay for reads before the change, until they are evicted.
+///
+/// The directory and the book are locked alone, one after the other.
 #[derive(Drop)]
 pub struct SharedCells<N: Naming> {
     directory: Mutex<Directory<N>>,
@@ -40,22 +47,22 @@ impl<N: Naming> SharedCells<N> {
         })
     }
 
-    /// The range in parts, in order, each with the cell of the join that has it, where one does. To be kept, each gap between
-    /// them is given a cell, while there are fewer than there may be. A range in very many parts is one part without a cell.
-    /// While another thread has the directory, this one sleeps.
+    /// The range in parts, in order, each with the cell that has it for the join and its rank, where one does. To be kept, each
+    /// gap between them is given a cell, while there are fewer than there may be. A range in very many parts is one part
+    /// without a cell. While another thread has the directory, this one sleeps.
     ///
     /// It takes two searches, and for each part that is given a cell a few more. On `OutOfMemory` some gaps may have been given
     /// cells.
     pub fn cover<W: Wait>(
         &self,
         rt: &W,
-        at: u64,
+        join: RankedJoin,
         range: &Range,
         keep: bool,
     ) -> Result<Vec<Part<N>>, OutOfMemory>
         ensures { IfOk result (λ parts. JoinTo range.now (map (λ part. part.range) parts.items)) }
     {
-        self.directory.lock(rt).cover(at, range, keep)
+        self.directory.lock(rt).cover(join, range, keep)
     }
 
     /// The cell with a number, if there is one. While another thread has the directory, this one sleeps. It takes constant

@@ -1,5 +1,5 @@
 -- How a layer's reader goes on, and what joins give and change in parts of a range.
-use Rattle.std.proofs.Common.{◌≡◌, ℕ, ◌+◌, ◌<◌, ◌≤◌, List, ◌++◌, flat_map, get_or, length, map, max, take, true, None, sym, ap, ◌∙◌, subst, arith}
+use Rattle.std.proofs.Common.{◌≡◌, ℕ, ◌+◌, ◌<◌, ◌≤◌, List, ◌++◌, flat_map, get_or, length, map, take, true, None, sym, ap, ◌∙◌, subst, arith}
 use Rattle.std.proofs.lemmas.List.{get_or-map, length-map, take-map}
 use Rattle.std.proofs.lemmas.List.Folds.{flat_map-map}
 use Rattle.std.proofs.lemmas.Simd.{map-map}
@@ -14,7 +14,6 @@ use Rattle.growing_history.specs.Entered.{HasEntered, HasRank}
 use Rattle.growing_history.proofs.PrefixLemmas.{take_prefix}
 use Rattle.layering.specs.Parts.{JoinTo}
 use Rattle.layering.specs.Reached.{reached, with_parts}
-use Rattle.layering.specs.Standing.{last_declared}
 use Rattle.layering.proofs.PartLemmas.{parts_make_range}
 use Rattle.join_eval.specs.Moves.{Moves}
 use Rattle.cell_slots.specs.declared.slot.Part.{Part}
@@ -84,10 +83,6 @@ pub listed_over : (h more : History) (p rank : ℕ) (range : Range) (ats named :
     named ≡ map (λ s. s.position) (reached range rank (joins_of (take p more)))
 listed_over h more p rank range ats named less prefix same listed =
     same ∙ listed ∙ ap (λ l. map (λ s. s.position) (reached range rank (joins_of l))) (sym (take_prefix p h more less prefix))
-
--- the last declaration of a longer history's first entries is that of the history's
-pub since_over : (h more : History) (q p last since : ℕ) → p ≤ length h → IsPrefix h more → last ≡ last_declared (joins_of (take p more)) → since ≡ max q last → since ≡ max q (last_declared (joins_of (take p h)))
-since_over h more q p last since less prefix is from = from ∙ ap (max q) (is ∙ ap (λ l. last_declared (joins_of l)) (take_prefix p h more less prefix))
 
 -- ---- no join is reached
 

@@ -3,16 +3,16 @@ ghost use Rattle.std.specs.Prelude.{◌≡◌, ◌+◌, ◌≤◌, length, take,
 ghost use Rattle.semantics.specs.Texts.{is_range, pairs_within};
 ghost use Rattle.semantics.specs.States.{below};
 ghost use Rattle.key_ranges.specs.Ranges.{is_open};
-ghost use Rattle.growing_history.specs.Changes.{changed_keys};
+ghost use Rattle.growing_history.specs.Changes.{changed_keys, IsBareAt, IsBareThroughout};
 ghost use Rattle.growing_history.specs.Entered.{HasEntered};
-ghost use Rattle.join_eval.specs.Answers.{AnswersChanges, IsBareAt, IsBareThroughout, ListsExactly, CostsOne};
+ghost use Rattle.join_eval.specs.Answers.{AnswersChanges, ListsExactly, CostsOne};
 ghost use Rattle.join_eval.specs.Moves.{Moves};
 
 use crate::layer::Room;
 use crate::outputs::add_outputs;
 use crate::telling::add_changes;
 use base_shards::Naming;
-use join_eval::Changed;
+use join_eval::{Between, Changed};
 use join_types::Pair;
 use key_space::Range;
 use out_of_memory::OutOfMemory;
@@ -64,8 +64,8 @@ pub fn pairs_above<N: Naming, W: Wait, G: Gate, R: Stacked<N>, L: Ledger>(
 /// top rank: what the reader says of the ranks below, and what the cells keep of the outputs of the joins of this rank that
 /// the range reaches.
 ///
-/// Before the last declaration up to p nothing stands below any rank, so the cells are asked from there on, or from q on
-/// where that is later. It is not known which keys where the reader does not know it of the ranks below, where no cell has
+/// Where a join is declared between, they are the reader's keys if the range is bare throughout, and otherwise it is not
+/// known which. Nor is it where the reader does not know it of the ranks below, where no cell has
 /// some part of the range for such a join, and where what the cell keeps does not know it: it keeps nothing, its notes start
 /// later, or slots meet the part that are pending or were noted since.
 pub fn changed_above<N: Naming, W: Wait, G: Gate, R: Stacked<N>, L: Ledger>(
@@ -89,27 +89,20 @@ pub fn changed_above<N: Naming, W: Wait, G: Gate, R: Stacked<N>, L: Ledger>(
     ensures bare_cost { IsBareThroughout (R.list reader.old) q p range.now → IfOk result (λ _. steps.new ≡ steps.old + 1 + length (changed_keys q p range.now (R.list reader.old))) }
 {
     look_at(range);
-    let told = reader.changed(q, p, range, rank, steps)?;
-    let ats = reader.reached(p, range, rank)?;
-    if ats.is_empty() {
-        return Ok(told);
-    }
-    if !is_open(range) {
-        return Ok(told);
-    }
-    let Changed::Keys(keys) = told else {
+    let Changed::Keys(keys) = reader.changed(q, p, range, rank, steps)? else {
         return Ok(Changed::All);
     };
-    let since = q.max(reader.last_declared(p)?);
-    add_changes(
-        room,
-        ats.as_slice(),
-        rank,
-        since,
-        p,
-        range,
-        keys,
-        reader,
-        steps,
-    )
+    match reader.between(q, p, range)? {
+        Between::Steady => {}
+        Between::Bare => return Ok(Changed::Keys(keys)),
+        Between::Other => return Ok(Changed::All),
+    }
+    let ats = reader.reached(p, range, rank)?;
+    if ats.is_empty() {
+        return Ok(Changed::Keys(keys));
+    }
+    if !is_open(range) {
+        return Ok(Changed::Keys(keys));
+    }
+    add_changes(room, ats.as_slice(), rank, q, p, range, keys, reader, steps)
 }

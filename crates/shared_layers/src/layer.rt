@@ -4,7 +4,7 @@ ghost use Rattle.cell_slots.specs.FrameLaws.{min_small};
 
 use crate::above::{changed_above, pairs_above};
 use base_shards::Naming;
-use join_eval::{Changed, Reader};
+use join_eval::{Between, Changed, Reader};
 use join_types::{Join, Pair};
 use key_space::Range;
 use out_of_memory::OutOfMemory;
@@ -102,8 +102,8 @@ impl<'a, N: Naming, W: Wait, G: Gate, R: Stacked<N>> Stacked<N> for Layer<'a, N,
         self.inner.reached(p, range, rank)
     }
 
-    fn last_declared(&mut self, p: u64) -> Result<u64, OutOfMemory> {
-        self.inner.last_declared(p)
+    fn between(&mut self, q: u64, p: u64, range: &Range) -> Result<Between, OutOfMemory> {
+        self.inner.between(q, p, range)
     }
 
     fn join_at(&mut self, at: u64) -> Result<Join, OutOfMemory> {

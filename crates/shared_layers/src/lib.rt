@@ -2,7 +2,8 @@
 // joins' outputs in cells that threads share.
 //
 // The layers above may use `Layer`, which stands on any stacked reader; nested eight times it reads joins of all ranks. Whoever
-// reads may wait for cells: a layer takes the lock of a cell of its own rank, and under it those of cells of lower ranks.
+// reads may wait for cells: a layer takes the lock of a cell of its own rank, and under it those of cells of lower ranks. A
+// cell is for one rank for good, so that this is one order of locks, wherever threads read.
 #![tactic(auto)]
 
 pub mod above;

@@ -84,7 +84,7 @@ fn read_join<N: Naming, W: Wait, G: Gate, R: Stacked<N>, L: Ledger>(
     ensures cost { IfOk result (λ pairs. steps.old + length pairs.items ≤ steps.new) }
 {
     let keep = reader.is_kept(asked.at);
-    let parts = room.cells.cover(room.rt, asked.at, range, keep)?;
+    let parts = room.cells.cover(room.rt, asked.join(), range, keep)?;
     read_parts(room, asked, parts.as_slice(), reader, steps)
 }
 

@@ -43,8 +43,12 @@ fn read_alone<N: Naming, W, G: Gate, R: Stacked<N>, L: Ledger>(
 }
 
 /// What the join gives in the part, from the cell that has it. None where no cell has it any more, where the cell is for another
-/// join or has not the whole part, and where what it keeps stands past the position. The cell follows the ranges of base pairs
-/// that were read for it, and the reader takes note that it was used. While another thread has it, this one sleeps.
+/// join or for another rank of it or has not the whole part, and where what it keeps stands past the position. The cell follows
+/// the ranges of base pairs that were read for it, and the reader takes note that it was used. While another thread has it,
+/// this one sleeps.
+///
+/// While this one has it, the reader below reads for it only where the cell is for the rank that is asked for, which is the
+/// reader's own top rank: so only cells of lower ranks are asked for under its lock.
 fn read_cell<N: Naming, W: Wait, G: Gate, R: Stacked<N>, L: Ledger>(
     room: &Room<'_, N, W, G>,
     asked: Asked,

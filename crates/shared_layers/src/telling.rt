@@ -28,6 +28,9 @@ use steps::Steps;
 /// What changed in the join's output in the part since a position, as the cell that has the part says. The cell follows the
 /// ranges of base pairs that were read for it. While another thread has it, this one sleeps.
 ///
+/// While this one has it, the reader below reads for it only where the cell is for the rank that is asked for, which is the
+/// reader's own top rank: so only cells of lower ranks are asked for under its lock.
+///
 /// `All` comes where no cell has the part any more, and where what the cell keeps does not know it once it stands at the later
 /// position.
 fn tell_part<N: Naming, W: Wait, G: Gate, R: Stacked<N>, L: Ledger>(
@@ -110,7 +113,7 @@ fn tell_join<N: Naming, W: Wait, G: Gate, R: Stacked<N>, L: Ledger>(
     ensures moves { Moves R.list R.floor R.went reader.old reader.new }
     ensures counted { steps.old ≤ steps.new }
 {
-    let parts = room.cells.cover(room.rt, asked.at, range, false)?;
+    let parts = room.cells.cover(room.rt, asked.join(), range, false)?;
     tell_parts(room, asked, since, parts.as_slice(), reader, steps)
 }
 

@@ -2,7 +2,7 @@ use Rattle.std.proofs.Common.{◌≤◌, length, IfSome, sym, ap, ◌∙◌, sub
 use Rattle.write_history.specs.Passes.{PassView}
 use Rattle.semantics.specs.Histories.{History}
 use Rattle.shared_cells.specs.Bringing.{IsRankOf}
-use Rattle.range_cells.proofs.TurnLemmas.{rank_among}
+use Rattle.range_cells.proofs.TurnLemmas.{other_rank, rank_among}
 use Rattle.range_cells.proofs.range_cells.RangeCells.bring_cell.Goals as goal
 
 pub bring-brought-requires-clause-rank : goal.bring-brought-requires-clause-rank
@@ -16,3 +16,15 @@ pub returns-in-Ok-clause-within : goal.returns-in-Ok-clause-within
 returns-in-Ok-clause-within g c =
     let view = c.bring-brought.ensures.met ∙ ap (λ (p : PassView). p.view) (sym c.into_parts-pass.ensures) in
     subst (λ (h : History). IfSome c.position-position.result (λ q. q ≤ length h)) view c.position-position.ensures.within
+
+pub returns-in-Ok-clause-left : goal.returns-in-Ok-clause-left
+returns-in-Ok-clause-left g c = λ other.
+    let rank = rank_among c.args.pass.view c.args.p c.at.result c.args.joins.now c.rank_at-rank.result c.requires.joins c.rank_at-rank.ensures.rank c.rank_at-rank.ensures.declared in
+    c.bring-brought.ensures.brings.left
+    (other_rank c.args.pass.view c.args.p c.args.cell.now.at c.args.cell.now.rank c.rank_at-rank.result (subst (λ n. IsRankOf c.args.pass.view c.args.p n c.rank_at-rank.result) c.at.ensures rank) other)
+
+pub returns-in-Err-clause-left : goal.returns-in-Err-clause-left
+returns-in-Err-clause-left g c = λ other.
+    let rank = rank_among c.args.pass.view c.args.p c.at.result c.args.joins.now c.rank_at-rank.result c.requires.joins c.rank_at-rank.ensures.rank c.rank_at-rank.ensures.declared in
+    c.bring-brought.ensures.brings.left
+    (other_rank c.args.pass.view c.args.p c.args.cell.now.at c.args.cell.now.rank c.rank_at-rank.result (subst (λ n. IsRankOf c.args.pass.view c.args.p n c.rank_at-rank.result) c.at.ensures rank) other)

@@ -14,6 +14,7 @@ invariant_of-self g c =
         right = subst (λ (at : ℕ). IsRightFor c.meet.new.pass.view at c.args.state) (sym (ap (λ (cell : CellView). cell.at) c.self.view_is))
             (right_over_longer (list c.args.reader.now) c.meet.new.pass.view c.args.self.now.at c.args.state
             (subst (IsPrefix (list c.args.reader.now)) (sym c.meet.ensures.met) c.meet.ensures.moves.kept) c.requires.right);
+        ranked = c.requires.ranked ∙ sym (ap (λ (cell : CellView). cell.rank) c.self.view_is);
         just = c.requires.just ∙ sym (ap (λ (cell : CellView). cell.range) c.self.view_is);
       };
     }

@@ -42,3 +42,15 @@ returns-clause-moves g c =
 
 pub returns-in_err-read-clause-left : goal.returns-in_err-read-clause-left
 returns-in_err-read-clause-left g c = λ cannot. absurd (none-some c.in-Some.state (sym (c.in_ok-state.ensures.none cannot) ∙ c.in-Some.is))
+
+pub returns-in_err-read-clause-idle : goal.returns-in_err-read-clause-idle
+returns-in_err-read-clause-idle g c = λ cannot. absurd (none-some c.in-Some.state (sym (c.in_ok-state.ensures.none cannot) ∙ c.in-Some.is))
+
+pub returns-clause-idle : goal.returns-clause-idle
+returns-clause-idle g c = λ cannot. absurd (none-some c.in-Some.state (sym (c.in_ok-state.ensures.none cannot) ∙ c.in-Some.is))
+
+pub returns-clause-none : goal.returns-clause-none
+returns-clause-none g c = λ cannot. absurd (none-some c.in-Some.state (sym (c.in_ok-state.ensures.none cannot) ∙ c.in-Some.is))
+
+pub returns-clause-left : goal.returns-clause-left
+returns-clause-left g c = λ cannot. absurd (none-some c.in-Some.state (sym (c.in_ok-state.ensures.none cannot) ∙ c.in-Some.is))

@@ -55,3 +55,6 @@ returns-clause-brought g c = λ s can.
 
 pub returns-clause-left : goal.returns-clause-left
 returns-clause-left g c = λ cannot. absurd (none-some c.in-Some.state (sym (c.in_ok-state.ensures.none cannot) ∙ c.in-Some.is))
+
+pub returns-clause-idle : goal.returns-clause-idle
+returns-clause-idle g c = λ cannot. absurd (none-some c.in-Some.state (sym (c.in_ok-state.ensures.none cannot) ∙ c.in-Some.is))

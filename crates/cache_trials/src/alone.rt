@@ -47,7 +47,8 @@ fn expect_alike<S: Service + Drop, R: Abort>(
         };
         let reply = line_of(alloc, &ask.put_to(rt, alloc, &mut service))?;
         let wanted = line_of(alloc, &ask.put_to(rt, alloc, &mut plain))?;
-        assert!(rt; reply.as_slice() == wanted.as_slice());
+        let is_alike = reply.as_slice() == wanted.as_slice();
+        assert!(rt; is_alike, "drawn from {number}, request {place}");
     }
     Ok(())
 }

@@ -35,10 +35,10 @@ impl Answered {
 /// No reply names fewer entries than one before it, and each write that entered comes behind all of these.
 pub fn expect_ascending<R: Abort>(rt: &R, answers: &[Answered]) {
     let mut last = 0;
-    for answered in answers {
+    for (place, answered) in answers.iter().enumerate() {
         let position = answered.position(rt);
         let later = last < position || last == position && !answered.has_entered();
-        assert!(rt; later);
+        assert!(rt; later, "answer {place}: position {position} after {last}");
         last = position;
     }
 }
@@ -91,7 +91,7 @@ impl Afresh {
             Reply::Found(_, value) => Reply::Found(position, value),
             Reply::Absent(_) => Reply::Absent(position),
             Reply::Pairs(_, pairs) => Reply::Pairs(position, pairs),
-            _ => panic!(rt; "a reply that finds nothing and misses nothing"),
+            _ => panic!(rt; "position {position}: evaluation afresh answers no read"),
         }
     }
 
@@ -126,10 +126,12 @@ impl Afresh {
 
     /// The client was answered what is right at this point.
     fn expect<R: Abort>(&mut self, rt: &R, answered: &Answered) {
+        let position = answered.position(rt);
         let wanted = self.reply(rt, answered.ask);
         let wanted = line_of(rt, self.alloc, &wanted);
         let found = line_of(rt, self.alloc, &answered.reply);
-        assert!(rt; found.as_slice() == wanted.as_slice());
+        let is_right = found.as_slice() == wanted.as_slice();
+        assert!(rt; is_right, "position {position}");
         if answered.has_entered() {
             self.enter(rt, answered.ask);
         }

@@ -110,6 +110,31 @@ read 4 n| n}
 ",
 };
 
+/// Another join is declared whose output the first one reads, so that the rank of the first one rises. It is given another cell
+/// then: the one that it had stays, is not advanced or let go, and serves reads before the change, until it is evicted.
+const RAISED: Row = Row {
+    cells: 4,
+    limit: 100,
+    lines: "write b|<x> = copy a|<x>
+read 1 b| b}
+write a|<x> = copy c|<x>
+write c|1=A
+read 3 b| b}
+read 3 b| b}
+read 1 b| b}
+evict 3
+read 3 b| b}
+read 1 b| b}
+",
+    wanted: "1:
+2: b|1=A
+0: b|1=A
+0:
+0: b|1=A
+1:
+",
+};
+
 /// Where there is one cell, one range is kept, until it is evicted. A cell that is not there is not evicted.
 const ONE_CELL: Row = Row {
     cells: 1,
@@ -205,6 +230,29 @@ idle
 ",
 };
 
+/// A cell for a rank that its join has no more is left where it stands by the turn that finds it marked. A read after the
+/// change gives the join another cell, and the one that it had still serves a read before it.
+const TURNED_RAISED: Row = Row {
+    cells: 4,
+    limit: 100,
+    lines: "write b|<x>|<y> = check s|<x> copy a|<x>|<y>
+read 1 b| b}
+write a|<x>|<y> = copy c|<x>|<y>
+write s|1=1
+turn cells
+turn cells
+write c|1|2=A
+read 4 b| b}
+read 1 b| b}
+",
+    wanted: "1:
+brought 3 to 1
+idle
+2: b|1|2=A
+0:
+",
+};
+
 /// A read afresh asks for the base pairs of the range, of which there are none, and for one pair of each source. What is kept
 /// is read again with the first of these questions, and one for the row.
 const KEPT_COST: Row = Row {
@@ -265,15 +313,17 @@ least 7 4 t|ann| t|ann}
 };
 
 /// All of them.
-pub const ROWS: [Row; 12] = [
+pub const ROWS: [Row; 14] = [
     KEPT,
     TOO_HEAVY,
     PULLED,
     EARLIER,
     ONE_OVER_ANOTHER,
+    RAISED,
     ONE_CELL,
     TURNED,
     TURNED_OVER_ANOTHER,
+    TURNED_RAISED,
     KEPT_COST,
     TOO_HEAVY_COST,
     TURNED_COST,

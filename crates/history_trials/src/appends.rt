@@ -15,7 +15,7 @@ use std::thread::Threads;
 use write_history::{AppendFault, History, Pass};
 
 /// The put of a number at a key.
-fn put_of(rt: &impl Abort, alloc: Global, key: &str, number: u32) -> Write {
+pub fn put_of(rt: &impl Abort, alloc: Global, key: &str, number: u32) -> Write {
     let text = format!(in alloc; "{number}").expect(rt, "memory");
     let key = Key::read(alloc, key).expect(rt, "a key");
     Write::Put(key, Value::read(alloc, text.as_str()).expect(rt, "a value"))
@@ -229,7 +229,7 @@ fn fixed(rt: &impl Abort, alloc: Global, table: &str) -> Result<Pattern, Fail>
 }
 
 /// The join `output|x = copy a|x`.
-fn copy_of(rt: &impl Abort, alloc: Global, output: &str) -> Result<Join, Fail> {
+pub fn copy_of(rt: &impl Abort, alloc: Global, output: &str) -> Result<Join, Fail> {
     let made = fixed(rt, alloc, output)?;
     let pattern = fixed(rt, alloc, "a")?;
     let source = JoinSource {

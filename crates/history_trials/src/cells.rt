@@ -5,7 +5,7 @@ ghost use Rattle.std.specs.Arc.{arc_value};
 use base_shards::{BaseShards, Naming};
 use key_space::Range;
 use out_of_memory::OutOfMemory;
-use shared_cells::{Part, SharedCells};
+use shared_cells::{Part, RankedJoin, SharedCells};
 use shared_reader::Use;
 use std::alloc::Global;
 use std::marker::Brand;
@@ -13,6 +13,15 @@ use std::process::Abort;
 use std::sync::{Arc, Wait};
 use std::test::Fail;
 use write_history::{History, Pass};
+
+/// The join that was declared first, while it has the lowest rank.
+const FIRST: RankedJoin = RankedJoin { at: 1, rank: 0 };
+
+/// The same join while it has the next rank.
+const RAISED: RankedJoin = RankedJoin { at: 1, rank: 1 };
+
+/// Another join.
+const SECOND: RankedJoin = RankedJoin { at: 2, rank: 0 };
 
 /// A history, and so many passes of it.
 fn make_passes(alloc: Global, count: u32) -> Result<(History, Vec<Pass>), OutOfMemory>
@@ -54,18 +63,18 @@ fn shown<N: Naming>(alloc: Global, parts: &[Part<N>]) -> Result<String, Fail> {
     Ok(text)
 }
 
-/// Covers a range of the join that was declared at a position, and compares the parts.
+/// Covers a range of the join with its rank, and compares the parts.
 fn cover<N: Naming, R: Wait + Abort>(
     rt: &R,
     alloc: Global,
     cells: &SharedCells<N>,
-    at: u64,
+    join: RankedJoin,
     bounds: (&str, &str),
     keep: bool,
     wanted: &str,
 ) -> Result<(), Fail> {
     let range = range_of(rt, alloc, bounds.0, bounds.1);
-    let parts = cells.cover(rt, at, &range, keep)?;
+    let parts = cells.cover(rt, join, &range, keep)?;
     assert!(rt; shown(alloc, parts.as_slice())?.as_str() == wanted);
     Ok(())
 }
@@ -77,19 +86,49 @@ fn give_two<N: Naming, R: Wait + Abort>(
     cells: &SharedCells<N>,
 ) -> Result<(), Fail> {
     let rows = [
-        (1, "t|b", "t|c", false, "t|b t|c -, "),
-        (1, "t|b", "t|c", true, "t|b t|c 1, "),
-        (1, "t|b", "t|c", false, "t|b t|c 1, "),
-        (2, "t|b", "t|c", false, "t|b t|c -, "),
-        (1, "t|a", "t|d", true, "t|a t|b 0, t|b t|c 1, t|c t|d -, "),
-        (2, "t|b", "t|c", true, "t|b t|c -, "),
-        (1, "t|ab", "t|bb", true, "t|ab t|b 0, t|b t|bb 1, "),
-        (1, "t|a", "t|a", true, ""),
+        (FIRST, "t|b", "t|c", false, "t|b t|c -, "),
+        (FIRST, "t|b", "t|c", true, "t|b t|c 1, "),
+        (FIRST, "t|b", "t|c", false, "t|b t|c 1, "),
+        (SECOND, "t|b", "t|c", false, "t|b t|c -, "),
+        (RAISED, "t|b", "t|c", false, "t|b t|c -, "),
+        (
+            FIRST,
+            "t|a",
+            "t|d",
+            true,
+            "t|a t|b 0, t|b t|c 1, t|c t|d -, ",
+        ),
+        (SECOND, "t|b", "t|c", true, "t|b t|c -, "),
+        (FIRST, "t|ab", "t|bb", true, "t|ab t|b 0, t|b t|bb 1, "),
+        (FIRST, "t|a", "t|a", true, ""),
     ];
-    for (at, low, high, keep, wanted) in rows {
-        cover(rt, alloc, cells, at, (low, high), keep, wanted)?;
+    for (join, low, high, keep, wanted) in rows {
+        cover(rt, alloc, cells, join, (low, high), keep, wanted)?;
     }
     Ok(())
+}
+
+/// A range has a cell for each rank of its join, and where one is evicted the other stays.
+fn give_two_ranks<N: Naming, R: Wait + Abort>(
+    rt: &R,
+    alloc: Global,
+    cells: &SharedCells<N>,
+    shards: &BaseShards<N>,
+) -> Result<(), Fail> {
+    let rows = [
+        (FIRST, true, "t|b t|c 1, "),
+        (RAISED, false, "t|b t|c -, "),
+        (RAISED, true, "t|b t|c 0, "),
+        (FIRST, true, "t|b t|c 1, "),
+        (RAISED, true, "t|b t|c 0, "),
+    ];
+    let bounds = ("t|b", "t|c");
+    for (join, keep, wanted) in rows {
+        cover(rt, alloc, cells, join, bounds, keep, wanted)?;
+    }
+    evict(rt, cells, shards, 1)?;
+    cover(rt, alloc, cells, FIRST, bounds, false, "t|b t|c -, ")?;
+    cover(rt, alloc, cells, RAISED, bounds, false, "t|b t|c 0, ")
 }
 
 /// The two cells are evicted, and their numbers and ranges are given again.
@@ -103,9 +142,10 @@ fn evict_two<N: Naming, R: Wait + Abort>(
     evict(rt, cells, shards, 1)?;
     cells.evict(rt, shards, 1);
     cells.evict(rt, shards, 2);
-    cover(rt, alloc, cells, 2, ("t|b", "t|c"), true, "t|b t|c 1, ")?;
+    let bounds = ("t|b", "t|c");
+    cover(rt, alloc, cells, SECOND, bounds, true, "t|b t|c 1, ")?;
     evict(rt, cells, shards, 0)?;
-    cover(rt, alloc, cells, 1, ("t|", "t}"), true, "t| t} 0, ")
+    cover(rt, alloc, cells, FIRST, ("t|", "t}"), true, "t| t} 0, ")
 }
 
 /// A cell whose pass has not come back gives its number to no range, as while another thread evicts it.
@@ -119,7 +159,7 @@ fn lose_one<N: Naming, R: Wait + Abort>(
     let shared = cells.find(rt, 1)?.expect(rt, "a cell");
     assert!(rt; shared.lock(rt).take().is_some());
     evict(rt, cells, shards, 1)?;
-    cover(rt, alloc, cells, 1, ("t|b", "t|c"), true, "t|b t|c -, ")
+    cover(rt, alloc, cells, FIRST, ("t|b", "t|c"), true, "t|b t|c -, ")
 }
 
 /// Of a table 32 ranges have a cell. They are read with 32 gaps as 64 parts, and with one gap more as one part.
@@ -138,15 +178,15 @@ fn give_many<N: Naming, R: Wait + Abort>(
     for number in 10..42u32 {
         let low = format!(in alloc; "t|{number}a")?;
         let high = format!(in alloc; "t|{number}b")?;
-        let parts = cells.cover(rt, 1, &range_of(rt, alloc, &low, &high), true)?;
+        let parts = cells.cover(rt, FIRST, &range_of(rt, alloc, &low, &high), true)?;
         assert!(rt; parts.len() == 1);
     }
-    let parts = cells.cover(rt, 1, &range_of(rt, alloc, "t|", "t|41b"), false)?;
+    let parts = cells.cover(rt, FIRST, &range_of(rt, alloc, "t|", "t|41b"), false)?;
     assert!(rt; parts.len() == 64);
     let bounds = ("t|", "t|41c");
-    cover(rt, alloc, &cells, 1, bounds, true, "t| t|41c -, ")?;
+    cover(rt, alloc, &cells, FIRST, bounds, true, "t| t|41c -, ")?;
     let bounds = ("t|41b", "t|41c");
-    cover(rt, alloc, &cells, 1, bounds, false, "t|41b t|41c -, ")
+    cover(rt, alloc, &cells, FIRST, bounds, false, "t|41b t|41c -, ")
 }
 
 #[test]
@@ -181,13 +221,13 @@ fn settle_two<N: Naming + Send + Sync, R: Wait + Abort>(
 ) -> Result<(), Fail> {
     share(cells);
     for (low, high) in [("t|a", "t|b"), ("t|b", "t|c")] {
-        cells.cover(rt, 1, &range_of(rt, alloc, low, high), true)?;
+        cells.cover(rt, FIRST, &range_of(rt, alloc, low, high), true)?;
     }
     cover(
         rt,
         alloc,
         cells,
-        1,
+        FIRST,
         ("t|a", "t|c"),
         false,
         "t|a t|b 1, t|b t|c 0, ",
@@ -202,19 +242,20 @@ fn settle_two<N: Naming + Send + Sync, R: Wait + Abort>(
         rt,
         alloc,
         cells,
-        1,
+        FIRST,
         ("t|a", "t|c"),
         false,
         "t|a t|b -, t|b t|c 0, ",
     )?;
     evict(rt, cells, shards, 0)?;
     cells.evict(rt, shards, 7);
-    cover(rt, alloc, cells, 1, ("t|a", "t|c"), true, "t|a t|c 0, ")
+    cover(rt, alloc, cells, FIRST, ("t|a", "t|c"), true, "t|a t|c 0, ")
 }
 
 /// What is tried on two cells.
 #[derive(Clone, Copy)]
 enum Tried {
+    Ranked,
     Evicted,
     Lost,
     Settled,
@@ -238,6 +279,7 @@ fn make_and_try<N: Naming + Send + Sync, R: Wait + Abort>(
     let shards: BaseShards<N> = BaseShards::new(alloc, history, shards, 2)?;
     let cells: SharedCells<N> = SharedCells::new(alloc, cells, 6)?;
     match tried {
+        Tried::Ranked => give_two_ranks(rt, alloc, &cells, &shards),
         Tried::Evicted => evict_two(rt, alloc, &cells, &shards),
         Tried::Lost => lose_one(rt, alloc, &cells, &shards),
         Tried::Settled => settle_two(rt, alloc, &cells, &shards),
@@ -247,7 +289,8 @@ fn make_and_try<N: Naming + Send + Sync, R: Wait + Abort>(
 #[test]
 fn cells_are_given_evicted_and_settled(rt: HostRuntime) -> Result<(), Fail> {
     let alloc = rt.alloc();
-    for tried in [Tried::Evicted, Tried::Lost, Tried::Settled] {
+    let all = [Tried::Ranked, Tried::Evicted, Tried::Lost, Tried::Settled];
+    for tried in all {
         let (history, shards, cells) = make_seats(alloc)?;
         make_and_try::<Brand, _>(&rt, alloc, Arc::new(alloc, history)?, shards, cells, tried)?;
     }

@@ -1,5 +1,5 @@
 -- Sets of joins: whose output a key fits, and where positions stand.
-use Rattle.std.specs.Prelude.{◌≡◌, ℕ, ◌<◌, List, length, find, Option, None, option_map}
+use Rattle.std.specs.Prelude.{◌≡◌, ℕ, ◌<◌, List, length, find, fold, Option, None, option_map}
 use Rattle.std.specs.List.{All}
 use Rattle.semantics.specs.Texts.{Text}
 use Rattle.semantics.specs.Patterns.{fits}
@@ -15,6 +15,10 @@ owner_of key joins = option_map (λ s. s.position) (find (λ s. fits s.join.outp
 -- each position of the set is below the bound
 abbrev pub AreBelow : ℕ → List DeclaredJoin → Type 0
 AreBelow bound joins = All (λ s. s.position < bound) joins
+
+-- the position of the last join, 0 where there is none
+abbrev pub last_position : List DeclaredJoin → ℕ
+last_position joins = fold (λ position s. s.position) 0 joins
 
 -- a set that may stand, and the ranks of its joins
 pub record IsRanked (joins : List DeclaredJoin) (ranks : List ℕ) : Type 0 where

@@ -4,7 +4,7 @@ ghost use Rattle.semantics.specs.Histories.{is_computed};
 ghost use Rattle.semantics.specs.States.{IsAdmissible, ranks_of};
 ghost use Rattle.semantics.specs.Verdicts.{join_cause, joined};
 ghost use Rattle.join_set.specs.Faults.{IsFaultOf};
-ghost use Rattle.join_set.specs.Sets.{owner_of, AreBelow};
+ghost use Rattle.join_set.specs.Sets.{owner_of, last_position, AreBelow};
 
 use crate::fault::AddFault;
 use crate::stands::{Stands, copy_all, owner};
@@ -78,6 +78,17 @@ impl JoinSet {
         ensures { option_map (λ s. s.position) (slice_get self.now i) ≡ Some result }
     {
         self.joins[i].position
+    }
+
+    /// Gives the position of the last declaration, 0 where there is no join: it tells whether the joins that somebody else knows
+    /// are these. It takes constant time.
+    pub fn changed_at(&self) -> u64
+        ensures { result ≡ last_position self.now }
+    {
+        match self.joins.last() {
+            Some(stands) => stands.position,
+            None => 0,
+        }
     }
 
     /// The rank of the join with this number, at most 7: 0 where it reads none, otherwise 1 more than the greatest rank

@@ -4,8 +4,8 @@ use Rattle.std.specs.Prelude.{slice_get}
 use Rattle.std.proofs.lemmas.List.{length-append}
 use Rattle.std.proofs.lemmas.Option.{same_Some}
 use Rattle.atomic_table.specs.Seated.{TableId}
+use Rattle.semantics.specs.Histories.{DeclaredJoin}
 use Rattle.semantics.proofs.EnteredLemmas.{AllEntered-nil}
-use Rattle.join_set.specs.Summaries.{Summary}
 use Rattle.write_history.specs.Passes.{PassView, GoesOn, new_pass}
 use Rattle.write_history.specs.Entries.{IsRecorded}
 use Rattle.base_shards.specs.Reading.{ReadsOn}
@@ -15,7 +15,7 @@ use Rattle.pequod_cache.specs.Sitting.{AreWriters, IsFresh}
 use Rattle.pequod_cache.proofs.JoinsLemmas.{keeps_longer}
 
 -- with a pass that has gone on
-pub client_goes_on : (history : TableId) (pass : Option PassView) (old new : PassView) (joins : Summary) → IsClient history pass joins → pass ≡ Some old → GoesOn old new → IsClient history (Some new) joins
+pub client_goes_on : (history : TableId) (pass : Option PassView) (old new : PassView) (joins : List DeclaredJoin) → IsClient history pass joins → pass ≡ Some old → GoesOn old new → IsClient history (Some new) joins
 client_goes_on history pass old new joins client is goes =
     let same : client.has ≡ old = same_Some client.has old (sym client.is ∙ is) in
     record {
@@ -28,11 +28,10 @@ client_goes_on history pass old new joins client is goes =
     }
 
 -- with a pass that looked and then read on, and with joins that were brought there
-pub client_reads_on : (history : TableId) (pass : Option PassView) (old looked brought new : PassView) (before joins : Summary) → IsClient history pass before → pass ≡ Some old →
-    GoesOn old looked → brought ≡ looked → KeepsJoins joins looked.view → ReadsOn brought new → IsClient history (Some new) joins
-client_reads_on history pass old looked brought new before joins client is goes stays kept reads =
+pub client_reads_on : (history : TableId) (pass : Option PassView) (old looked new : PassView) (before joins : List DeclaredJoin) → IsClient history pass before → pass ≡ Some old →
+    GoesOn old looked → KeepsJoins joins looked.view → ReadsOn looked new → IsClient history (Some new) joins
+client_reads_on history pass old looked new before joins client is goes kept on =
     let then = client_goes_on history pass old looked before client is goes in
-    let on : ReadsOn looked new = subst (λ (p : PassView). ReadsOn p new) stays reads in
     record {
       has = new;
       is = refl;
@@ -42,24 +41,26 @@ client_reads_on history pass old looked brought new before joins client is goes 
       kept = keeps_longer joins looked.view new.view on.begins kept;
     }
 
--- an updater with a pass that looked and then read on, and with joins that were brought there
-pub updater_reads_on : (history : TableId) (pass : Option PassView) (old looked brought new : PassView) (before joins : Summary) → IsUpdater history pass before → pass ≡ Some old →
-    GoesOn old looked → brought ≡ looked → KeepsJoins joins looked.view → ReadsOn brought new → IsUpdater history (Some new) joins
-updater_reads_on history pass old looked brought new before joins updater is goes stays kept reads =
-    let on : ReadsOn looked new = subst (λ (p : PassView). ReadsOn p new) stays reads in
-    record {
-      has = new;
-      is = refl;
-      same_history = on.same_history ∙ goes.same_history ∙ sym (ap (λ (p : PassView). p.history) (same_Some updater.has old (sym updater.is ∙ is))) ∙ updater.same_history;
-      recorded = on.recorded goes.recorded;
-      kept = keeps_longer joins looked.view new.view on.begins kept;
-    }
+-- with a pass that looked alone
+pub client_stays : (history : TableId) (pass : Option PassView) (old looked : PassView) (before joins : List DeclaredJoin) → IsClient history pass before → pass ≡ Some old →
+    GoesOn old looked → KeepsJoins joins looked.view → IsClient history (Some looked) joins
+client_stays history pass old looked before joins client is goes kept = client_reads_on history pass old looked looked before joins client is goes kept (reads_on-refl looked)
 
--- with a pass that looked alone, and joins that were brought nearer
-pub updater_stays : (history : TableId) (pass : Option PassView) (old looked brought : PassView) (before joins : Summary) → IsUpdater history pass before → pass ≡ Some old →
-    GoesOn old looked → brought ≡ looked → KeepsJoins joins looked.view → IsUpdater history (Some brought) joins
-updater_stays history pass old looked brought before joins updater is goes stays kept =
-    updater_reads_on history pass old looked brought brought before joins updater is goes stays kept (reads_on-refl brought)
+-- an updater with a pass that looked and then read on, and with joins that were brought there
+pub updater_reads_on : (history : TableId) (pass : Option PassView) (old looked new : PassView) (before joins : List DeclaredJoin) → IsUpdater history pass before → pass ≡ Some old →
+    GoesOn old looked → KeepsJoins joins looked.view → ReadsOn looked new → IsUpdater history (Some new) joins
+updater_reads_on history pass old looked new before joins updater is goes kept on = record {
+  has = new;
+  is = refl;
+  same_history = on.same_history ∙ goes.same_history ∙ sym (ap (λ (p : PassView). p.history) (same_Some updater.has old (sym updater.is ∙ is))) ∙ updater.same_history;
+  recorded = on.recorded goes.recorded;
+  kept = keeps_longer joins looked.view new.view on.begins kept;
+}
+
+-- with a pass that looked alone
+pub updater_stays : (history : TableId) (pass : Option PassView) (old looked : PassView) (before joins : List DeclaredJoin) → IsUpdater history pass before → pass ≡ Some old →
+    GoesOn old looked → KeepsJoins joins looked.view → IsUpdater history (Some looked) joins
+updater_stays history pass old looked before joins updater is goes kept = updater_reads_on history pass old looked looked before joins updater is goes kept (reads_on-refl looked)
 
 -- a pass that has seen nothing may have seen that
 pub fresh_is_recorded : (history : TableId) (pass : PassView) → IsFresh history pass → IsRecorded pass.writers pass.view

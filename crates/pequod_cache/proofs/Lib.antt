@@ -1,4 +1,3 @@
 pub mod ToldLemmas
 pub mod JoinsLemmas
-pub mod SettledLemmas
 pub mod ClientLemmas

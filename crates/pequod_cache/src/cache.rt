@@ -1,19 +1,22 @@
 // The cache that threads share.
-ghost use Rattle.std.specs.Prelude.{◌≡◌, ℕ, ◌<◌, ◌≤◌, length, slice_get, IfOk, Some};
+ghost use Rattle.std.specs.Prelude.{◌≡◌, ℕ, ◌<◌, ◌≤◌, length, slice_get, IfOk, OnOk, Some};
 ghost use Rattle.std.specs.Arc.{arc_value};
-ghost use Rattle.write_history.specs.Passes.{new_pass};
+ghost use Rattle.semantics.specs.Histories.{joins_of};
+ghost use Rattle.write_history.specs.Passes.{GoesOn, new_pass, own};
+ghost use Rattle.pequod_cache.specs.Clients.{KeepsJoins};
 ghost use Rattle.pequod_cache.specs.Sitting.{AreOf, AreWriters, IsFresh};
 
 use crate::client::Client;
 use crate::seats::Seats;
 use crate::updater::Updater;
 use base_shards::{BaseShards, Naming};
+use join_set::JoinSet;
 use out_of_memory::OutOfMemory;
 use pq_io::Gate;
 use range_cells::RangeCells;
 use std::alloc::Global;
-use std::sync::Arc;
-use write_history::{History, Pass};
+use std::sync::{Arc, Wait};
+use write_history::{History, Looked, Pass};
 
 /// What all clients of a cache share: the write history, the base pairs, and what is kept of the joins' outputs.
 #[derive(Drop)]
@@ -116,5 +119,36 @@ impl<N: Naming> Cache<N> {
         let cache = Cache::share(alloc, seats.history, seats.shards, seats.cells, limit)?;
         let clients = Cache::seat(alloc, &cache, seats.clients, gate)?;
         Ok((clients, Updater::new(alloc, cache, seats.updater, gate)))
+    }
+
+    /// Extends the view of the pass to all entries of the history, brings the joins there, and gives the number of entries. It
+    /// compares two numbers, and after a declaration copies the joins that stand, at most 64. While another thread has the history's
+    /// turn, this one sleeps.
+    ///
+    /// On `OutOfMemory` the view is extended all the same, and the joins are as they were.
+    pub(crate) fn look<R: Wait>(
+        &self,
+        rt: &R,
+        pass: &mut Pass,
+        joins: &mut JoinSet,
+    ) -> Result<u64, OutOfMemory>
+        requires same_history { pass.old.history ≡ N.history }
+        requires kept { KeepsJoins joins.old pass.old.view }
+        ensures goes_on { GoesOn pass.old pass.new }
+        ensures own { own pass.new ≡ own pass.old }
+        ensures length { IfOk result (λ position. position ≡ length pass.new.view) }
+        ensures kept { KeepsJoins joins.new pass.new.view }
+        ensures brought { OnOk result (joins.new ≡ joins_of pass.new.view) }
+    {
+        let looked = self.history.look_joins(rt, pass, joins.changed_at())?;
+        let Looked {
+            length,
+            joins: told,
+        } = looked;
+        let Some(found) = told else {
+            return Ok(length);
+        };
+        *joins = found;
+        Ok(length)
     }
 }

@@ -11,8 +11,8 @@ ghost use Rattle.write_history.specs.Passes.{GoesOn, own};
 ghost use Rattle.pequod_cache.specs.Clients.{IsFound};
 
 use crate::cache::Cache;
-use crate::joins::{KnownJoins, bring_joins};
 use base_shards::Naming;
+use join_set::JoinSet;
 use join_types::{Join, Pair, Write};
 use key_space::{Key, Range, Value};
 use out_of_memory::OutOfMemory;
@@ -35,7 +35,7 @@ pub struct Found {
     pub pairs: Vec<Pair>,
 }
 
-/// One client of a cache: a pass of the write history, and the joins after a beginning of what it has seen. Contracts see it as
+/// One client of a cache: a pass of the write history, and the joins up to a declaration that it has seen. Contracts see it as
 /// its pass. Clients on different threads use one cache.
 #[derive(Drop)]
 pub struct Client<'g, N: Naming, G> {
@@ -44,7 +44,7 @@ pub struct Client<'g, N: Naming, G> {
     gate: &'g G,
     /// None while the pass is lent to a read.
     pass: Option<Pass>,
-    joins: KnownJoins,
+    joins: JoinSet,
 }
 
 impl<'g, N: Naming, G> Model for Client<'g, N, G> {
@@ -76,7 +76,7 @@ impl<'g, N: Naming, G> Client<'g, N, G> {
             cache,
             gate,
             pass: Some(pass),
-            joins: KnownJoins::new(alloc),
+            joins: JoinSet::new(alloc),
         }
     }
 }
@@ -124,7 +124,8 @@ impl<'g, N: Naming, G: Gate> Client<'g, N, G> {
     }
 
     /// The pairs of the range in the state after all entries that the history has now: it looks first, brings its joins there, and
-    /// reads there. While another thread has what it needs, this one sleeps.
+    /// reads there. For the joins it compares two numbers; after a declaration it copies those that stand once, at most 64. While
+    /// another thread has what it needs, this one sleeps.
     ///
     /// It may report that it found no memory.
     pub fn read<R: Wait>(&mut self, rt: &R, range: &Range) -> Result<Found, OutOfMemory>
@@ -152,15 +153,13 @@ impl<'g, N: Naming, G: Gate> Client<'g, N, G> {
         let Some(mut pass) = self.pass.take() else {
             unreachable!()
         };
-        let history = &self.cache.history;
-        let position = history.look(rt, &mut pass);
-        let brought = bring_joins(rt, history, &mut pass, &mut self.joins, position);
-        if let Err(error) = brought {
+        let looked = self.cache.look(rt, &mut pass, &mut self.joins);
+        let Ok(position) = looked else {
             self.pass = Some(pass);
-            return Err(error);
-        }
+            return Err(OutOfMemory);
+        };
         let mut steps: Steps<L> = Steps::open(blank);
-        let joins = self.joins.joins();
+        let joins = &self.joins;
         let cells = &self.cache.cells;
         let reading = cells.read(rt, pass, joins, position, range, self.gate, &mut steps);
         let Reading { pass, found } = reading;

@@ -10,7 +10,6 @@
 pub mod alone;
 pub mod cache;
 pub mod client;
-mod joins;
 pub mod seats;
 pub mod service;
 pub mod updater;

@@ -5,8 +5,8 @@ ghost use Rattle.write_history.specs.Passes.{GoesOn, own};
 ghost use Rattle.range_cells.specs.Turns.{IsWithinView};
 
 use crate::cache::Cache;
-use crate::joins::{KnownJoins, bring_joins};
 use base_shards::Naming;
+use join_set::JoinSet;
 use pq_io::Gate;
 use range_cells::{Turn, Turned};
 use std::alloc::Global;
@@ -17,7 +17,7 @@ use steps::Steps;
 use write_history::Pass;
 
 /// The updater of a cache: it brings kept ranges forward when pairs that they read were written, so that a read finds them where
-/// it reads. It writes nothing. It has a pass of the write history, and the joins after a beginning of what that has seen;
+/// it reads. It writes nothing. It has a pass of the write history, and the joins up to a declaration that that has seen;
 /// contracts see it as its pass. It runs beside the clients, on a thread of its own.
 #[derive(Drop)]
 pub struct Updater<'g, N: Naming, G> {
@@ -25,7 +25,7 @@ pub struct Updater<'g, N: Naming, G> {
     gate: &'g G,
     /// None while the pass is lent to a turn.
     pass: Option<Pass>,
-    joins: KnownJoins,
+    joins: JoinSet,
 }
 
 impl<'g, N: Naming, G> Model for Updater<'g, N, G> {
@@ -55,7 +55,7 @@ impl<'g, N: Naming, G> Updater<'g, N, G> {
             cache,
             gate,
             pass: Some(pass),
-            joins: KnownJoins::new(alloc),
+            joins: JoinSet::new(alloc),
         }
     }
 }
@@ -84,15 +84,13 @@ impl<'g, N: Naming, G: Gate> Updater<'g, N, G> {
         let Some(mut pass) = self.pass.take() else {
             unreachable!()
         };
-        let history = &self.cache.history;
-        let position = history.look(rt, &mut pass);
-        let brought = bring_joins(rt, history, &mut pass, &mut self.joins, position);
-        if brought.is_err() {
+        let looked = self.cache.look(rt, &mut pass, &mut self.joins);
+        let Ok(position) = looked else {
             self.pass = Some(pass);
             return Turn::OutOfMemory;
-        }
+        };
         let mut steps: Steps<L> = Steps::open(blank);
-        let joins = self.joins.joins();
+        let joins = &self.joins;
         let cells = &self.cache.cells;
         let turned = cells.turn(rt, pass, joins, position, self.gate, &mut steps);
         let Turned { pass, turn } = turned;

@@ -5,3 +5,4 @@ pub mod Entering
 pub mod Fitting
 pub mod Turning
 pub mod Appending
+pub mod Telling

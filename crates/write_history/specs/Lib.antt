@@ -5,4 +5,5 @@ pub mod Seats
 pub mod Rule
 pub mod Steps
 pub mod Takes
+pub mod Looks
 pub mod Faults

@@ -1,7 +1,7 @@
 // The history that all threads share.
-ghost use Rattle.std.specs.Prelude.{◌≡◌, ℕ, ◌+◌, ◌-◌, ◌<◌, ◌≤◌, [], ◌∷◌, ◌++◌, length, slice_get, take, drop, IfOk, IfErr, OnErr, OnOk, Some};
+ghost use Rattle.std.specs.Prelude.{◌≡◌, ℕ, ◌+◌, ◌-◌, ◌<◌, ◌≤◌, [], ◌∷◌, ◌++◌, length, slice_get, take, drop, IfOk, IfErr, OnErr, OnOk, IfSome, IfNone, Some};
 ghost use Rattle.join_types.specs.Writes.{plain_write};
-ghost use Rattle.semantics.specs.Histories.{IsPrefix};
+ghost use Rattle.semantics.specs.Histories.{IsPrefix, changed_at, joins_of};
 ghost use Rattle.write_history.specs.Entries.{EndsWith};
 ghost use Rattle.write_history.specs.Passes.{GoesOn, entry_by, new_pass, own};
 ghost use Rattle.write_history.specs.Faults.{SaysWhy};
@@ -11,10 +11,11 @@ ghost use Rattle.write_history.specs.Steps.{IsSized};
 use crate::fault::AppendFault;
 use crate::known::Kinds;
 use crate::log::Log;
+use crate::looked::Looked;
 use crate::pass::Pass;
 use crate::plays::Deal;
 use crate::rule::{Board, Place, SharedBoard};
-use crate::turn::{copy_entries, enter, free_turn, look, take_turn, tell};
+use crate::turn::{copy_entries, enter, free_turn, look, look_joins, take_turn, tell};
 use join_types::{Entry, Write};
 use out_of_memory::OutOfMemory;
 use std::alloc::Global;
@@ -143,6 +144,32 @@ impl History {
         let length = look(board, &mut pass.place);
         free_turn(board, &mut pass.place);
         length
+    }
+
+    /// Extends the view of the pass to all entries of the history, as `look` does, and gives their number and the joins that stand
+    /// after them. It takes the position of a declaration that is known, or 0. Where this is the position of the last declaration,
+    /// or none is declared, the joins are those after the first so many entries, and it gives none.
+    ///
+    /// It costs a look and compares two numbers. Where they differ, it copies the joins, at most 64, under the turn. While another
+    /// thread has the turn, this one sleeps. On `OutOfMemory` the view is extended all the same.
+    pub fn look_joins<R: Wait>(
+        &self,
+        rt: &R,
+        pass: &mut Pass,
+        known: u64,
+    ) -> Result<Looked, OutOfMemory>
+        requires same_history { pass.old.history ≡ self.now }
+        ensures goes_on { GoesOn pass.old pass.new }
+        ensures length { IfOk result (λ looked. looked.length ≡ length pass.new.view) }
+        ensures own { own pass.new ≡ own pass.old }
+        ensures joins { IfOk result (λ looked. IfSome looked.joins (λ joins. joins ≡ joins_of pass.new.view)) }
+        ensures same { IfOk result (λ looked. IfNone looked.joins (changed_at pass.new.view ≡ known)) }
+    {
+        let board = &self.board.shared;
+        take_turn(rt, board, &mut pass.place);
+        let looked = look_joins(board, &mut pass.place, known);
+        free_turn(board, &mut pass.place);
+        looked
     }
 
     /// Each of the two passes sees what the other has seen. Nothing is allocated, no turn is taken, and it costs six loads.

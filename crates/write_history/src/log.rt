@@ -4,12 +4,13 @@ ghost use Rattle.semantics.specs.Histories.{History};
 ghost use Rattle.semantics.specs.Verdicts.{verdict};
 ghost use Rattle.join_types.specs.Writes.{plain_write};
 ghost use Rattle.growing_history.specs.Entered.{IsWrite};
+ghost use Rattle.write_history.specs.Looks.{TellsJoins};
 ghost use Rattle.write_history.specs.Stored.{IsLog};
 ghost use Rattle.write_history.specs.Takes.{Takes, SaysVerdict};
 
 use crate::entry_list::EntryList;
 use crate::fault::AppendFault;
-use join_set::Standing;
+use join_set::{JoinSet, Standing};
 use join_types::{Entry, Write};
 use out_of_memory::OutOfMemory;
 use std::alloc::Global;
@@ -83,5 +84,17 @@ impl Log {
         ensures { IfOk result (λ copies. copies.items ≡ take (to - from) (drop from self.now.entries)) }
     {
         self.entries.copy(alloc, from as usize, to as usize)
+    }
+
+    /// Copies the joins that stand, at most 64, where the last declaration is not at the position that is known. Where it is there, it
+    /// compares two numbers and gives none.
+    pub(crate) fn joins_unless(&self, known: u64) -> Result<Option<JoinSet>, OutOfMemory>
+        ensures { IfOk result (λ told. (h : History) (floor : ℕ) → IsLog h floor self.now → TellsJoins h known told) }
+    {
+        let joins = self.standing.joins();
+        if joins.changed_at() == known {
+            return Ok(None);
+        }
+        Ok(Some(joins.copy()?))
     }
 }

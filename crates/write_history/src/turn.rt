@@ -1,14 +1,17 @@
 // The turn: whoever has it has the log too. Waiting for it, and what is done under it.
 ghost use Rattle.std.specs.Prelude.{◌≡◌, ℕ, ◌-◌, ◌<◌, ◌≤◌, [], length, take, drop, IfOk, IfErr, OnErr, Some};
 ghost use Rattle.semantics.specs.Histories.{History};
+ghost use Rattle.write_history.specs.Looks.{TellsJoins};
 ghost use Rattle.write_history.specs.Stored.{Stored};
 ghost use Rattle.write_history.specs.Steps.{HasLog, IsResting, IsSized, Learns, TakesTurn, held_by};
 ghost use Rattle.write_history.specs.Takes.{Carries, Declines, Enters, SaysVerdict};
 ghost use Rattle.write_history.specs.declared.known.Role.TheVariants.{Numbered};
 
 use crate::fault::AppendFault;
+use crate::looked::Looked;
 use crate::plays::{Agree, Enter, Free, Look, Note, Take};
 use crate::rule::{Place, SharedBoard};
+use join_set::JoinSet;
 use join_types::Entry;
 use out_of_memory::OutOfMemory;
 use std::alloc::Global;
@@ -155,6 +158,42 @@ pub(crate) fn copy_entries(
 {
     let log = place.slot_mut(board, LOG);
     log.copy(alloc, from, to)
+}
+
+/// Copies the joins that stand, out of the log. It gives none where the last declaration is at the position that is known.
+fn copy_joins(
+    board: &SharedBoard,
+    place: &mut Place,
+    known: u64,
+) -> Result<Option<JoinSet>, OutOfMemory>
+    requires own { place.old.table_id ≡ board.now.table_id }
+    requires log { (h : History) × (log : Stored) × HasLog h log place.old.me }
+    ensures own { place.new.table_id ≡ place.old.table_id }
+    ensures unchanged { place.new.me ≡ place.old.me }
+    ensures told { IfOk result (λ told. (h : History) (log : Stored) → HasLog h log place.old.me → TellsJoins h known told) }
+{
+    let log = place.slot_mut(board, LOG);
+    log.joins_unless(known)
+}
+
+/// Looks at the number of entries, and so sees them all, and copies the joins that stand out of the log. It gives none where the
+/// last declaration is at the position that is known. On `OutOfMemory` it has looked all the same.
+pub(crate) fn look_joins(
+    board: &SharedBoard,
+    place: &mut Place,
+    known: u64,
+) -> Result<Looked, OutOfMemory>
+    requires sized { IsSized board.now.table_id }
+    requires own { place.old.table_id ≡ board.now.table_id }
+    requires log { (h : History) × (log : Stored) × HasLog h log place.old.me }
+    ensures own { place.new.table_id ≡ place.old.table_id }
+    ensures seen { place.new.me ≡ (record place.old.me.0 { seen = held_by place.old.me.0 }, place.old.me.1) }
+    ensures count { IfOk result (λ looked. looked.length ≡ length (held_by place.old.me.0)) }
+    ensures told { IfOk result (λ looked. (h : History) (log : Stored) → HasLog h log place.old.me → TellsJoins h known looked.joins) }
+{
+    let length = look(board, place);
+    let joins = copy_joins(board, place, known)?;
+    Ok(Looked { length, joins })
 }
 
 /// One seat tells another what it has seen, by a note. The other then has seen the longer of the two.

@@ -1,15 +1,22 @@
-use Rattle.std.proofs.Common.{◌≡◌, Some}
+use Rattle.std.proofs.Common.{◌≡◌, Some, sym, ap, ◌∙◌, arith}
+use Rattle.std.proofs.lemmas.List.{take_all}
+use Rattle.semantics.specs.Histories.{joins_of}
 use Rattle.pequod_cache.proofs.ClientLemmas.{updater_reads_on, updater_stays}
 use Rattle.pequod_cache.proofs.updater.Updater.turn_counted.Goals as goal
 
 pub invariant_of-self : goal.invariant_of-self
 invariant_of-self g c =
     let is : c.self.inside.pass ≡ Some c.in-Some.pass = cc in
-    updater_stays g.N.Naming.history c.self.inside.pass c.in-Some.pass c.look-position.new.pass c.bring_joins-brought.new.pass c.self.inside.joins c.bring_joins-brought.new.joins
-    c.self.invariant is c.look-position.ensures.goes_on c.bring_joins-brought.ensures.same c.bring_joins-brought.ensures.kept
+    updater_stays g.N.Naming.history c.self.inside.pass c.in-Some.pass c.look-looked.new.pass c.self.inside.joins c.look-looked.new.joins
+    c.self.invariant is c.look-looked.ensures.goes_on c.look-looked.ensures.kept
+
+pub turn-turned-requires-clause-joins : goal.turn-turned-requires-clause-joins
+turn-turned-requires-clause-joins g c =
+    let all = c.in-Ok.ensures.length in
+    c.in-Ok.ensures.brought ∙ ap joins_of (sym (take_all c.in-Ok.position c.look-looked.new.pass.view (omega (arith, all))))
 
 pub invariant_of-self-2 : goal.invariant_of-self-2
 invariant_of-self-2 g c =
     let is : c.self.inside.pass ≡ Some c.in-Some.pass = cc in
-    updater_reads_on g.N.Naming.history c.self.inside.pass c.in-Some.pass c.look-position.new.pass c.bring_joins-brought.new.pass c.turn-turned.result.pass c.self.inside.joins c.bring_joins-brought.new.joins
-    c.self.invariant is c.look-position.ensures.goes_on c.bring_joins-brought.ensures.same c.bring_joins-brought.ensures.kept c.turn-turned.ensures.reads_on
+    updater_reads_on g.N.Naming.history c.self.inside.pass c.in-Some.pass c.look-looked.new.pass c.turn-turned.result.pass c.self.inside.joins c.look-looked.new.joins
+    c.self.invariant is c.look-looked.ensures.goes_on c.look-looked.ensures.kept c.turn-turned.ensures.reads_on

@@ -1,0 +1,29 @@
+use Rattle.std.proofs.Common.{◌≡◌, List, Option, IfSome, IfNone, ◌∙◌, subst}
+use Rattle.semantics.specs.Histories.{DeclaredJoin, joins_of, changed_at}
+use Rattle.pequod_cache.proofs.JoinsLemmas.{keeps_longer, keeps_all, all_kept}
+use Rattle.pequod_cache.proofs.cache.Cache.look.Goals as goal
+
+pub returns-in_err-looked-clause-kept : goal.returns-in_err-looked-clause-kept
+returns-in_err-looked-clause-kept g c =
+    keeps_longer c.args.joins.now c.args.pass.now.view c.look_joins.new.pass.view c.look_joins.ensures.goes_on.begins c.requires.kept
+
+pub returns-in_default-clause-kept : goal.returns-in_default-clause-kept
+returns-in_default-clause-kept g c =
+    keeps_longer c.args.joins.now c.args.pass.now.view c.look_joins.new.pass.view c.look_joins.ensures.goes_on.begins c.requires.kept
+
+pub returns-in_default-clause-brought : goal.returns-in_default-clause-brought
+returns-in_default-clause-brought g c =
+    let view = c.look_joins.new.pass.view in
+    let kept = keeps_longer c.args.joins.now c.args.pass.now.view view c.look_joins.ensures.goes_on.begins c.requires.kept in
+    let same = subst (λ (told : Option (List DeclaredJoin)). IfNone told (changed_at view ≡ c.changed_at.result)) c.in_default.is c.in_ok-looked.ensures.same in
+    all_kept c.args.joins.now view kept (same ∙ c.changed_at.ensures)
+
+pub returns-clause-kept : goal.returns-clause-kept
+returns-clause-kept g c =
+    let view = c.look_joins.new.pass.view in
+    keeps_all c.in-Some.found view (subst (λ (told : Option (List DeclaredJoin)). IfSome told (λ joins. joins ≡ joins_of view)) c.in-Some.is c.in_ok-looked.ensures.joins)
+
+pub returns-clause-brought : goal.returns-clause-brought
+returns-clause-brought g c =
+    let view = c.look_joins.new.pass.view in
+    subst (λ (told : Option (List DeclaredJoin)). IfSome told (λ joins. joins ≡ joins_of view)) c.in-Some.is c.in_ok-looked.ensures.joins

@@ -1,0 +1,14 @@
+use Rattle.std.proofs.Common.{◌≡◌, sym, ap, ◌∙◌}
+use Rattle.write_history.specs.Stored.{Stored}
+use Rattle.write_history.proofs.Telling.{told_none, told_all}
+use Rattle.write_history.proofs.log.Log.joins_unless.Goals as goal
+
+pub returns-then-changed_at-known : goal.returns-then-changed_at-known
+returns-then-changed_at-known c = λ h floor is.
+    let kept : c.joins-joins.result.now ≡ c.args.self.now.summary.joins = c.joins-joins.ensures.joins ∙ ap (λ (l : Stored). l.summary.joins) c.self.view_is in
+    told_none h floor c.args.self.now c.joins-joins.result.now c.args.known is kept (sym c.changed_at.ensures ∙ c.if-changed_at-known.true)
+
+pub returns : goal.returns
+returns c = λ h floor is.
+    let kept : c.joins-joins.result.now ≡ c.args.self.now.summary.joins = c.joins-joins.ensures.joins ∙ ap (λ (l : Stored). l.summary.joins) c.self.view_is in
+    told_all h floor c.args.self.now _ c.args.known is (c.in_ok-copy.ensures ∙ kept)

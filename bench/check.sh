@@ -3,7 +3,11 @@
 # The joins stand in eight layers of eight, and each reads all eight of the layer below, so that their ranks go from 0 to 7.
 # Usage: bench/check.sh PROGRAM
 set -eu
-program=${1:?the path of the built program}
+program=${1:-}
+if [ ! -f "$program" ] || [ ! -x "$program" ]; then
+  echo "bench/check.sh: no program at '$program'" >&2
+  exit 2
+fi
 folder=$(mktemp -d)
 trap 'rm -rf "$folder"' EXIT
 awk 'BEGIN {

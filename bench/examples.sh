@@ -5,7 +5,12 @@
 # and the line on standard error.
 # Usage: bench/examples.sh PROGRAM
 set -u
-program=$(realpath "${1:?the path of the built program}")
+program=${1:-}
+if [ ! -f "$program" ] || [ ! -x "$program" ]; then
+  echo "bench/examples.sh: no program at '$program'" >&2
+  exit 2
+fi
+program=$(realpath "$program")
 bench=$(realpath "$(dirname "$0")")
 cd "$bench/../examples" || exit 1
 folder=$(mktemp -d)
@@ -35,7 +40,7 @@ judge() {
   fi
 }
 
-for requests in *.requests; do
+for requests in *.requests cookbook/*.requests; do
   replies=${requests%.requests}.replies
   attempt "$requests" 0 "$replies" run < "$requests"
   "$bench/through_link.py" "$program" --cells 2 --rows 5 < "$requests" > "$folder/written" 2> "$folder/message"

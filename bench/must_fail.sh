@@ -10,7 +10,11 @@ set -euo pipefail
 cd "$(dirname "$0")/.."
 folder=$(mktemp -d)
 trap 'rm -rf "$folder"' EXIT
-git ls-files -z --cached --others --exclude-standard crates crates.txt HANDLES | xargs -0 cp --parents -t "$folder"
+# A file that is deleted and not committed yet is listed too.
+git ls-files -z --cached --others --exclude-standard crates crates.txt HANDLES |
+  while IFS= read -r -d '' file; do
+    if [ -e "$file" ]; then printf '%s\0' "$file"; fi
+  done | xargs -0 cp --parents -t "$folder"
 cd "$folder"
 
 crates=("$@")

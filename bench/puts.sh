@@ -5,7 +5,11 @@
 # Usage: bench/puts.sh PROGRAM
 # It wants GNU time, as Debian's package `time` has it.
 set -eu
-program=${1:?the path of the built program}
+program=${1:-}
+if [ ! -f "$program" ] || [ ! -x "$program" ]; then
+  echo "bench/puts.sh: no program at '$program'" >&2
+  exit 2
+fi
 folder=$(mktemp -d)
 trap 'rm -rf "$folder"' EXIT
 TIMEFORMAT='%3R %3U %3S'

@@ -5,7 +5,11 @@
 # often as it says; its time without a stab is taken off that with many, each the least of five runs.
 # Usage: bench/stabs.sh TRIALS, the program of key_trials, which `rt run` leaves as crates/key_trials/out/key_trials
 set -euo pipefail
-trials=${1:?the path of the program of key_trials}
+trials=${1:-}
+if [ ! -f "$trials" ] || [ ! -x "$trials" ]; then
+  echo "bench/stabs.sh: no program at '$trials'" >&2
+  exit 2
+fi
 TIMEFORMAT='%R'
 
 # least RANGES STABS: the seconds of the shortest of five runs.

@@ -6,11 +6,17 @@ use test_rows::unescape;
 #[derive(Drop)]
 pub struct Case {
     alloc: Global,
+    /// The words after the program's name.
     pub words: Vec<String>,
+    /// The bytes of the source and of the file `j`.
     pub given: Vec<u8>,
+    /// The numbers of the reads of the source that fail, the first read being 1.
     pub reads: Vec<usize>,
+    /// The numbers of the writes to the sink that fail.
     pub writes: Vec<usize>,
+    /// The numbers of the takes from the shelf that fail.
     pub shelf: Vec<usize>,
+    /// The numbers of the calls of the doors that fail.
     pub doors: Vec<usize>,
 }
 

@@ -34,16 +34,44 @@ fn told(alloc: Global, bytes: &[u8], ended: &str) -> Result<String, AllocError> 
     Ok(text)
 }
 
+/// How a case is run.
+#[derive(Clone, Copy, PartialEq, Eq)]
+enum How {
+    /// By the top call, each read as large as there is room for.
+    AtOnce,
+    /// By the top call, each read of one byte.
+    InBytes,
+    /// By the top call, with whether a range of the table `t` passed the gate.
+    TellsGate,
+    /// By a client of a core with so many cells.
+    Core(u32),
+}
+
+/// Reads how a case is run. None where the text names no way; a number of cells that is none is 0.
+fn read_how(text: &str) -> Option<How> {
+    let (kind, number) = text.split_once(' ').unwrap_or((text, ""));
+    match kind {
+        "" => Some(How::AtOnce),
+        "bytes" => Some(How::InBytes),
+        "gate" => Some(How::TellsGate),
+        "core" => Some(How::Core(number.parse::<u32>().unwrap_or(0))),
+        _ => None,
+    }
+}
+
 /// Runs the top call, and returns what it wrote with its status behind it, and with whether a range of the table `t` passed the
 /// gate where that is asked for.
 fn run_top<R: AllocGlobal + Threads + Wait + Sync>(
     rt: &R,
     case: &Case,
-    in_bytes: bool,
-    tells_gate: bool,
+    how: How,
 ) -> Result<String, AllocError> {
     let alloc: Global = rt.alloc();
-    let count = if in_bytes { case.given.len() } else { 0 };
+    let count = if how == How::InBytes {
+        case.given.len()
+    } else {
+        0
+    };
     let cuts = vec![in alloc; 1; count]?;
     let mut source = MemSource::new(case.given.clone()?, cuts, case.reads.clone()?);
     let mut sink = MemSink::new(alloc, case.writes.clone()?);
@@ -63,7 +91,7 @@ fn run_top<R: AllocGlobal + Threads + Wait + Sync>(
         &mut doors,
         &gate,
     );
-    let passed = tells_gate && gate.passed.load(SeqCst) > 0;
+    let passed = how == How::TellsGate && gate.passed.load(SeqCst) > 0;
     let number = status.number;
     let behind = if passed { ", by way of the gate" } else { "" };
     let ended = format!(in alloc; "{number}{behind}")?;
@@ -90,12 +118,9 @@ pub fn run<R: AllocGlobal + Threads + Wait + Sync>(
     case: &Case,
     how: &str,
 ) -> Result<String, AllocError> {
-    let (kind, number) = how.split_once(' ').unwrap_or((how, ""));
-    match kind {
-        "" => run_top(rt, case, false, false),
-        "bytes" => run_top(rt, case, true, false),
-        "gate" => run_top(rt, case, false, true),
-        "core" => run_core(rt.alloc(), case, number.parse::<u32>().unwrap_or(0)),
-        _ => told(rt.alloc(), b"", "no such way"),
+    match read_how(how) {
+        Some(How::Core(cells)) => run_core(rt.alloc(), case, cells),
+        Some(how) => run_top(rt, case, how),
+        None => told(rt.alloc(), b"", "no such way"),
     }
 }

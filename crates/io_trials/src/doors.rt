@@ -155,39 +155,93 @@ fn doors_may_not_open(rt: HostRuntime) -> Result<(), Fail> {
     Ok(())
 }
 
-// The codes are Linux's, by errno(3), and accept(2) says what each tells.
+// Linux's codes, by errno(3).
+const EPERM: i32 = 1;
+
+const EINTR: i32 = 4;
+
+const EBADF: i32 = 9;
+
+const EAGAIN: i32 = 11;
+
+const ENOMEM: i32 = 12;
+
+const EFAULT: i32 = 14;
+
+const EINVAL: i32 = 22;
+
+const ENFILE: i32 = 23;
+
+const EMFILE: i32 = 24;
+
+const ENOSR: i32 = 63;
+
+const ENONET: i32 = 64;
+
+const EPROTO: i32 = 71;
+
+const ENOTSOCK: i32 = 88;
+
+const ENOPROTOOPT: i32 = 92;
+
+const EPROTONOSUPPORT: i32 = 93;
+
+const ESOCKTNOSUPPORT: i32 = 94;
+
+const EOPNOTSUPP: i32 = 95;
+
+const ENETDOWN: i32 = 100;
+
+const ENETUNREACH: i32 = 101;
+
+const ECONNABORTED: i32 = 103;
+
+const ENOBUFS: i32 = 105;
+
+const ETIMEDOUT: i32 = 110;
+
+const EHOSTDOWN: i32 = 112;
+
+const EHOSTUNREACH: i32 = 113;
+
+/// The codes by which the first accepts fail, after how many of these there is a pause, and whether a link comes in the end: by
+/// what accept(2) says that each code tells.
+const FAILING: [(&[i32], usize, bool); 27] = [
+    (&[], 0, true),
+    // One connection failed.
+    (&[EINTR], 0, true),
+    (&[ENOSR], 0, true),
+    (&[ENONET], 0, true),
+    (&[EPROTO], 0, true),
+    (&[ENOPROTOOPT], 0, true),
+    (&[EPROTONOSUPPORT], 0, true),
+    (&[ESOCKTNOSUPPORT], 0, true),
+    (&[EOPNOTSUPP], 0, true),
+    (&[ENETDOWN], 0, true),
+    (&[ENETUNREACH], 0, true),
+    (&[ECONNABORTED], 0, true),
+    (&[ETIMEDOUT], 0, true),
+    (&[EHOSTDOWN], 0, true),
+    (&[EHOSTUNREACH], 0, true),
+    // A firewall forbids, or there is no room.
+    (&[EPERM], 1, true),
+    (&[ENOMEM], 1, true),
+    (&[ENFILE], 1, true),
+    (&[EMFILE], 1, true),
+    (&[ENOBUFS], 1, true),
+    (&[EMFILE, EMFILE, ECONNABORTED, EMFILE, ENFILE], 4, true),
+    // No connection is to be had, also after one that failed and a pause.
+    (&[EBADF], 0, false),
+    (&[EAGAIN], 0, false),
+    (&[EFAULT], 0, false),
+    (&[EINVAL], 0, false),
+    (&[ENOTSOCK], 0, false),
+    (&[ECONNABORTED, EMFILE, EINVAL], 1, false),
+];
+
 #[test]
 fn a_failing_accept_is_tried_again_or_is_a_fault(rt: HostRuntime) -> Result<(), Fail> {
-    // The codes by which the first accepts fail, after how many of these there is a pause, and whether a link comes in the end.
-    let table: [(&[i32], usize, bool); 22] = [
-        (&[], 0, true),
-        // One connection failed: EINTR, ENONET, EPROTO, ENOPROTOOPT, EOPNOTSUPP, ENETDOWN, ENETUNREACH, ECONNABORTED, EHOSTDOWN
-        // and EHOSTUNREACH.
-        (&[4], 0, true),
-        (&[64], 0, true),
-        (&[71], 0, true),
-        (&[92], 0, true),
-        (&[95], 0, true),
-        (&[100], 0, true),
-        (&[101], 0, true),
-        (&[103], 0, true),
-        (&[112], 0, true),
-        (&[113], 0, true),
-        // There is no room: ENOMEM, ENFILE, EMFILE and ENOBUFS.
-        (&[12], 1, true),
-        (&[23], 1, true),
-        (&[24], 1, true),
-        (&[105], 1, true),
-        (&[24, 24, 103, 24, 23], 4, true),
-        // No connection is to be had: EBADF, EAGAIN, EFAULT, EINVAL and ENOTSOCK, also after one that failed and a pause.
-        (&[9], 0, false),
-        (&[11], 0, false),
-        (&[14], 0, false),
-        (&[22], 0, false),
-        (&[88], 0, false),
-        (&[103, 24, 22], 1, false),
-    ];
-    for (row, (codes, pauses, is_given)) in table.iter().enumerate() {
+    for (row, (codes, pauses, is_given)) in FAILING.iter().enumerate() {
         let seen = Seen::new(rt.alloc())?;
         let network = Watched::new(&rt, codes, &seen);
         let mut doors = TcpDoors::new(&network, 0);

@@ -1,7 +1,7 @@
-// Links and doors in memory, and the gate that is open.
+// Links and doors in memory.
 use crate::holding::holds;
 use crate::streams::source_of;
-use pq_io::{Both, Doors, Failed, Gate, Link, MemDoors, MemLink, MemSink, OpenGate, write_link};
+use pq_io::{Both, Doors, Failed, Link, MemDoors, MemLink, MemSink, write_link};
 use std::test::Fail;
 
 /// Reads once and writes what was read twice.
@@ -71,14 +71,4 @@ fn doors_give_their_links_and_close(rt: HostRuntime) -> Result<(), Fail> {
     let mut doors = MemDoors::<MemLink>::new(Vec::new(alloc), vec![in alloc; 0]?);
     holds(&rt, 2, 0, doors.open_at("anywhere") == Err(Failed));
     Ok(())
-}
-
-/// Passes a gate.
-fn pass<G: Gate>(gate: &G) {
-    gate.pass("t");
-}
-
-#[test]
-fn an_open_gate_is_passed() {
-    pass(&OpenGate);
 }

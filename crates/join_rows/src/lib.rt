@@ -2,6 +2,9 @@
 //
 // The layers above may use all that is public here: contracts see a table as the list of its pairs, keys ascending, a need as
 // the record of the definitions, and rows as the record of their pairs, keys ascending, and of their needs.
+//
+// Dangerous here: `push_need` adds a need though an equal one is there. The copies of the needs that `add_need` and `merge` put in
+// order take memory until `forget_order` is called, or needs are dropped or replaced.
 #![tactic(auto)]
 
 pub mod need;

@@ -4,7 +4,7 @@
 // remove has entered, the rule on slots, the rule on sources, a clash of outputs, a cycle, a rank above 7, and 64 joins that
 // stand; a put or remove where its key is computed.
 use crate::answer::Answer;
-use crate::words::{read_numbers, read_write};
+use crate::words::{read_numbers, read_write, tell_cause};
 use join_lang::{parse, print};
 use join_set::{AddFault, JoinSet, Standing};
 use join_types::{Cause, Join, Positions, Write};
@@ -50,8 +50,10 @@ fn take_step(
         "joins" => return tell_joins(alloc, standing.joins(), answer),
         _ => {
             let write = read_write(alloc, step)?;
-            let verdict = offer(standing, &write).ok()?;
-            answer.show(&verdict);
+            match offer(standing, &write).ok()? {
+                None => answer.say("entered"),
+                Some(cause) => tell_cause(&cause, answer),
+            }
         }
     }
     Some(())
@@ -66,6 +68,14 @@ fn take_steps(alloc: Global, fields: &mut Fields<'_>, answer: &mut Answer) -> Op
     Some(())
 }
 
+/// Tells why a join is refused, or that it is not.
+fn tell_refusal(verdict: Result<(), AddFault>, answer: &mut Answer) {
+    match verdict {
+        Ok(()) => answer.say("not refused"),
+        Err(fault) => answer.tell(&fault),
+    }
+}
+
 /// Returns a copy of the set of the first join at the position 4, to which the second is offered at 5, which is to be refused.
 fn grow_set(
     alloc: Global,
@@ -77,8 +87,8 @@ fn grow_set(
     answer.tell(&set.is_empty());
     set.refuses(4, &first)?;
     set.add(4, first)?;
-    answer.show(&set.refuses(5, &second).err());
-    answer.show(&set.add(5, second).err());
+    tell_refusal(set.refuses(5, &second), answer);
+    tell_refusal(set.add(5, second), answer);
     Ok(set.copy()?)
 }
 
@@ -104,7 +114,8 @@ fn tell_fault(alloc: Global, fields: &mut Fields<'_>, answer: &mut Answer) -> Op
         "cycle" => AddFault::Cycle(Positions::of(numbers)),
         "deep" => AddFault::Deep,
         "many" => AddFault::Many,
-        _ => AddFault::OutOfMemory,
+        "memory" => AddFault::OutOfMemory,
+        _ => return None,
     };
     answer.tell(&fault);
     Some(())

@@ -96,3 +96,29 @@ pub fn read_cause(alloc: Global, name: &str, numbers: &str) -> Option<Cause> {
         _ => None,
     }
 }
+
+/// Adds the name of the cause and its numbers, as `read_cause` reads them.
+pub fn tell_cause(cause: &Cause, answer: &mut Answer) {
+    match cause {
+        Cause::Computed(position) => {
+            answer.say("computed");
+            answer.tell(position);
+        }
+        Cause::Late => answer.say("late"),
+        Cause::Full => answer.say("full"),
+        Cause::Slots => answer.say("slots"),
+        Cause::Sources => answer.say("sources"),
+        Cause::Clash(position) => {
+            answer.say("clash");
+            answer.tell(position);
+        }
+        Cause::Cycle(positions) => {
+            answer.say("cycle");
+            for position in positions.as_slice() {
+                answer.tell(position);
+            }
+        }
+        Cause::Deep => answer.say("deep"),
+        Cause::Many => answer.say("many"),
+    }
+}

@@ -13,7 +13,6 @@ pub fn answer(alloc: Global, mut fields: Fields<'_>, out: &mut Answer) -> Option
         "value" => answer_value(alloc, fields, out),
         "decimal" => answer_decimal(alloc, fields, out),
         "map" => answer_map(alloc, fields, out),
-        "shared" => answer_shared(alloc, fields, out),
         _ => None,
     }
 }
@@ -79,16 +78,4 @@ fn show_map(map: &BTreeMap<Key, Value>, out: &mut Answer) {
         out.more("=");
         out.more_escaped(value.text());
     }
-}
-
-/// Adds the word `shared`, of what threads may share.
-pub fn show_shared<T: Send + Sync>(_: &T, out: &mut Answer) {
-    out.word("shared");
-}
-
-/// Answers `shared;KEY;VALUE`: threads may share a key and a value.
-fn answer_shared(alloc: Global, mut fields: Fields<'_>, out: &mut Answer) -> Option<()> {
-    show_shared(&read_key(alloc, fields.next())?, out);
-    show_shared(&Value::read(alloc, fields.next()).ok()?, out);
-    Some(())
 }

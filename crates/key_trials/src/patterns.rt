@@ -3,7 +3,6 @@ ghost use Rattle.std.specs.Prelude.{◌≡◌, IfOk, IfSome, [], ◌∷◌};
 ghost use Rattle.semantics.specs.Patterns.{literal, slot};
 ghost use Rattle.key_pattern.specs.Plain.{plain_segments};
 
-use crate::keys::show_shared;
 use crate::ranges::show_range;
 use crate::readers::{next_range, read_key, read_pattern, read_segments};
 use key_pattern::{Pattern, Segment, SlotTexts, Slots};
@@ -25,7 +24,6 @@ pub fn answer(alloc: Global, mut fields: Fields<'_>, out: &mut Answer) -> Option
         "only" => answer_only(alloc, fields, out),
         "contain" => answer_contain(alloc, fields, out),
         "prefix" => answer_prefix(alloc, fields, out),
-        "shared" => answer_shared(alloc, fields, out),
         _ => None,
     }
 }
@@ -223,14 +221,5 @@ fn answer_prefix(alloc: Global, mut fields: Fields<'_>, out: &mut Answer) -> Opt
     let key = read_key(alloc, fields.next())?;
     let slots = given_by.matches(&key, &Slots::none())?;
     show_held(pattern.prefix_range(alloc, &slots).ok()?, out);
-    Some(())
-}
-
-/// Answers `shared;PATTERN`: threads may share a pattern, slots, and texts of slots.
-fn answer_shared(alloc: Global, mut fields: Fields<'_>, out: &mut Answer) -> Option<()> {
-    let slots = Slots::none();
-    show_shared(&read_pattern(alloc, fields.next())?, out);
-    show_shared(&slots, out);
-    show_shared(&SlotTexts::of(alloc, &slots).ok()?, out);
     Some(())
 }

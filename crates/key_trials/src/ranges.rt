@@ -2,7 +2,6 @@
 // the first, and neither has more than 513 bytes. A range holds its first bound and not its last.
 ghost use Rattle.std.specs.Prelude.{◌≡◌, IfOk};
 
-use crate::keys::show_shared;
 use crate::readers::{next_range, read_key};
 use key_space::{Key, Range, RangeFault};
 use out_of_memory::OutOfMemory;
@@ -18,7 +17,6 @@ pub fn answer(alloc: Global, mut fields: Fields<'_>, out: &mut Answer) -> Option
         "common" => answer_common(alloc, fields, out),
         "prefix" => answer_prefix(alloc, fields, out),
         "just" => answer_just(alloc, fields, out),
-        "shared" => answer_shared(alloc, fields, out),
         _ => None,
     }
 }
@@ -100,11 +98,5 @@ fn answer_just(alloc: Global, mut fields: Fields<'_>, out: &mut Answer) -> Optio
     let range = Range::just(alloc, &key).ok()?;
     show_range(&range, out);
     out.flag(range.contains(&key));
-    Some(())
-}
-
-/// Answers `shared;LOW;HIGH`: threads may share a range.
-fn answer_shared(alloc: Global, mut fields: Fields<'_>, out: &mut Answer) -> Option<()> {
-    show_shared(&next_range(alloc, &mut fields)?, out);
     Some(())
 }

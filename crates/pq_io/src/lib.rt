@@ -6,6 +6,8 @@
 // memory do, and the others tell none. It may also rely on this: a call answers `Failed` only where the object's count of faults
 // rose in that call, or stands at the last value of its type. A function that is lent a source, a sink or a link says that its
 // `borrows` stay, so that a caller which lent it a `Both` knows what became of the two.
+//
+// Dangerous here: a read, a write and `next` of `Doors` wait as long as the system does, without a limit, and no type says so.
 #![tactic(auto)]
 
 mod call_log;

@@ -13,7 +13,7 @@ use std::time::{Clock, Duration};
 
 mod accepting;
 
-/// How long the doors wait before they ask again, in milliseconds, where the system has no room for a connection.
+/// How long the doors wait before they ask again, in milliseconds, where the system takes no connection now.
 const MOMENT: u64 = 10;
 
 /// A link over a stream that reads and writes. What is left and what was taken are not told. Contracts see it as its two
@@ -123,8 +123,8 @@ impl<'a, R: Net> TcpDoors<'a, R> {
 }
 
 /// Accepts a connection, and waits for it. Where one fails before it is accepted, the next is asked for. Where the system has no
-/// descriptors or no buffers, it is asked again after each moment, until connections that ended have given some back. None says
-/// that the listener fails, or failed 2^64 - 1 times.
+/// descriptors or no buffers, or a firewall forbids, it is asked again after each moment, until connections that ended have given
+/// some back, or the firewall lets one pass. None says that the listener fails, or failed 2^64 - 1 times.
 fn accept_next<R: Net + Clock>(clock: &R, listener: &R::Listener) -> Option<R::Stream> {
     for _ in 0..u64::MAX {
         match listener.accept() {

@@ -2,8 +2,10 @@
 //
 // A line of `stdin` is a kind and its fields, between `;`, and is printed again with what its calls answer; the file `stdout` holds
 // the answers that are wanted. Most kinds take many calls, and each that answers writes its answer with a `;` behind it: a
-// list with a space before each of its items. `unread` is the answer of a row that was mistyped. Nothing is compared here,
-// and a row costs no proof.
+// list with a space before each of its items. `unread` is the answer of a row that was mistyped. A row costs no proof.
+//
+// Dangerous here: nothing is compared. A row is only as good as its line of `stdout`, which is written by hand from the
+// definitions and never taken from what the program prints.
 #![tactic(auto)]
 
 mod changes;

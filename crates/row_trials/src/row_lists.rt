@@ -3,7 +3,8 @@
 // A key has one row. An equal need is added once, and twice where it is pushed; needs are equal where the source, the slots, the
 // keys by which they came and the range are. Needs that came by a key go with it, and those that came by none stay. Of two
 // lists that are merged the other's rows stand where both have the key, and its needs are added that are not there yet. How
-// many needs there are is shown, and not their order.
+// many needs there are is shown, and not their order. The first 32 needs that are to be added are looked for in the list, and further
+// ones in a set of copies, until needs are dropped or `forget` lets go of it; that changes no answer.
 use join_rows::{Need, Rows};
 use key_pattern::{SlotTexts, Slots};
 use key_space::Key;
@@ -90,6 +91,7 @@ impl Played {
             "push" => rows.push_need(read_need(alloc, words)?)?,
             "by" => rows.drop_needs_by(&Key::read(alloc, words)?),
             "by_any" => rows.drop_needs_by_any(read_keys(alloc, words)?.as_slice()),
+            "forget" => rows.forget_order(),
             _ => return self.change_rows(alloc, name, words),
         }
         Ok(())

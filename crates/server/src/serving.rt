@@ -21,9 +21,9 @@ const WAITING: usize = 64;
 /// How serving ended.
 #[derive(Clone, Copy, Debug, PartialEq, Eq)]
 pub enum Ended {
-    /// The doors are closed, and every link that they gave was served.
+    /// The doors are closed: they hold no link any more.
     Closed,
-    /// The doors could not be opened, or failed. Every link that they gave was served.
+    /// The doors could not be opened, or failed: their count of faults rose.
     Failed,
     /// No memory was found at the start. No link was asked for.
     OutOfMemory,
@@ -236,9 +236,12 @@ where
 }
 
 /// Serves the links of the doors until they are closed or fail: this thread takes them, and a worker for each client serves them,
-/// one after another. Up to 64 links wait for a worker, and one more in hand; then none is taken. It returns when each link that was taken has been
-/// served. Where fewer threads can be made, fewer work. Where none can, or there is one client, this one takes a link and serves
-/// it, in turns. Beside them the updater brings kept ranges forward after writes, where a thread can be made for it.
+/// one after another. Up to 64 links wait for a worker, and one more in hand; then none is taken. Where fewer threads can be made,
+/// fewer work. Where none can, or there is one client, this one takes a link and serves it, in turns. Beside them the updater
+/// brings kept ranges forward after writes, where a thread can be made for it.
+///
+/// It says how it ended. No clause tells of single links: that each which was taken has been served when it returns is shown by
+/// tests.
 pub fn serve_doors<'g, N, G, D, R>(
     rt: &R,
     alloc: Global,

@@ -10,6 +10,10 @@ enum Place {
     Escaped,
     /// It comes after `\(` and this number, up to the `)`.
     Repeated(u32),
+    /// It comes after `\x`.
+    Coded,
+    /// It comes after `\x` and this hexadecimal digit.
+    HalfCoded(u32),
 }
 
 /// How often a character is written, and what is said of the next one.
@@ -32,6 +36,16 @@ fn meaning(letter: char) -> char {
     }
 }
 
+/// Returns the hexadecimal digit that the letter is, or 0 where it is none.
+fn digit_of(letter: char) -> u32 {
+    letter.to_digit(16).unwrap_or(0)
+}
+
+/// Returns the character whose number has these hexadecimal digits.
+fn letter_of(high: u32, low: u32) -> char {
+    char::from_u32(high.saturating_mul(16).saturating_add(low)).unwrap_or('\0')
+}
+
 impl Place {
     /// Returns what the character at this place writes.
     fn write(self, letter: char) -> Written {
@@ -39,7 +53,10 @@ impl Place {
             Place::Plain if letter == '\\' => (letter, 0, Place::Escaped),
             Place::Plain => (letter, 1, Place::Plain),
             Place::Escaped if letter == '(' => (letter, 0, Place::Repeated(0)),
+            Place::Escaped if letter == 'x' => (letter, 0, Place::Coded),
             Place::Escaped => (meaning(letter), 1, Place::Plain),
+            Place::Coded => (letter, 0, Place::HalfCoded(digit_of(letter))),
+            Place::HalfCoded(high) => (letter_of(high, digit_of(letter)), 1, Place::Plain),
             Place::Repeated(_) if letter == ')' => (letter, 0, Place::Plain),
             Place::Repeated(count) => match letter.to_digit(10) {
                 Some(digit) => {
@@ -65,8 +82,8 @@ fn push_times(text: &mut String, letter: char, times: u32) -> Result<(), AllocEr
     Ok(())
 }
 
-/// Returns the text that a field writes: `\t`, `\n`, `\r`, `\0` (the character 0), `\\`, `\s` (a semicolon) and `\(65a)` (65 times
-/// the character a). It is made on `alloc`, in time linear in it.
+/// Returns the text that a field writes: `\t`, `\n`, `\r`, `\0` (the character 0), `\\`, `\s` (a semicolon), `\x1f` (the character of
+/// this hexadecimal number of two digits) and `\(65a)` (65 times the character a). It is made on `alloc`, in time linear in it.
 pub fn unescape(alloc: Global, field: &str) -> Result<String, AllocError> {
     let mut text = String::new(alloc);
     let mut place = Place::Plain;
@@ -89,6 +106,7 @@ fn push_escape(text: &mut String, letter: char) -> Result<(), AllocError> {
         '\r' => text.push_str("\\r"),
         '\0' => text.push_str("\\0"),
         '\\' => text.push_str("\\\\"),
+        other if other.is_ascii_control() => write!(text, "\\x{:02x}", u32::from(other)),
         other => text.push(other),
     }
 }

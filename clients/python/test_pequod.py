@@ -6,90 +6,19 @@ The last class has no server of Pequod: what it tests are replies that no server
 """
 
 import contextlib
-import os
-import pathlib
+import pickle
 import socket
-import subprocess
-import tempfile
 import threading
-import time
 import unittest
 
 import pequod
+from serving import HOST, Case, free_port, want_program
 
-HOST = "127.0.0.1"
-PROGRAM = os.environ.get("PEQUOD", "")
 TIMELINE = "t|<user>|<time>|<poster> = check s|<user>|<poster> copy p|<poster>|<time>"
 
 
 def setUpModule():
-    if not os.access(PROGRAM, os.X_OK):
-        raise SystemExit("These tests start the built program, and PEQUOD is no path of one that may be run.")
-
-
-def free_port():
-    with socket.socket() as one:
-        one.bind((HOST, 0))
-        return one.getsockname()[1]
-
-
-class Server:
-    """A server of its own, on a port that was free. With `joins` these are the lines of its joins file."""
-
-    def __init__(self, *options, joins=None):
-        self.folder = tempfile.TemporaryDirectory()
-        if joins is not None:
-            file = pathlib.Path(self.folder.name, "joins")
-            file.write_text("".join(f"{line}\n" for line in joins), encoding="utf-8")
-            options = (*options, "--joins", str(file))
-        self.port = free_port()
-        self.process = subprocess.Popen([PROGRAM, "serve", f"{HOST}:{self.port}", *options])
-        try:
-            self.connect().close()
-        except BaseException:
-            self.stop()
-            raise
-
-    def connect(self, timeout=20.0):
-        """A client, as soon as the server accepts one."""
-        end = time.monotonic() + 20
-        while True:
-            try:
-                return pequod.connect(HOST, self.port, timeout)
-            except ConnectionRefusedError:
-                if time.monotonic() > end or self.process.poll() is not None:
-                    raise
-                time.sleep(0.02)
-
-    def stop(self):
-        self.process.terminate()
-        self.process.wait()
-        self.folder.cleanup()
-
-    def __enter__(self):
-        return self
-
-    def __exit__(self, *_):
-        self.stop()
-
-
-class Case(unittest.TestCase):
-    """A test with a server and a client."""
-
-    options = ()
-    joins = None
-
-    def setUp(self):
-        self.server = Server(*self.options, joins=self.joins)
-        self.addCleanup(self.server.stop)
-        self.client = self.server.connect()
-        self.addCleanup(self.client.close)
-
-    def refused(self, name, position, details, call, *words):
-        with self.assertRaises(pequod.Refused) as caught:
-            call(*words)
-        error = caught.exception
-        self.assertEqual((error.name, error.position, error.details), (name, position, details))
+    want_program()
 
 
 class Methods(Case):
@@ -150,7 +79,6 @@ class Methods(Case):
 class Refusals(Case):
     def test_of_the_line(self):
         client = self.client
-        self.refused("form", None, (), client.put, "k|a", 5)
         self.refused("key", None, (), client.get, "|a")
         self.refused("key", None, (), client.put, "k|" + "a" * 511, "x")
         self.refused("value", None, (), client.put, "k|a", " " * 65_537)
@@ -163,8 +91,9 @@ class Refusals(Case):
 
     def test_of_a_line_by_hand(self):
         with socket.create_connection((HOST, self.server.port), 20) as link, link.makefile("rb") as replies:
-            link.sendall(b"\n[\"get\"]\r\n[\"get\",\"k|\xff\"]\n")
+            link.sendall(b"\n[\"get\",5]\n[\"get\"]\r\n[\"get\",\"k|\xff\"]\n")
             self.assertEqual(replies.readline(), b'["error","json"]\n')
+            self.assertEqual(replies.readline(), b'["error","form"]\n')
             self.assertEqual(replies.readline(), b'["error","form"]\n')
             self.assertEqual(replies.readline(), b'["error","json"]\n')
             link.sendall(b" " * 1_048_577)
@@ -193,8 +122,38 @@ class Refusals(Case):
         self.refused("many", 64, (), self.client.join, "o64|<x> = copy i64|<x>")
 
     def test_a_refusal_tells_what_it_is(self):
-        with self.assertRaisesRegex(pequod.Refused, "syntax, 12"):
+        with self.assertRaises(pequod.Refused) as caught:
             self.client.join("t|<u> = copy")
+        self.assertEqual(str(caught.exception), "join of 't|<u> = copy': refused: syntax, 12")
+        with self.assertRaises(pequod.Refused) as caught:
+            self.client.scan("k|b", "k|a")
+        error = pickle.loads(pickle.dumps(caught.exception))
+        self.assertEqual((error.kind, error.key, error.number, error.name), ("scan", "k|b", None, "range"))
+        with self.assertRaises(pequod.Refused) as caught:
+            self.client.put("k|a", " " * 1_048_576)
+        self.assertEqual(str(caught.exception), "put of 'k|a': refused: long")
+        with self.assertRaises(pequod.Refused) as caught:
+            self.client.get("k" * 600)
+        self.assertLess(len(str(caught.exception)), 120)
+
+    def test_what_is_no_text(self):
+        calls = (
+            (self.client.put, ("k|a", 5), "the value of a put has to be a str, and 5 is of type int"),
+            (self.client.put, (b"k|a", "x"), "the key of a put has to be a str, and b'k|a' is of type bytes"),
+            (self.client.get, (None,), "the key of a get has to be a str, and None is of type NoneType"),
+            (self.client.scan, ("k|", 1), "the last bound of a scan has to be a str, and 1 is of type int"),
+            (self.client.scan_prefix, (7,), "the prefix of a scan has to be a str, and 7 is of type int"),
+            (self.client.join, (["a"],), "the text of a join has to be a str, and ['a'] is of type list"),
+        )
+        for call, words, told in calls:
+            with self.assertRaises(TypeError) as caught:
+                call(*words)
+            self.assertEqual(str(caught.exception), told)
+        with self.assertRaises(TypeError):
+            with self.client.pipeline() as pipeline:
+                pipeline.put("k|a", "x")
+                pipeline.put("k|b", 1.5)
+        self.assertEqual(self.client.get("k|a"), pequod.Absent(0))
 
 
 class Pipelines(Case):
@@ -220,7 +179,9 @@ class Pipelines(Case):
         with self.assertRaises(pequod.Refused) as caught:
             with self.client.pipeline() as pipeline:
                 first, second, third = pipeline.put("k|a", "x"), pipeline.put("|", "x"), pipeline.get("k|a")
-        self.assertEqual(caught.exception.name, "key")
+        error = caught.exception
+        self.assertEqual((error.name, error.kind, error.key, error.number), ("key", "put", "|", 1))
+        self.assertEqual(str(error), "request 1 of the pipeline, put of '|': refused: key")
         self.assertEqual((first.result().position, third.result().value), (1, "x"))
         self.assertIs(second.error(), caught.exception)
         with self.client.pipeline(check=False) as pipeline:
@@ -310,6 +271,17 @@ class Clients(Case):
         with self.assertRaises(pequod.LinkLost):
             with pool.client():
                 pass
+
+    def test_a_pool_all_of_whose_clients_are_lent(self):
+        with pequod.Pool(HOST, self.server.port, size=1, timeout=1.0) as pool:
+            with pool.client():
+                with self.assertRaises(TimeoutError) as caught:
+                    with pool.client():
+                        pass
+            self.assertEqual(str(caught.exception), "all 1 clients of the pool were lent for 1.0 seconds")
+            with pool.client() as client:
+                self.assertEqual(client.put("k|a", "x").position, 1)
+            self.assertEqual(pool.position, 1)
 
     def test_a_pool_connects_anew(self):
         with pequod.Pool(HOST, self.server.port, size=2, timeout=20) as pool:

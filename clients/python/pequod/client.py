@@ -1,0 +1,214 @@
+"""A connection to a server, for one thread at a time."""
+
+from __future__ import annotations
+
+import selectors
+import socket
+from typing import Any, Optional, Sequence, TypeVar
+
+from .answers import Done, Pairs, Value
+from .errors import LinkLost, Restarted
+from .exchange import PIECE_BYTES, Batch, Exchange, Lines, Pending
+from .runs import PROBE_KEY, Run
+from .wire import Request, get_request, join_request, prefix_bounds, put_request, remove_request, scan_request
+
+T = TypeVar("T")
+
+
+class Client:
+    """A connection to a server. `connect` makes one. It is for one thread at a time."""
+
+    position: int
+    """The last position that was seen in a reply, and 0 before the first. It goes back where a restart is seen, and only
+    there."""
+
+    def __init__(self, host: str = "127.0.0.1", port: int = 7000, timeout: Optional[float] = 10.0) -> None:
+        self.position = 0
+        self._run = Run()
+        self._where = (host, port)
+        self._timeout = timeout
+        self._lines = Lines()
+        self._socket: Optional[socket.socket] = None
+        self._connect()
+
+    def put(self, key: str, value: str) -> Done:
+        """Sets the value of a key, of at most 65,536 bytes. A key is `TABLE|` and more, of at most 512 bytes."""
+        return self._ask(put_request(key, value))
+
+    def remove(self, key: str) -> Done:
+        """Removes the pair of a key. It is a write also where nothing stands there."""
+        return self._ask(remove_request(key))
+
+    def join(self, text: str) -> Done:
+        """Declares a join, which has to come before the first put or remove of any client."""
+        return self._ask(join_request(text))
+
+    def get(self, key: str) -> Value:
+        """The value of a key: `Found`, or `Absent`, which is false. Both have `value`, which is None where there is none."""
+        return self._ask(get_request(key))
+
+    def scan(self, first: str, last: str) -> Pairs:
+        """All pairs with first <= key < last, in the byte order of their keys, within one table."""
+        return self._ask(scan_request(first, last))
+
+    def scan_prefix(self, prefix: str) -> Pairs:
+        """All pairs whose keys begin with a text that ends with `|`, as `t|ann|`."""
+        return self.scan(*prefix_bounds(prefix))
+
+    def pipeline(self, check: bool = True) -> Pipeline:
+        """A pipeline over this connection, which sends its requests together at the end of its `with`."""
+        return Pipeline(self, check)
+
+    @property
+    def is_open(self) -> bool:
+        """Whether requests can be made: the client was not closed and has not lost its link, as far as it knows."""
+        return self._socket is not None
+
+    def reconnect(self) -> None:
+        """Connects anew to the same server, after the link was lost or closed.
+
+        Where a position was told before, it asks a `get` of its own first, and raises `Restarted` where the answer lies
+        before that position. The client is open then too. It raises an OSError where no connection can be made. A client of
+        a pool is rather given back, and the pool connects anew.
+        """
+        self.close()
+        self._connect()
+        self._look_for_restart()
+
+    def close(self) -> None:
+        """Closes the connection. A client that is closed already stays as it is."""
+        if self._socket is not None:
+            self._socket.close()
+            self._socket = None
+
+    def __enter__(self) -> Client:
+        return self
+
+    def __exit__(self, *_: object) -> None:
+        self.close()
+
+    def _connect(self) -> None:
+        self._lines = Lines()
+        self._socket = socket.create_connection(self._where, self._timeout)
+        self._socket.setsockopt(socket.IPPROTO_TCP, socket.TCP_NODELAY, 1)
+
+    def _look_for_restart(self) -> None:
+        """Raises `Restarted` where the server's history is shorter than what was told of its run."""
+        before = self._run.position
+        if before == 0:
+            return
+        position = self._ask(get_request(PROBE_KEY)).position
+        if position < before:
+            self._run = Run(position)
+            raise Restarted(before, position)
+
+    def _ask(self, request: Request[T]) -> T:
+        pending = Pending(request)
+        self._exchange([pending])
+        return pending.result()
+
+    def _exchange(self, asked: Sequence[Pending[Any]]) -> None:
+        """Sends all requests and takes their replies. Where that ends early, replies may be on their way that nobody could
+        tell from those of later requests, so the link is closed, and all that is not answered yet is answered by `LinkLost`."""
+        if self._socket is None:
+            raise LinkLost("the link is closed, and nothing was sent")
+        exchange = Exchange(asked)
+        try:
+            if exchange.is_single:
+                self._do_single(self._socket, exchange)
+            else:
+                self._do_many(self._socket, exchange)
+        except BaseException as error:
+            self.close()
+            lost = exchange.lose(error)
+            if isinstance(error, OSError):
+                raise lost from error
+            raise
+        finally:
+            if exchange.position is not None:
+                self.position = exchange.position
+                self._run.note(exchange.position)
+
+    def _do_single(self, link: socket.socket, exchange: Exchange) -> None:
+        link.sendall(exchange.sent())
+        while not exchange.is_answered:
+            self._receive(link, exchange)
+
+    def _do_many(self, link: socket.socket, exchange: Exchange) -> None:
+        """Sends the lines while replies are read: the server takes no more of them while nobody reads what it answers."""
+        left = memoryview(exchange.sent())
+        with selectors.DefaultSelector() as selector:
+            link.setblocking(False)
+            selector.register(link, selectors.EVENT_READ | selectors.EVENT_WRITE)
+            while not exchange.is_answered:
+                events = selector.select(self._timeout)
+                if not events:
+                    raise TimeoutError("timed out")
+                if events[0][1] & selectors.EVENT_WRITE:
+                    left = left[link.send(left):]
+                    if not left:
+                        selector.modify(link, selectors.EVENT_READ)
+                if events[0][1] & selectors.EVENT_READ:
+                    self._receive(link, exchange)
+        link.settimeout(self._timeout)
+
+    def _receive(self, link: socket.socket, exchange: Exchange) -> None:
+        """Waits for bytes, and takes the replies that end in them."""
+        exchange.take(self._lines.take(link.recv(PIECE_BYTES)))
+
+    def _is_quiet(self) -> bool:
+        """Whether the link is open and nothing came that was not asked for."""
+        if self._socket is None:
+            return False
+        try:
+            self._socket.setblocking(False)
+            self._socket.recv(1, socket.MSG_PEEK)
+            return False
+        except BlockingIOError:
+            self._socket.settimeout(self._timeout)
+            return True
+        except OSError:
+            return False
+
+
+class Pipeline(Batch):
+    """Requests that are sent together, so that they cost one way to the server and back.
+
+        with client.pipeline() as pipeline:
+            for number in range(1000):
+                pipeline.put(f"k|{number}", "x")
+            last = pipeline.get("k|999")
+        print(last.result().value)
+
+    They are answered in order, each after the one before it, and those of other clients may come in between. Each method
+    gives a `Pending`. At the end of the `with` they are sent, and the first refusal is raised when all have been answered;
+    with `check` false it is left to each `Pending`. Where the `with` ends by an exception nothing is sent.
+    """
+
+    def __init__(self, client: Client, check: bool = True) -> None:
+        super().__init__(check)
+        self._client = client
+
+    def send(self) -> None:
+        """Sends what was asked since the last call, and waits for all answers. `with` calls it at its end."""
+        asked = self._take_all()
+        if asked:
+            self._client._exchange(asked)
+        self._raise_first(asked)
+
+    def __enter__(self) -> Pipeline:
+        return self
+
+    def __exit__(self, kind: Optional[type[BaseException]], *_: object) -> None:
+        if kind is None:
+            self.send()
+
+
+def connect(host: str = "127.0.0.1", port: int = 7000, timeout: Optional[float] = 10.0) -> Client:
+    """Connects to a server.
+
+    `timeout` is how many seconds the client waits for the connection, and each time for the server to go on; None is for
+    good. Where no connection can be made, it raises an OSError. A server all of whose workers are taken lets a client
+    connect, and answers when a worker is free.
+    """
+    return Client(host, port, timeout)

@@ -1,0 +1,156 @@
+"""Requests that are sent together, and their answers: all of it but the sending, which `client` and `aio` do."""
+
+from __future__ import annotations
+
+from typing import Any, Generic, Optional, Sequence, TypeVar, Union
+
+from .answers import Answer, Done, Pairs, Value
+from .errors import BadReply, LinkLost, NotServed, OutOfMemory, PequodError
+from .wire import (
+    Request, get_request, join_request, prefix_bounds, put_request, read_reply, remove_request, scan_request,
+)
+
+PIECE_BYTES = 65_536
+"""How many bytes are read at once."""
+
+T = TypeVar("T")
+
+
+class Pending(Generic[T]):
+    """The answer to a request of a pipeline, which is there when the pipeline was sent."""
+
+    def __init__(self, request: Request[T], number: Optional[int] = None) -> None:
+        self._request = request
+        self._number = number
+        self._answer: Union[None, Answer, PequodError] = None
+
+    def result(self) -> T:
+        """The answer. It raises what the request was answered with, where that is a refusal, or `LinkLost`."""
+        if self._answer is None:
+            raise RuntimeError("the pipeline was not sent yet")
+        if isinstance(self._answer, PequodError):
+            raise self._answer
+        return self._answer  # type: ignore[return-value]
+
+    def error(self) -> Optional[PequodError]:
+        """What `result` raises, and None where it gives an answer."""
+        return self._answer if isinstance(self._answer, PequodError) else None
+
+    def _take(self, line: bytes) -> Optional[int]:
+        """Takes the reply, and gives its position."""
+        answer = read_reply(line)
+        if not isinstance(answer, (*self._request.answers, NotServed)):
+            raise BadReply(f"another reply than was asked for: {line[:80]!r}")
+        if isinstance(answer, NotServed):
+            answer._of(self._request.kind, self._request.key, self._number)
+        self._answer = answer
+        return None if isinstance(answer, OutOfMemory) else answer.position
+
+
+
+class Lines:
+    """The lines in the bytes that come, which come in pieces."""
+
+    def __init__(self) -> None:
+        self._unended: list[bytes] = []
+
+    def take(self, piece: bytes) -> list[bytes]:
+        """Takes a piece, and gives the lines that end in it. No bytes are the end of all of them."""
+        if not piece:
+            raise ConnectionError("the server closed it")
+        self._unended.append(piece)
+        if b"\n" not in piece:
+            return []
+        *lines, rest = b"".join(self._unended).split(b"\n")
+        self._unended = [rest]
+        return lines
+
+
+class Exchange:
+    """Requests that are sent together, and how far they are answered."""
+
+    def __init__(self, asked: Sequence[Pending[Any]]) -> None:
+        self._asked = asked
+        self._answered = 0
+        self.position: Optional[int] = None
+        """The position of the last reply that had one."""
+
+    def sent(self) -> bytes:
+        """What is to be sent."""
+        return b"".join(pending._request.line for pending in self._asked)
+
+    @property
+    def is_single(self) -> bool:
+        return len(self._asked) == 1
+
+    @property
+    def is_answered(self) -> bool:
+        return self._answered == len(self._asked)
+
+    def take(self, lines: Sequence[bytes]) -> None:
+        """Takes reply lines, the next ones. `BadReply` where one answers no request."""
+        for line in lines:
+            if self.is_answered:
+                raise BadReply("more replies than requests")
+            position = self._asked[self._answered]._take(line)
+            self.position = self.position if position is None else position
+            self._answered += 1
+
+    def lose(self, error: BaseException) -> LinkLost:
+        """Answers all that is not answered yet by the loss of the link, and gives it."""
+        left = self._asked[self._answered:]
+        is_write = any(pending._request.is_write for pending in left)
+        lost = LinkLost(f"the link was lost: {str(error) or type(error).__name__}", len(left), is_write)
+        for pending in left:
+            pending._answer = lost
+        return lost
+
+
+class Batch:
+    """Requests that are collected to be sent together. What a pipeline is, without the sending."""
+
+    def __init__(self, check: bool = True) -> None:
+        self._check = check
+        self._asked: list[Pending[Any]] = []
+        self._count = 0
+
+    def put(self, key: str, value: str) -> Pending[Done]:
+        """As that of `Client`."""
+        return self._add(put_request(key, value))
+
+    def remove(self, key: str) -> Pending[Done]:
+        """As that of `Client`."""
+        return self._add(remove_request(key))
+
+    def join(self, text: str) -> Pending[Done]:
+        """As that of `Client`."""
+        return self._add(join_request(text))
+
+    def get(self, key: str) -> Pending[Value]:
+        """As that of `Client`."""
+        return self._add(get_request(key))
+
+    def scan(self, first: str, last: str) -> Pending[Pairs]:
+        """As that of `Client`."""
+        return self._add(scan_request(first, last))
+
+    def scan_prefix(self, prefix: str) -> Pending[Pairs]:
+        """As that of `Client`."""
+        return self.scan(*prefix_bounds(prefix))
+
+    def _add(self, request: Request[T]) -> Pending[T]:
+        pending = Pending(request, self._count)
+        self._count += 1
+        self._asked.append(pending)
+        return pending
+
+    def _take_all(self) -> list[Pending[Any]]:
+        asked, self._asked = self._asked, []
+        return asked
+
+    def _raise_first(self, asked: Sequence[Pending[Any]]) -> None:
+        """Raises the first error among these, where they are to be checked."""
+        errors = (pending.error() for pending in asked)
+        error = next((error for error in errors if error is not None), None)
+        if self._check and error is not None:
+            raise error

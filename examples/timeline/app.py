@@ -1,142 +1,113 @@
 #!/usr/bin/env python3
-"""A page with a timeline, posts and follows, over a Pequod server that has the joins of timeline.joins.
+"""Pages with timelines, posts and follows, which an SQLite file has. A Pequod server with timeline.joins is its cache.
 
-    python3 app.py [--port 8000] [--pequod 127.0.0.1:7000]
+    python3 app.py [--port 8000] [--pequod 127.0.0.1:7000] [--data timeline.sqlite]
 
-Every page is scans, and each button is one put or remove: the timelines and the counts are kept by the server. It is
-an example: whoever opens it is whoever they say, so it listens on loopback alone.
+Every page is some ranges of the cache, and each of them is bounded. It is an example: whoever opens it is whoever they say, so it
+listens on loopback alone.
 """
 
 import argparse
-import datetime
-import html
 import http.server
 import pathlib
 import re
+import sqlite3
 import sys
 import time
 import urllib.parse
 
+import pages
+from cache import Cache, Gone
+from truth import Truth
+
 FOLDER = pathlib.Path(__file__).resolve().parent
-sys.path.insert(0, str(FOLDER.parent.parent / "clients" / "python"))
-import pequod  # noqa: E402
-
 NAME = re.compile(r"[a-z][a-z0-9_]{0,19}")
-MAX_POST = 500
-DAYS = 7
+MOMENT = re.compile(r"[0-9]{16}")
 
-HEAD = """<!doctype html>
-<html lang="en"><head><meta charset="utf-8"><meta name="viewport" content="width=device-width, initial-scale=1">
-<title>{title}</title><link rel="stylesheet" href="/style.css"></head><body>
-<header><a href="/">Pequod timeline</a></header><main>
-"""
-FOOT = "</main></body></html>\n"
-
-
-def microseconds(ago_days=0.0):
-    """A time of 16 digits, so that the order of keys is the order of times."""
-    return f"{time.time_ns() // 1_000 - int(ago_days * 86_400_000_000):016}"
+# How many users a page of everybody has, how many of the newest are proposed, and of how many own posts the page without a cache.
+USERS, NEWEST, OWN = 20, 10, 20
+# A timeline shows the posts of so many hours. Where that is few posts the next page has twice the hours, where many half.
+HOURS, MOST_HOURS, FEW, MANY = 7 * 24, 2 * 365 * 24, 20, 100
+HOUR = 3_600_000_000
+# The year 2000: nothing older is offered.
+FIRST = 946_684_800_000_000
 
 
-def link(name):
-    return f'<a class="name" href="/{urllib.parse.quote(name, safe="")}">{html.escape(name)}</a>'
-
-
-def button(user, action, label, poster):
-    return (
-        f'<form method="post" action="/{html.escape(user)}/{action}">'
-        f'<input type="hidden" name="poster" value="{html.escape(poster)}"><button>{label}</button></form>'
-    )
-
-
-def post_text(poster, moment, text):
-    when = datetime.datetime.fromtimestamp(int(moment) / 1e6)
-    return (
-        f'<article><p class="who">{link(poster)} <time>{when:%d %B %H:%M}</time></p>'
-        f'<p class="text">{html.escape(text)}</p></article>'
-    )
-
-
-def people_page(client):
-    """Everybody who ever posted or followed, with the counts that the server keeps."""
+def people_page(client, first):
+    """So many users from this number on, with their counts."""
+    bounds = f"{first:08}", f"{first + USERS:08}"
     with client.pipeline() as pipeline:
-        posts, follows = pipeline.scan("posts|", "posts}"), pipeline.scan("follows|", "follows}")
-    counts = {}
-    for place, pairs in enumerate((posts.result(), follows.result())):
-        for key, count in pairs:
-            counts.setdefault(key.partition("|")[2], ["0", "0"])[place] = count
-    rows = "".join(
-        f"<tr><td>{link(name)}</td><td>{html.escape(posts)}</td><td>{html.escape(follows)}</td></tr>"
-        for name, (posts, follows) in sorted(counts.items())
-    )
-    enter = (
-        '<form class="enter" method="post" action="/"><input name="name" placeholder="your name" required maxlength="20" '
-        'pattern="[a-z][a-z0-9_]*" title="small letters, digits and _"><button>Go in</button></form>'
-    )
-    table = f'<table><tr><th>Name</th><th>Posts</th><th>Follows</th></tr>{rows}</table>' if rows else "<p>Nobody yet.</p>"
-    return HEAD.format(title="Pequod timeline") + f"<h1>Who are you?</h1>{enter}<h2>Everybody</h2>{table}" + FOOT
+        users = pipeline.scan(*(f"user|{bound}" for bound in bounds))
+        counts = pipeline.scan(*(f"who|{bound}" for bound in bounds))
+        total = pipeline.get("users|all")
+    counts = dict(counts.result())
+    rows = []
+    for key, _ in users.result():
+        who = key.replace("user|", "who|", 1)
+        rows.append((key.rpartition("|")[2], counts.get(f"{who}|posts", "0"), counts.get(f"{who}|follows", "0")))
+    return pages.people(rows, first + USERS if first + USERS <= int(total.result().value or 0) else None)
 
 
-def user_page(client, user, days):
-    """A user's timeline of the last days with the own posts, whom the user follows, and who else posts. Other clients may have
-    put keys with other times, which are not shown."""
-    since = microseconds(days)
+def user_page(client, user, before, hours):
+    """A user's timeline of some hours with the own posts, whom the user follows, and who is new. Other clients may have put keys
+    with other times, which are not shown."""
+    total = int(client.get("users|all").value or 0)
+    since = f"{max((before or now()) - hours * HOUR, 0):016}"
+    until = f"|{before:016}" if before else "}"
     with client.pipeline() as pipeline:
-        timeline = pipeline.scan(f"t|{user}|{since}", f"t|{user}}}")
-        own = pipeline.scan(f"p|{user}|{since}", f"p|{user}}}")
+        read = pipeline.scan(f"t|{user}|{since}", f"t|{user}{until}")
+        own = pipeline.scan(f"p|{user}|{since}", f"p|{user}{until}")
         follows = pipeline.scan_prefix(f"s|{user}|")
-        counts = pipeline.scan("posts|", "posts}")
+        newest = pipeline.scan(f"user|{max(total - NEWEST + 1, 1):08}", "user}")
+    posts = [(key.split("|")[3], key.split("|")[2], text) for key, text in read.result()]
+    posts += [(user, key.split("|")[2], text) for key, text in own.result()]
+    posts = [(poster, int(moment), text) for poster, moment, text in posts if MOMENT.fullmatch(moment)]
+    posts.sort(key=lambda post: post[1], reverse=True)
     followed = [key.split("|")[2] for key, _ in follows.result()]
-    others = [key.split("|")[1] for key, _ in counts.result() if key.split("|")[1] not in (user, *followed)]
-    rows = [(*key.split("|")[2:], text) for key, text in timeline.result()]
-    rows += [(key.split("|")[2], user, text) for key, text in own.result()]
-    rows = sorted((row for row in rows if re.fullmatch("[0-9]{16}", row[0])), reverse=True)
-    posts = "".join(post_text(poster, moment, text) for moment, poster, text in rows)
-    left = "".join(f"<li>{link(name)}{button(user, 'unfollow', 'Unfollow', name)}</li>" for name in followed)
-    more = "".join(f"<li>{link(name)}{button(user, 'follow', 'Follow', name)}</li>" for name in others)
-    name = html.escape(user)
-    return (
-        HEAD.format(title=f"{name} - Pequod timeline")
-        + f'<h1>{name}</h1><form class="post" method="post" action="/{name}/post">'
-        + f'<textarea name="text" rows="3" maxlength="{MAX_POST}" required placeholder="What is new?"></textarea>'
-        + f'<button>Post</button></form><div class="columns"><section><h2>Timeline</h2>{posts or "<p>Nothing yet.</p>"}'
-        + f'<p><a href="/{name}?days={min(days * 4, 3650)}">Older posts</a></p></section>'
-        + f'<aside><h2>You follow</h2><ul>{left or "<li>Nobody yet.</li>"}</ul>'
-        + f'<h2>Others</h2><ul>{more or "<li>Nobody.</li>"}</ul>'
-        + f'<p class="position">at position {client.position}</p></aside></div>'
-        + FOOT
-    )
+    names = [key.rpartition("|")[2] for key, _ in reversed(newest.result().pairs)]
+    others = [name for name in names if name not in (user, *followed)]
+    older = older_words(int(since), hours, len(posts))
+    return pages.timeline(user, posts, older, followed, others, client.position)
 
 
-def do_action(client, user, action, fields):
-    """One write, or none where the fields are not what the form has."""
-    if action == "post":
-        text = fields.get("text", "").strip()[:MAX_POST]
-        if text:
-            client.put(f"p|{user}|{microseconds()}", text)
-    elif NAME.fullmatch(fields.get("poster", "")):
-        key = f"s|{user}|{fields['poster']}"
-        if action == "follow":
-            client.put(key, "1")
-        elif action == "unfollow":
-            client.remove(key)
+def older_words(since, hours, shown):
+    """What the link to the page before asks for: what came before this one's, in hours that fit how much this one shows."""
+    hours = min(hours * 2, MOST_HOURS) if shown < FEW else max(hours // 2, 1) if shown > MANY else hours
+    return f"before={since:016}&hours={hours}" if since > FIRST else None
+
+
+def now():
+    """The time in microseconds, which has 16 digits, so that the order of keys is the order of times."""
+    return time.time_ns() // 1_000
+
+
+def number(words, name, pattern, otherwise):
+    """A number of the query of a page."""
+    text = words.get(name, [""])[0]
+    return int(text) if re.fullmatch(pattern, text) else otherwise
 
 
 class Pages(http.server.BaseHTTPRequestHandler):
-    pool: pequod.Pool
+    truth: Truth
+    cache: Cache
 
     def do_GET(self):
         where = urllib.parse.urlsplit(self.path)
-        user = where.path[1:]
+        user, words = where.path[1:], urllib.parse.parse_qs(where.query)
         if user == "style.css":
             self.answer((FOLDER / "style.css").read_text(encoding="utf-8"), kind="text/css")
         elif user == "":
-            self.ask(people_page)
+            first = number(words, "from", "[0-9]{1,7}", 1)
+            self.show(lambda: self.cache.read(people_page, first), pages.people_without_cache)
         elif NAME.fullmatch(user):
-            days = urllib.parse.parse_qs(where.query).get("days", [""])[0]
-            self.ask(user_page, user, min(int(days), 3650) if re.fullmatch("[0-9]{1,4}", days) else DAYS)
+            before = number(words, "before", "[0-9]{16}", None)
+            hours = min(max(number(words, "hours", "[0-9]{1,6}", HOURS), 1), MOST_HOURS)
+            self.show(
+                lambda: self.cache.read(user_page, user, before, hours),
+                lambda: pages.timeline_without_cache(user, self.truth.latest(user, OWN)),
+            )
         else:
-            self.answer(HEAD.format(title="Not here") + "<h1>Nothing is here</h1>" + FOOT, 404)
+            self.answer(pages.not_here(), 404)
 
     def do_POST(self):
         length = self.headers.get("Content-Length", "")
@@ -147,23 +118,35 @@ class Pages(http.server.BaseHTTPRequestHandler):
             name = fields.get("name", "").strip().lower()
             self.go_to(f"/{name}" if NAME.fullmatch(name) else "/")
         elif NAME.fullmatch(user):
-            if self.ask(do_action, user, action, fields, is_page=False):
-                self.go_to(f"/{user}")
+            self.change(user, action, fields)
         else:
             self.go_to("/")
 
-    def ask(self, make, *words, is_page=True):
-        """Calls what makes a page or a write with a client of the pool, and answers what goes wrong with a page of its own."""
+    def change(self, user, action, fields):
+        """One change, or none where the fields are not what the form has. Then comes the user's page, with or without the cache,
+        so that loading it again sends nothing twice."""
+        text, poster = fields.get("text", "").strip()[: pages.MAX_POST], fields.get("poster", "")
         try:
-            with self.pool.client() as client:
-                text = make(client, *words)
-        except (pequod.PequodError, OSError) as error:
-            text = f"<h1>The cache did not answer</h1><p>{html.escape(str(error))}</p>"
-            self.answer(HEAD.format(title="No answer") + text + FOOT, 503)
-            return False
-        if is_page:
-            self.answer(text)
-        return True
+            if action == "post" and text:
+                self.cache.write(self.truth.post, user, now(), text)
+            elif action in ("follow", "unfollow") and NAME.fullmatch(poster) and poster != user:
+                self.cache.write(getattr(self.truth, action), user, poster)
+        except sqlite3.Error as error:
+            print(f"{type(error).__name__}: {error}", file=sys.stderr)
+            self.answer(pages.not_saved(user, text), 503)
+            return
+        self.go_to(f"/{user}")
+
+    def show(self, make, make_without):
+        """A page of the cache, or the one that takes its place where there is no cache."""
+        for make_page, status in ((make, 200), (make_without, 503)):
+            try:
+                page = make_page()
+                break
+            except (*Gone, sqlite3.Error) as error:
+                print(f"{type(error).__name__}: {error}", file=sys.stderr)
+                page = pages.nothing_answers()
+        self.answer(page, status)
 
     def answer(self, text, status=200, kind="text/html"):
         body = text.encode()
@@ -184,15 +167,32 @@ class Pages(http.server.BaseHTTPRequestHandler):
         """Nothing is logged."""
 
 
-def main():
-    words = argparse.ArgumentParser(description=__doc__.splitlines()[0])
-    words.add_argument("--port", type=int, default=8000)
+def reader(about):
+    """What reads the words on the command line that name the truth and the cache."""
+    words = argparse.ArgumentParser(description=about.splitlines()[0])
     words.add_argument("--pequod", default="127.0.0.1:7000", metavar="HOST:PORT")
-    options = words.parse_args()
-    host, _, port = options.pequod.rpartition(":")
-    # Each of these holds a worker of the server: two are left of four, for fill.py and for whoever else comes.
-    Pages.pool = pequod.Pool(host, int(port), size=2)
-    with http.server.ThreadingHTTPServer(("127.0.0.1", options.port), Pages) as server:
+    words.add_argument("--data", default="timeline.sqlite", metavar="FILE")
+    return words
+
+
+def site(given):
+    """The truth and the cache that the words name."""
+    truth = Truth(given.data)
+    host, _, port = given.pequod.rpartition(":")
+    return truth, Cache(truth, host, int(port))
+
+
+def main():
+    words = reader(__doc__)
+    words.add_argument("--port", type=int, default=8000)
+    given = words.parse_args()
+    Pages.truth, Pages.cache = site(given)
+    try:
+        # The first read fills the cache.
+        Pages.cache.read(lambda client: None)
+    except Gone as error:
+        print(f"No cache yet: {error}", file=sys.stderr)
+    with http.server.ThreadingHTTPServer(("127.0.0.1", given.port), Pages) as server:
         print(f"http://127.0.0.1:{server.server_port}/", flush=True)
         try:
             server.serve_forever()

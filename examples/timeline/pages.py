@@ -1,0 +1,103 @@
+"""The pages as text. All that a user typed is escaped here."""
+
+import datetime
+import html
+import urllib.parse
+
+MAX_POST = 500
+
+FRAME = """<!doctype html>
+<html lang="en"><head><meta charset="utf-8"><meta name="viewport" content="width=device-width, initial-scale=1">
+<title>{title}</title><link rel="stylesheet" href="/style.css"></head><body>
+<header><a href="/">Pequod timeline</a></header><main>
+{body}</main></body></html>
+"""
+ENTER = (
+    '<h1>Who are you?</h1><form class="enter" method="post" action="/"><input name="name" placeholder="your name" required '
+    'maxlength="20" pattern="[a-z][a-z0-9_]*" title="small letters, digits and _"><button>Go in</button></form>'
+)
+NO_CACHE = '<p class="notice">The cache does not answer, so no {what} can be shown now.{more}</p>'
+
+
+def frame(title, body):
+    return FRAME.format(title=html.escape(title), body=body)
+
+
+def link(name):
+    return f'<a class="name" href="/{urllib.parse.quote(name, safe="")}">{html.escape(name)}</a>'
+
+
+def button(user, action, label, poster):
+    return (
+        f'<form method="post" action="/{html.escape(user)}/{action}">'
+        f'<input type="hidden" name="poster" value="{html.escape(poster)}"><button>{label}</button></form>'
+    )
+
+
+def post_form(user, typed=""):
+    return (
+        f'<form class="post" method="post" action="/{user}/post"><textarea name="text" rows="3" maxlength="{MAX_POST}" required '
+        f'placeholder="What is new?">\n{html.escape(typed)}</textarea><button>Post</button></form>'
+    )
+
+
+def post_text(poster, moment, text):
+    when = datetime.datetime.fromtimestamp(moment / 1e6)
+    return (
+        f'<article><p class="who">{link(poster)} <time>{when:%d %B %Y %H:%M}</time></p>'
+        f'<p class="text">{html.escape(text)}</p></article>'
+    )
+
+
+def people(rows, after):
+    """Users with their counts, as `(name, posts, follows)`, and where the next page begins, if there is one."""
+    table = "".join(
+        f"<tr><td>{link(name)}</td><td>{html.escape(posts)}</td><td>{html.escape(follows)}</td></tr>"
+        for name, posts, follows in rows
+    )
+    table = f'<table><tr><th>Name</th><th>Posts</th><th>Follows</th></tr>{table}</table>' if rows else "<p>Nobody yet.</p>"
+    more = f'<p><a href="/?from={after}">More</a></p>' if after else ""
+    return frame("Pequod timeline", f"{ENTER}<h2>Everybody</h2>{table}{more}")
+
+
+def people_without_cache():
+    return frame("No cache", ENTER + NO_CACHE.format(what="list of users", more=""))
+
+
+def timeline(user, posts, older, followed, others, position):
+    """A user's page. `older` is what the link to older posts asks for, if there is one."""
+    shown = "".join(post_text(*post) for post in posts) or "<p>Nothing here.</p>"
+    older = f'<p><a href="/{user}?{html.escape(older)}">Older posts</a></p>' if older else ""
+    left = "".join(f"<li>{link(name)}{button(user, 'unfollow', 'Unfollow', name)}</li>" for name in followed)
+    more = "".join(f"<li>{link(name)}{button(user, 'follow', 'Follow', name)}</li>" for name in others)
+    return frame(
+        f"{user} - Pequod timeline",
+        f'<h1>{user}</h1>{post_form(user)}<div class="columns"><section><h2>Timeline</h2>{shown}{older}</section>'
+        f'<aside><h2>You follow</h2><ul>{left or "<li>Nobody yet.</li>"}</ul>'
+        f'<h2>New here</h2><ul>{more or "<li>Nobody.</li>"}</ul>'
+        f'<p class="position">at position {position}</p></aside></div>',
+    )
+
+
+def timeline_without_cache(user, posts):
+    """A user's page with the own posts alone, which are those of the truth."""
+    more = " What you post is saved all the same, and appears to others when the cache is back."
+    saved = "".join(post_text(user, *post) for post in posts) or "<p>Nothing yet.</p>"
+    notice = NO_CACHE.format(what="timeline", more=more)
+    return frame("No cache", f"<h1>{user}</h1>{notice}{post_form(user)}<h2>Your last posts, as saved</h2>{saved}")
+
+
+def not_saved(user, typed):
+    """What follows a change that was not saved, with what was typed."""
+    return frame(
+        "Not saved",
+        f'<h1>{user}</h1><p class="notice">This was not saved. Please send it again.</p>{post_form(user, typed)}',
+    )
+
+
+def nothing_answers():
+    return frame("No answer", '<p class="notice">Neither the cache nor the database answers.</p>')
+
+
+def not_here():
+    return frame("Not here", "<h1>Nothing is here</h1>")

@@ -6,9 +6,9 @@ use Rattle.std.proofs.lemmas.Bool.{cond_both}
 use Rattle.serde_json.specs.Data.{Data, null, boolean, number, string, array, object, Items, no_items, item}
 use Rattle.semantics.specs.Texts.{Text, same, is_range}
 use Rattle.protocol.specs.Lines.{Bytes}
-use Rattle.protocol.specs.Requests.{Request, write, read, quit, LineFault, json, form, range, json_of, text_of, texts_of, request_of_texts}
+use Rattle.protocol.specs.Requests.{Request, write, read, quit, LineFault, json, form, range, json_of, position_of, text_of, form_of, request_of_items}
 use Rattle.core_events.specs.Events.{Event, piece, advance, evict, finish, is_bound, IsEvent}
-use Rattle.core_events.specs.Scripts.{ranged, number_of, position_of, or_form, is_write_form, append_written, append_texts, begin_event, piece_event, mend_event, event_of_one, event_of_two, event_of_three, event_of_word, event_of_items, event_of_value, event_of_json, event_of, onto_events, at_line, events_of_lines, script_lines, script_events}
+use Rattle.core_events.specs.Scripts.{ranged, number_of, or_form, is_write_form, append_written, append_texts, begin_event, piece_event, mend_event, event_of_one, event_of_two, event_of_three, event_of_word, event_of_items, event_of_value, event_of_json, event_of, onto_events, at_line, events_of_lines, script_lines, script_events}
 use Rattle.core_events.specs.ScriptLaws.{ScriptsGiveEvents}
 
 -- what was read is an event of which what is asked holds
@@ -44,8 +44,8 @@ good_written client (Ok (write w)) = record { holds = tt }
 good_written client (Ok (read r)) = good_fault form
 good_written client (Ok quit) = good_fault form
 
-good_append : (client : ℕ) (texts : List Text) → IsGood (append_texts client texts)
-good_append client texts = good_either (is_write_form texts) _ _ (good_written client (request_of_texts texts)) (good_fault form)
+good_append : (client : ℕ) (items : List Text × Option ℕ) → IsGood (append_texts client items)
+good_append client items = good_either (is_write_form items) _ _ (good_written client (request_of_items items)) (good_fault form)
 
 good_begin : (scan : ℕ) (low high : Text) → IsGood (begin_event scan low high)
 good_begin scan low high = good_either (is_range low high) _ _ (record { holds = tt }) (good_fault range)
@@ -63,7 +63,7 @@ good_one word a =
 
 good_two : (word : Text) (a b : Data) → IsGood (event_of_two word a b)
 good_two word a b =
-    good_either (same word (codes "append")) _ _ (good_or_form _ (some_then (λ client. option_map (append_texts client) (texts_of b)) (number_of a) (λ client. some_mapped (append_texts client) (texts_of b) (good_append client))))
+    good_either (same word (codes "append")) _ _ (good_or_form _ (some_then (λ client. option_map (append_texts client) (form_of b)) (number_of a) (λ client. some_mapped (append_texts client) (form_of b) (good_append client))))
     (good_either (same word (codes "piece")) _ _ (good_or_form _ (some_then (λ scan. option_map (piece_event scan) (text_of b)) (number_of a) (λ scan. some_mapped (piece_event scan) (text_of b) (good_piece scan))))
     (good_either (same word (codes "advance")) _ _ (good_or_form _ (some_then (λ cell. option_map (λ to. Ok (advance cell to)) (position_of b)) (number_of a) (λ cell. some_mapped (λ to. Ok (advance cell to)) (position_of b) (λ to. record { holds = tt }))))
     (good_fault form)))

@@ -5,35 +5,16 @@ use Rattle.semantics.specs.Texts.{Text, same, is_range}
 use Rattle.semantics.specs.Patterns.{pieces}
 use Rattle.protocol.specs.Lines.{Bytes}
 use Rattle.protocol.specs.JoinsFile.{counted_lines}
-use Rattle.protocol.specs.Requests.{Request, write, read, quit, LineFault, json, form, range, json_of, text_of, texts_of, request_of_texts}
+use Rattle.protocol.specs.Requests.{Request, write, read, quit, LineFault, json, form, range, json_of, whole_below, position_of, text_of, form_of, request_of_items}
 use Rattle.protocol.specs.Replies.{fault_name}
 use Rattle.core_events.specs.Events.{Event, append, begin, piece, advance, mend, evict, finish, is_bound}
 use Rattle.core_events.specs.Printed.{script_text}
 
 -- ---- items
 
--- the whole number that a JSON number is, where it is below a limit
-abbrev pub unsigned_below : ℕ → Num → Option ℕ
-unsigned_below limit (unsigned n) = if nat_lt n limit then Some n else None
-unsigned_below limit (negative z) = None
-unsigned_below limit (float f) = None
-
--- the whole number that a JSON value is, where it is below a limit
-abbrev pub whole_below : ℕ → Data → Option ℕ
-whole_below limit null = None
-whole_below limit (boolean b) = None
-whole_below limit (number n) = unsigned_below limit n
-whole_below limit (string s) = None
-whole_below limit (array ds) = None
-whole_below limit (object ms) = None
-
 -- the number of a client, a scan or a cell
 abbrev pub number_of : Data → Option ℕ
 number_of = whole_below (2 ^ 32)
-
--- a position of a history
-abbrev pub position_of : Data → Option ℕ
-position_of = whole_below (2 ^ 48)
 
 -- the event where there is one, and otherwise `form`
 abbrev pub or_form : Option (Result Event LineFault) → Result Event LineFault
@@ -42,12 +23,23 @@ or_form found = unwrap_or found (Err form)
 -- ---- the events by their items
 
 -- whether the texts have the form of a put, a remove or a join
-abbrev pub is_write_form : List Text → Bool
-is_write_form [] = false
-is_write_form (word ∷ []) = false
-is_write_form (word ∷ a ∷ []) = same word (codes "remove") || same word (codes "join")
-is_write_form (word ∷ a ∷ b ∷ []) = same word (codes "put")
-is_write_form (word ∷ a ∷ b ∷ c ∷ others) = false
+abbrev is_write_of_texts : List Text → Bool
+is_write_of_texts [] = false
+is_write_of_texts (word ∷ []) = false
+is_write_of_texts (word ∷ a ∷ []) = same word (codes "remove") || same word (codes "join")
+is_write_of_texts (word ∷ a ∷ b ∷ []) = same word (codes "put")
+is_write_of_texts (word ∷ a ∷ b ∷ c ∷ others) = false
+
+-- whether texts with a position behind them have the form of a drop
+abbrev is_write_at : List Text → Bool
+is_write_at [] = false
+is_write_at (word ∷ []) = same word (codes "drop")
+is_write_at (word ∷ a ∷ others) = false
+
+-- whether the items have the form of a write
+abbrev pub is_write_form : List Text × Option ℕ → Bool
+is_write_form (texts, None) = is_write_of_texts texts
+is_write_form (texts, Some n) = is_write_at texts
 
 -- the event that appends what is requested, where it is a write
 abbrev pub append_written : ℕ → Result Request LineFault → Result Event LineFault
@@ -57,8 +49,8 @@ append_written client (Ok (read r)) = Err form
 append_written client (Ok quit) = Err form
 
 -- the event that appends the write that the texts request
-abbrev pub append_texts : ℕ → List Text → Result Event LineFault
-append_texts client texts = if is_write_form texts then append_written client (request_of_texts texts) else Err form
+abbrev pub append_texts : ℕ → List Text × Option ℕ → Result Event LineFault
+append_texts client items = if is_write_form items then append_written client (request_of_items items) else Err form
 
 -- a scan begins over a range
 abbrev pub begin_event : ℕ → Text → Text → Result Event LineFault
@@ -81,7 +73,7 @@ event_of_one word a =
 -- an event with two items behind its word
 abbrev pub event_of_two : Text → Data → Data → Result Event LineFault
 event_of_two word a b =
-    if same word (codes "append") then or_form (option_and_then (λ client. option_map (append_texts client) (texts_of b)) (number_of a))
+    if same word (codes "append") then or_form (option_and_then (λ client. option_map (append_texts client) (form_of b)) (number_of a))
     else (if same word (codes "piece") then or_form (option_and_then (λ scan. option_map (piece_event scan) (text_of b)) (number_of a))
     else (if same word (codes "advance") then or_form (option_and_then (λ cell. option_map (λ to. Ok (advance cell to)) (position_of b)) (number_of a))
     else Err form))

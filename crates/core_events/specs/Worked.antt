@@ -71,11 +71,26 @@ NothingToDo = Prints
     ∷ codes "[\"pairs\",1,[]]"
     ∷ [])
 
--- a write that is refused is answered so
+-- writes that are refused are answered so, and a join that is dropped between the pieces of a scan stands at the scan's position
 abbrev pub RefusedWrite : Type 0
 RefusedWrite = Prints
-    (codes "[\"append\",1,[\"put\",\"k|1\",\"a\"]]" ∷ codes "[\"append\",4294967295,[\"join\",\"t|<u> = copy p|<u>\"]]" ∷ [])
-    (codes "[\"ok\",1]" ∷ codes "[\"error\",\"late\",1]" ∷ [])
+    (codes "[\"append\",1,[\"put\",\"p|1\",\"a\"]]"
+    ∷ codes "[\"append\",4294967295,[\"join\",\"t|<u> = copy p|<u>\"]]"
+    ∷ codes "[\"append\",1,[\"put\",\"t|1\",\"b\"]]"
+    ∷ codes "[\"begin\",1,\"t|\",\"t}\"]"
+    ∷ codes "[\"piece\",1,\"t|1\"]"
+    ∷ codes "[\"append\",1,[\"drop\",2]]"
+    ∷ codes "[\"append\",1,[\"drop\",2]]"
+    ∷ codes "[\"piece\",1,\"t}\"]"
+    ∷ codes "[\"finish\",1]"
+    ∷ [])
+    (codes "[\"ok\",1]"
+    ∷ codes "[\"ok\",2]"
+    ∷ codes "[\"error\",\"computed\",2,2]"
+    ∷ codes "[\"ok\",3]"
+    ∷ codes "[\"error\",\"nojoin\",3]"
+    ∷ codes "[\"pairs\",2,[[\"t|1\",\"a\"]]]"
+    ∷ [])
 
 -- a line that does not read is the one thing that is printed, by the first rule that it breaks
 abbrev pub RefusedLines : Type 0

@@ -6,7 +6,7 @@ use Rattle.std.specs.FinMap.Entries.{is_sorted, below_all}
 use Rattle.std.proofs.lemmas.Bool.{false≢true, and_parts}
 use Rattle.std.proofs.lemmas.Option.{none-some, same_Some, slice_get_past}
 use Rattle.semantics.specs.Texts.{Text, same, text_cmp, Table, value_at, with_pair, Range, within}
-use Rattle.semantics.specs.Histories.{Write, put, remove, declare, Entry, History}
+use Rattle.semantics.specs.Histories.{Write, put, remove, declare, drop_join, Entry, History}
 use Rattle.semantics.proofs.PieceLemmas.{equal_by_same, same_by_equal}
 use Rattle.semantics.proofs.MemberLemmas.{Has, has_from_contains, contains_from_has, has_filter, has_filtered, has_map, has_mapped, has_flat_map, has_flat_mapped}
 use Rattle.semantics.proofs.TableLemmas.{IsAscending, value_at-with_pair, ascending-with_pair, has_from_value, value_from_has}
@@ -140,11 +140,13 @@ writes_from_has (put k v) key (inr h) = absurd h
 writes_from_has (remove k) key (inl e) = e
 writes_from_has (remove k) key (inr h) = absurd h
 writes_from_has (declare j) key h = h
+writes_from_has (drop_join at) key h = h
 
 has_from_writes : (write : Write) (key : Text) → Writes write key → Has (written write) key
 has_from_writes (put k v) key e = inl e
 has_from_writes (remove k) key e = inl e
 has_from_writes (declare j) key h = h
+has_from_writes (drop_join at) key h = h
 
 -- what is said of the entry at a place, from the entry
 some_at : (o : Option Entry) (e : Entry) (key : Text) → o ≡ Some e → Writes e.write key → IsSomeAnd o (λ f. Writes f.write key)

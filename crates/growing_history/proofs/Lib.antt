@@ -7,3 +7,4 @@ pub mod ChangeLemmas
 pub mod OrderLemmas
 pub mod TableNameLemmas
 pub mod UnchangedLemmas
+pub mod BareLemmas

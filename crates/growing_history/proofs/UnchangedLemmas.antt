@@ -7,7 +7,7 @@ use Rattle.std.proofs.lemmas.Option.{slice_get-get_or}
 use Rattle.semantics.specs.Texts.{Text, bar, same, table_of, Table, value_at, is_range, Range, within}
 use Rattle.semantics.specs.Patterns.{literal, slot, Pattern, is_pattern, segments, fits}
 use Rattle.semantics.specs.Joins.{is_join}
-use Rattle.semantics.specs.Histories.{Write, put, remove, declare, Entry, History, DeclaredJoin, joins_after, joins_from, joins_of, base_after, base_of, is_computed}
+use Rattle.semantics.specs.Histories.{Write, put, remove, declare, drop_join, Entry, History, DeclaredJoin, joins_after, joins_from, joins_of, base_after, base_of, is_computed}
 use Rattle.semantics.specs.States.{below}
 use Rattle.semantics.specs.StateLaws.{DeclaresJoins}
 use Rattle.semantics.proofs.PieceLemmas.{same_by_equal, equal_by_same, pieces-append}
@@ -24,29 +24,6 @@ use Rattle.growing_history.specs.ChangeLaws.{Writes, UnchangedIsSame, BareIsBase
 use Rattle.growing_history.proofs.ElementLemmas.{all_left}
 use Rattle.growing_history.proofs.ChangeLemmas.{changed_keys_are_written}
 use Rattle.growing_history.proofs.PartLemmas.{same_within}
-
--- ---- the joins that stood earlier
-
--- what holds of all joins after a write holds of those before it
-all_before_write : (P : DeclaredJoin → Type 0) (position : ℕ) (write : Write) (joins : List DeclaredJoin) → AllByRecursion P (joins_after position write joins) → AllByRecursion P joins
-all_before_write P position (put k v) joins h = h
-all_before_write P position (remove k) joins h = h
-all_before_write P position (declare j) joins h = all_left P joins _ h
-
--- and after entries, before them
-all_before : (P : DeclaredJoin → Type 0) (position : ℕ) (joins : List DeclaredJoin) (h : History) → AllByRecursion P (joins_from position joins h) → AllByRecursion P joins
-all_before P position joins [] all = all
-all_before P position joins (e ∷ es) all = all_before_write P position e.write joins (all_before P (position + 1) (joins_after position e.write joins) es all)
-
--- what holds of all joins that stand after entries holds of those that stand after the first of them
-all_earlier_from : (P : DeclaredJoin → Type 0) (position : ℕ) (joins : List DeclaredJoin) (h : History) (x : ℕ) → AllByRecursion P (joins_from position joins h) → AllByRecursion P (joins_from position joins (take x h))
-all_earlier_from P position joins h zero all = all_before P position joins h all
-all_earlier_from P position joins [] (suc x) all = all
-all_earlier_from P position joins (e ∷ es) (suc x) all = all_earlier_from P (position + 1) (joins_after position e.write joins) es x all
-
--- what holds of all joins that stand holds of those that stood earlier
-pub all_earlier : (P : DeclaredJoin → Type 0) (h : History) (x : ℕ) → AllByRecursion P (joins_of h) → AllByRecursion P (joins_of (take x h))
-all_earlier P h x all = all_earlier_from P 1 [] h x all
 
 -- ---- the table of a key
 
@@ -89,6 +66,7 @@ base_kept_by (remove k) key table other =
     let apart : same key k ≡ false = false_from_ne_true (same key k) (λ e. other (sym (equal_by_same key k e))) in
     value_at-without_key key k table ∙ ap (λ b. cond (not b) (value_at key table) None) apart
 base_kept_by (declare j) key table other = refl
+base_kept_by (drop_join at) key table other = refl
 
 -- the history up to one entry more
 taken_more : (h : History) (x : ℕ) → x < length h → (e : Entry) × (slice_get h x ≡ Some e) × (take (x + 1) h ≡ take x h ++ e ∷ [])

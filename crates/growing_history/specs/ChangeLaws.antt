@@ -4,16 +4,18 @@ use Rattle.std.specs.List.Sorted.{IsStrictlySortedBy}
 use Rattle.std.specs.Option.{IsSomeAnd}
 use Rattle.semantics.specs.Texts.{Text, text_cmp, table_of, is_range, Range, within, pairs_within}
 use Rattle.semantics.specs.Patterns.{Pattern, is_pattern, fits}
-use Rattle.semantics.specs.Histories.{Write, put, remove, declare, History, joins_of, base_of}
+use Rattle.semantics.specs.Histories.{Write, put, remove, declare, drop_join, History, joins_of, base_of}
 use Rattle.semantics.specs.States.{below}
 use Rattle.semantics.specs.StateLaws.{DeclaresJoins}
-use Rattle.growing_history.specs.Changes.{changed_keys, Same, has_table, is_bare, IsBareThroughout}
+use Rattle.growing_history.specs.Changes.{changed_keys, Same, has_table, is_bare, IsBareThroughout, bare_between}
+use Rattle.semantics.specs.Stays.{stays_of}
 
 -- the write puts or removes the key
 abbrev pub Writes : Write → Text → Type 0
 Writes (put k v) key = k ≡ key
 Writes (remove k) key = k ≡ key
 Writes (declare j) key = ⊥
+Writes (drop_join at) key = ⊥
 
 -- one of the entries q + 1 to p puts or removes the key; entry x + 1 stands at place x of the history
 abbrev pub IsWrittenBetween : ℕ → ℕ → History → Text → Type 0
@@ -44,3 +46,7 @@ TableOfFitting = (p : Pattern) (table key : Text) → is_pattern p ≡ true → 
 abbrev pub BareIsBase : Type 0
 BareIsBase = (h : History) (rank : ℕ) (r : Range) → DeclaresJoins h → is_range r.low r.high ≡ true → is_bare r (joins_of h) ≡ true →
     pairs_within r (below h rank) ≡ pairs_within r (base_of h)
+
+-- a range is bare at all positions from q to p exactly where no join that stood at one of them has its output in the table
+abbrev pub BareBetweenIsThroughout : Type 0
+BareBetweenIsThroughout = (h : History) (q p : ℕ) (r : Range) → q ≤ p → (bare_between q p (table_of r.low) (stays_of h) ≡ true) ↔ IsBareThroughout h q p r

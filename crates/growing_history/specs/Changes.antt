@@ -1,9 +1,10 @@
 -- What changes between two positions of a history.
-use Rattle.std.specs.Prelude.{◌≡◌, ℕ, ◌-◌, ◌≤◌, List, [], ◌∷◌, map, filter, flat_map, fold, take, drop, Bool, true, false, not}
+use Rattle.std.specs.Prelude.{◌≡◌, ℕ, ◌-◌, ◌≤◌, List, [], ◌∷◌, map, filter, flat_map, fold, take, drop, Bool, true, false, not, ◌||◌}
 use Rattle.std.specs.List.{list_all}
 use Rattle.semantics.specs.Texts.{Text, same, table_of, value_at, with_pair, Range, within}
 use Rattle.semantics.specs.Patterns.{literal, slot, Pattern}
-use Rattle.semantics.specs.Histories.{Write, put, remove, declare, History, DeclaredJoin, joins_of}
+use Rattle.semantics.specs.Histories.{Write, put, remove, declare, drop_join, History, DeclaredJoin, joins_of}
+use Rattle.semantics.specs.Stays.{Stay, stands_between}
 use Rattle.semantics.specs.States.{below}
 
 -- the key that a write puts or removes
@@ -11,6 +12,7 @@ abbrev pub written : Write → List Text
 written (put k v) = k ∷ []
 written (remove k) = k ∷ []
 written (declare j) = []
+written (drop_join at) = []
 
 -- the entries after the first q, up to the first p
 abbrev pub entries_between : ℕ → ℕ → History → History
@@ -45,3 +47,7 @@ IsBareAt h x range = is_bare range (joins_of (take x h)) ≡ true
 -- the range is bare at all positions from q to p
 abbrev pub IsBareThroughout : History → ℕ → ℕ → Range → Type 0
 IsBareThroughout h q p range = (x : ℕ) → q ≤ x → x ≤ p → IsBareAt h x range
+
+-- whether no join that stood at some position from q to p has its output in a table
+abbrev pub bare_between : ℕ → ℕ → Text → List Stay → Bool
+bare_between q p table stays = list_all (λ s. not (stands_between q p s) || not (has_table s.join.output table)) stays

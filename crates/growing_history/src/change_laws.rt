@@ -1,5 +1,5 @@
 // Laws on what changes between two positions.
-ghost use Rattle.growing_history.specs.ChangeLaws.{ChangedKeysAscend, ChangedKeysAreWritten, UnchangedIsSame, TableOfFitting, BareIsBase};
+ghost use Rattle.growing_history.specs.ChangeLaws.{ChangedKeysAscend, ChangedKeysAreWritten, UnchangedIsSame, TableOfFitting, BareIsBase, BareBetweenIsThroughout};
 
 /// The changed keys of a range ascend, each once.
 pub fn changed_keys_ascend()
@@ -25,4 +25,10 @@ pub fn table_of_fitting()
 /// In a bare range the state with the joins of ranks below any one is the base pairs.
 pub fn bare_is_base()
     ensures { BareIsBase }
+{}
+
+/// A range is bare at all positions from one to another exactly where no join that stood at one of them has its output in
+/// the range's table.
+pub fn bare_between_is_throughout()
+    ensures { BareBetweenIsThroughout }
 {}

@@ -46,10 +46,10 @@ impl Positions {
 pub enum Cause {
     /// The key fits the output of the join at this position.
     Computed(u64),
-    /// A put or remove has entered before a declaration.
-    Late,
     /// The history has no room.
     Full,
+    /// No join stands that was declared at the position.
+    NoJoin,
     /// The join breaks the rule on slots.
     Slots,
     /// The join breaks the rule on sources.

@@ -17,6 +17,8 @@ pub enum Write {
     Remove(Key),
     /// The join stands from now on.
     Declare(Join),
+    /// The join that was declared at the position stands no more.
+    Drop(u64),
 }
 
 /// An entry of the history: the number of the client that wrote it, and the write.
@@ -63,6 +65,7 @@ impl Write {
             Write::Put(key, value) => Ok(Write::Put(key.copy()?, value.copy()?)),
             Write::Remove(key) => Ok(Write::Remove(key.copy()?)),
             Write::Declare(join) => Ok(Write::Declare(join.copy(alloc)?)),
+            Write::Drop(position) => Ok(Write::Drop(*position)),
         }
     }
 }

@@ -1,14 +1,10 @@
 -- Where joins stand in a history, and what stays between two positions.
-use Rattle.std.specs.Prelude.{◌≡◌, ℕ, ◌≤◌, ◌==◌, List, find, fold, take, Option}
+use Rattle.std.specs.Prelude.{◌≡◌, ℕ, ◌≤◌, ◌==◌, List, find, take, Option}
 use Rattle.semantics.specs.Texts.{Text, value_at}
 use Rattle.semantics.specs.Joins.{Join}
 use Rattle.semantics.specs.Histories.{History, DeclaredJoin, joins_of}
 use Rattle.semantics.specs.Outputs.{out}
 use Rattle.semantics.specs.States.{below}
-
--- the position of the last join, 0 where there is none
-abbrev pub last_declared : List DeclaredJoin → ℕ
-last_declared joins = fold (λ position s. s.position) 0 joins
 
 -- the join that was declared at a position, if there is one
 abbrev pub declared_at : ℕ → List DeclaredJoin → Option DeclaredJoin

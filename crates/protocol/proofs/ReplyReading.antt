@@ -4,7 +4,7 @@ use Rattle.std.specs.Prelude.{codes, if◌then◌else◌}
 use Rattle.std.specs.List.{slice_index_or}
 use Rattle.serde_json.specs.Data.{Num, unsigned, negative, float, Data, null, boolean, number, string, array, object, Items, no_items, item}
 use Rattle.semantics.specs.Texts.{Text, Table, same}
-use Rattle.semantics.specs.Verdicts.{computed, late, full, slots, sources, clash, cycle, deep, many}
+use Rattle.semantics.specs.Verdicts.{computed, full, nojoin, slots, sources, clash, cycle, deep, many}
 use Rattle.semantics.specs.Answers.{found, absent, pairs}
 use Rattle.protocol.specs.Rows.{whole_number, list_of}
 use Rattle.protocol.specs.Requests.{json, form, key, value, range, syntax}
@@ -60,8 +60,8 @@ pair_in d = (text_in (item_at (list_in d) 0), text_in (item_at (list_in d) 1))
 abbrev error_in : Text → List Data → Reply
 error_in name items =
     if same name (codes "computed") then refused (number_in (item_at items 2)) (computed (number_in (item_at items 3)))
-    else (if same name (codes "late") then refused (number_in (item_at items 2)) late
     else (if same name (codes "full") then refused (number_in (item_at items 2)) full
+    else (if same name (codes "nojoin") then refused (number_in (item_at items 2)) nojoin
     else (if same name (codes "slots") then refused (number_in (item_at items 2)) slots
     else (if same name (codes "sources") then refused (number_in (item_at items 2)) sources
     else (if same name (codes "clash") then refused (number_in (item_at items 2)) (clash (number_in (item_at items 3)))
@@ -104,8 +104,8 @@ reply_in-reply_items (answered (found n v)) = refl
 reply_in-reply_items (answered (absent n)) = refl
 reply_in-reply_items (answered (pairs n table)) = ap (λ t. answered (pairs n t)) (pairs_read table)
 reply_in-reply_items (refused n (computed position)) = refl
-reply_in-reply_items (refused n late) = refl
 reply_in-reply_items (refused n full) = refl
+reply_in-reply_items (refused n nojoin) = refl
 reply_in-reply_items (refused n slots) = refl
 reply_in-reply_items (refused n sources) = refl
 reply_in-reply_items (refused n (clash position)) = refl

@@ -5,7 +5,7 @@ use Rattle.std.specs.List.{AllByRecursion}
 use Rattle.serde_json.specs.View.{items_of}
 use Rattle.serde_json.specs.Written.{compact_text}
 use Rattle.semantics.specs.Texts.{Text, Table}
-use Rattle.semantics.specs.Verdicts.{Cause, computed, late, full, slots, sources, clash, cycle, deep, many}
+use Rattle.semantics.specs.Verdicts.{Cause, computed, full, nojoin, slots, sources, clash, cycle, deep, many}
 use Rattle.semantics.specs.Answers.{Answer, found, absent, pairs}
 use Rattle.protocol.specs.Rows.{whole_number, list_of}
 use Rattle.protocol.specs.Requests.{LineFault, json, form, key, value, range, syntax}
@@ -42,8 +42,8 @@ small_fault (syntax at) h = (h, tt)
 -- what a cause carries is small
 small_cause : (cause : Cause) → HasSmallCause cause → AllByRecursion IsSmallData (cause_items cause)
 small_cause (computed position) h = (h, tt)
-small_cause late h = tt
 small_cause full h = tt
+small_cause nojoin h = tt
 small_cause slots h = tt
 small_cause sources h = tt
 small_cause (clash position) h = (h, tt)

@@ -9,7 +9,7 @@ use Rattle.std.proofs.lemmas.Bool.{false≢true}
 use Rattle.json.specs.Print.{escape_byte}
 use Rattle.semantics.specs.Texts.{Text}
 use Rattle.semantics.specs.Patterns.{pieces}
-use Rattle.semantics.specs.Verdicts.{computed, late, full, slots, sources, clash, cycle, deep, many}
+use Rattle.semantics.specs.Verdicts.{computed, full, nojoin, slots, sources, clash, cycle, deep, many}
 use Rattle.semantics.specs.Answers.{found, absent, pairs}
 use Rattle.protocol.specs.Lines.{whole_lines}
 use Rattle.protocol.specs.Requests.{json, form, key, value, range, syntax}
@@ -72,8 +72,8 @@ is_memory_line-reply_front (answered (found n v)) = refl
 is_memory_line-reply_front (answered (absent n)) = refl
 is_memory_line-reply_front (answered (pairs n table)) = refl
 is_memory_line-reply_front (refused n (computed position)) = refl
-is_memory_line-reply_front (refused n late) = refl
 is_memory_line-reply_front (refused n full) = refl
+is_memory_line-reply_front (refused n nojoin) = refl
 is_memory_line-reply_front (refused n slots) = refl
 is_memory_line-reply_front (refused n sources) = refl
 is_memory_line-reply_front (refused n (clash position)) = refl

@@ -8,7 +8,7 @@ use Rattle.semantics.specs.Patterns.{pieces}
 use Rattle.semantics.specs.Joins.{Join}
 use Rattle.semantics.specs.Histories.{declare, History, DeclaredJoin, joins_of}
 use Rattle.semantics.specs.States.{ranks_of}
-use Rattle.semantics.specs.Verdicts.{Cause, computed, late, full, slots, sources, clash, cycle, deep, many, verdict}
+use Rattle.semantics.specs.Verdicts.{Cause, computed, full, nojoin, slots, sources, clash, cycle, deep, many, verdict}
 use Rattle.protocol.specs.JoinText.{read_join, canonical_text}
 use Rattle.protocol.specs.Rows.{whole_number, row}
 use Rattle.protocol.specs.Lines.{Bytes}
@@ -34,8 +34,8 @@ is_skipped line = list_all (λ b. b == 32) line || (slice_index line 0 == 35)
 -- the name that a refusal has on the wire
 abbrev pub cause_name : Cause → Text
 cause_name (computed position) = codes "computed"
-cause_name late = codes "late"
 cause_name full = codes "full"
+cause_name nojoin = codes "nojoin"
 cause_name slots = codes "slots"
 cause_name sources = codes "sources"
 cause_name (clash position) = codes "clash"

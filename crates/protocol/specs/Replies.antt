@@ -2,7 +2,7 @@
 use Rattle.std.specs.Prelude.{ℕ, List, [], ◌∷◌, map, codes}
 use Rattle.serde_json.specs.Data.{Data, string}
 use Rattle.semantics.specs.Texts.{Text}
-use Rattle.semantics.specs.Verdicts.{Cause, computed, late, full, slots, sources, clash, cycle, deep, many}
+use Rattle.semantics.specs.Verdicts.{Cause, computed, full, nojoin, slots, sources, clash, cycle, deep, many}
 use Rattle.semantics.specs.Answers.{Answer, found, absent, pairs}
 use Rattle.protocol.specs.Rows.{whole_number, list_of, row}
 use Rattle.protocol.specs.JoinsFile.{cause_name}
@@ -37,8 +37,8 @@ fault_items (syntax at) = whole_number at ∷ []
 -- what a cause carries behind its name and position
 abbrev pub cause_items : Cause → List Data
 cause_items (computed position) = whole_number position ∷ []
-cause_items late = []
 cause_items full = []
+cause_items nojoin = []
 cause_items slots = []
 cause_items sources = []
 cause_items (clash position) = whole_number position ∷ []

@@ -2,7 +2,7 @@
 use Rattle.std.specs.Prelude.{◌≡◌, ℕ, ◌<◌, ◌^◌, ◌==◌, [], ◌∷◌, ◌++◌, false, ⊤}
 use Rattle.std.specs.List.{list_any, AllByRecursion}
 use Rattle.semantics.specs.Texts.{Text}
-use Rattle.semantics.specs.Verdicts.{Cause, computed, late, full, slots, sources, clash, cycle, deep, many}
+use Rattle.semantics.specs.Verdicts.{Cause, computed, full, nojoin, slots, sources, clash, cycle, deep, many}
 use Rattle.semantics.specs.Answers.{Answer, found, absent, pairs}
 use Rattle.protocol.specs.Requests.{LineFault, json, form, key, value, range, syntax}
 use Rattle.protocol.specs.Replies.{Reply, done, answered, refused, unread, long, memory, bye, reply_text}
@@ -12,8 +12,8 @@ IsSmall n = n < 2 ^ 64
 
 abbrev pub HasSmallCause : Cause → Type 0
 HasSmallCause (computed position) = IsSmall position
-HasSmallCause late = ⊤
 HasSmallCause full = ⊤
+HasSmallCause nojoin = ⊤
 HasSmallCause slots = ⊤
 HasSmallCause sources = ⊤
 HasSmallCause (clash position) = IsSmall position

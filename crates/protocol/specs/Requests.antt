@@ -1,11 +1,11 @@
 -- What a line asks for.
-use Rattle.std.specs.Prelude.{ℕ, List, [], ◌∷◌, codes, not, if◌then◌else◌, Option, Some, None, option_map, option_and_then, Result, Ok, Err}
+use Rattle.std.specs.Prelude.{ℕ, ◌^◌, nat_lt, List, [], ◌∷◌, codes, not, if◌then◌else◌, Option, Some, None, option_map, option_and_then, Result, Ok, Err}
 use Rattle.std.specs.Str.{is_utf8}
-use Rattle.serde_json.specs.Data.{Data, null, boolean, number, string, array, object, Items, no_items, item}
+use Rattle.serde_json.specs.Data.{Num, unsigned, negative, float, Data, null, boolean, number, string, array, object, Items, no_items, item}
 use Rattle.serde_json.specs.Read.{read as read_json}
 use Rattle.semantics.specs.Texts.{Text, same, is_key, is_value, is_range}
 use Rattle.semantics.specs.Joins.{Join}
-use Rattle.semantics.specs.Histories.{Write, put, remove, declare}
+use Rattle.semantics.specs.Histories.{Write, put, remove, declare, drop_join}
 use Rattle.semantics.specs.Answers.{Read, get, scan}
 use Rattle.protocol.specs.JoinText.{read_join}
 use Rattle.protocol.specs.Lines.{Bytes}
@@ -37,19 +37,49 @@ text_of (string s) = Some s
 text_of (array ds) = None
 text_of (object ms) = None
 
--- the items, where each is a string
-abbrev pub texts_of_items : Items → Option (List Text)
-texts_of_items no_items = Some []
-texts_of_items (item d ds) = option_and_then (λ t. option_map (λ ts. t ∷ ts) (texts_of_items ds)) (text_of d)
+-- the whole number that a JSON number is, where it is below a limit
+abbrev pub unsigned_below : ℕ → Num → Option ℕ
+unsigned_below limit (unsigned n) = if nat_lt n limit then Some n else None
+unsigned_below limit (negative z) = None
+unsigned_below limit (float f) = None
 
--- the texts of an array of strings
-abbrev pub texts_of : Data → Option (List Text)
-texts_of null = None
-texts_of (boolean b) = None
-texts_of (number n) = None
-texts_of (string s) = None
-texts_of (array ds) = texts_of_items ds
-texts_of (object ms) = None
+-- the whole number that a JSON value is, where it is below a limit
+abbrev pub whole_below : ℕ → Data → Option ℕ
+whole_below limit null = None
+whole_below limit (boolean b) = None
+whole_below limit (number n) = unsigned_below limit n
+whole_below limit (string s) = None
+whole_below limit (array ds) = None
+whole_below limit (object ms) = None
+
+-- a position of a history
+abbrev pub position_of : Data → Option ℕ
+position_of = whole_below (2 ^ 48)
+
+-- a text before others and what stands behind them
+abbrev pub with_text : Text → List Text × Option ℕ → List Text × Option ℕ
+with_text t items = (t ∷ items.0, items.1)
+
+-- the last item alone: a text, or a position
+abbrev pub last_item : Option Text → Option ℕ → Option (List Text × Option ℕ)
+last_item (Some t) position = Some (t ∷ [], None)
+last_item None (Some n) = Some ([], Some n)
+last_item None None = None
+
+-- the items, where each is a string but that the last may be a position: the texts, and the position
+abbrev pub texts_and_position : Items → Option (List Text × Option ℕ)
+texts_and_position no_items = Some ([], None)
+texts_and_position (item d no_items) = last_item (text_of d) (position_of d)
+texts_and_position (item d (item e ds)) = option_and_then (λ t. option_map (with_text t) (texts_and_position (item e ds))) (text_of d)
+
+-- the texts of an array of strings, and a position behind them
+abbrev pub form_of : Data → Option (List Text × Option ℕ)
+form_of null = None
+form_of (boolean b) = None
+form_of (number n) = None
+form_of (string s) = None
+form_of (array ds) = texts_and_position ds
+form_of (object ms) = None
 
 abbrev pub put_request : Text → Text → Result Request LineFault
 put_request k v = if not (is_key k) then Err key else (if not (is_value v) then Err value else Ok (write (put k v)))
@@ -89,13 +119,23 @@ request_of_texts (word ∷ a ∷ []) = request_of_two word a
 request_of_texts (word ∷ a ∷ b ∷ []) = request_of_three word a b
 request_of_texts (word ∷ a ∷ b ∷ c ∷ others) = Err form
 
-abbrev pub request_of_form : Option (List Text) → Result Request LineFault
+-- the request that texts with a position behind them are
+abbrev pub request_at : List Text → ℕ → Result Request LineFault
+request_at [] n = Err form
+request_at (word ∷ []) n = if same word (codes "drop") then Ok (write (drop_join n)) else Err form
+request_at (word ∷ a ∷ others) n = Err form
+
+abbrev pub request_of_items : List Text × Option ℕ → Result Request LineFault
+request_of_items (texts, None) = request_of_texts texts
+request_of_items (texts, Some n) = request_at texts n
+
+abbrev pub request_of_form : Option (List Text × Option ℕ) → Result Request LineFault
 request_of_form None = Err form
-request_of_form (Some texts) = request_of_texts texts
+request_of_form (Some items) = request_of_items items
 
 -- the request that a JSON value is: from `form` on
 abbrev pub request_of_value : Data → Result Request LineFault
-request_of_value d = request_of_form (texts_of d)
+request_of_value d = request_of_form (form_of d)
 
 abbrev pub request_of_json : Option Data → Result Request LineFault
 request_of_json None = Err json

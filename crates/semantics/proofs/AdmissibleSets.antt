@@ -4,10 +4,10 @@ use Rattle.std.specs.List.{AllByRecursion, list_any}
 use Rattle.std.proofs.lemmas.Bool.{or_parts, not-false, false≢true}
 use Rattle.semantics.specs.Patterns.{overlaps}
 use Rattle.semantics.specs.Joins.{Join, keeps_slot_rule, keeps_source_rule}
-use Rattle.semantics.specs.Histories.{Write, put, remove, declare, Entry, History, DeclaredJoin, joins_after, joins_from, joins_of}
+use Rattle.semantics.specs.Histories.{Write, put, remove, declare, drop_join, Entry, History, DeclaredJoin, joins_after, joins_from, joins_of}
 use Rattle.semantics.specs.Graphs.{IsWalkTo, IsCycle, HasNoCycle, IsAcyclic, IsLeastCycle, least_cycle}
 use Rattle.semantics.specs.States.{reading, ranks_of, KeepsRules, IsAdmissible}
-use Rattle.semantics.specs.Verdicts.{full, late, joined, join_cause, write_cause, verdict, AllEntered}
+use Rattle.semantics.specs.Verdicts.{full, joined, join_cause, write_cause, verdict, AllEntered}
 use Rattle.semantics.specs.AdmissibleLaws.{JoinedIsAdmissible}
 use Rattle.semantics.specs.StateLaws.{EnteredIsAdmissible}
 use Rattle.semantics.proofs.Members.{IsIn, IsIn-cases, AllByRecursion-append}
@@ -15,6 +15,7 @@ use Rattle.semantics.proofs.GraphCycles.{IsWalkTo-below, cycle-from_member}
 use Rattle.semantics.proofs.GraphLeast.{cycle_is_least_lem}
 use Rattle.semantics.proofs.JoinSets.{first_cause-None, test-from_None, option-from_None, AllByRecursion-from_find, AreApart-joined}
 use Rattle.semantics.proofs.JoinReadings.{AreVertices-reading, reads-joined}
+use Rattle.semantics.proofs.PartSets.{filtered_is_admissible}
 
 -- a set with one more join has one more
 pub length-joined : (joins : List DeclaredJoin) (position : ℕ) (j : Join) → length (joined joins position j) ≡ length joins + 1
@@ -118,26 +119,20 @@ joins_of-push h e =
     let same : 1 + length h ≡ length h + 1 = omega arith in
     joins_from-append 1 [] h (e ∷ []) ∙ ap (λ p. joins_after p e.write (joins_of h)) same
 
--- whether a write changes a pair
-abbrev changes : Write → Bool
-changes (put k v) = true
-changes (remove k) = true
-changes (declare j) = false
-
 -- a declaration without a cause against it has none against its join
 pub join_cause-from_verdict : (j : Join) (h : History) → verdict (declare j) h ≡ None → join_cause (joins_of h) (length h + 1) j ≡ None
 unfolding verdict
 join_cause-from_verdict j h e =
     let roomy = first_cause-None (if nat_le (2 ^ 48 - 1) (length h) then Some full else None) (write_cause (declare j) h ∷ []) e in
     let own = first_cause-None (write_cause (declare j) h) [] roomy.1 in
-    let early = first_cause-None (if list_any (λ f. changes f.write) h then Some late else None) (join_cause (joins_of h) (length h + 1) j ∷ []) own.0 in
-    (first_cause-None (join_cause (joins_of h) (length h + 1) j) [] early.1).0
+    own.0
 
 -- a write without a cause against it keeps the joins admissible
 pub IsAdmissible-joins_after : (w : Write) (h : History) → verdict w h ≡ None → IsAdmissible (joins_of h) → IsAdmissible (joins_after (length h + 1) w (joins_of h))
 IsAdmissible-joins_after (put k v) h e a = a
 IsAdmissible-joins_after (remove k) h e a = a
 IsAdmissible-joins_after (declare j) h e a = joined_is_admissible_lem (joins_of h) (length h + 1) j a (join_cause-from_verdict j h e)
+IsAdmissible-joins_after (drop_join at) h e a = filtered_is_admissible _ (joins_of h) a
 
 -- entries without a cause against them keep the joins admissible
 pub IsAdmissible-from_entries : (h rest : History) → AllEntered (h ++ rest) → IsAdmissible (joins_of h) → IsAdmissible (joins_of (h ++ rest))

@@ -3,9 +3,10 @@ use Rattle.std.proofs.Common.{◌≡◌, ℕ, zero, suc, ◌+◌, ◌<◌, ◌�
 use Rattle.std.proofs.lemmas.List.Sums.{fold_push}
 use Rattle.std.proofs.lemmas.Option.{none-some, same_Some, slice_get_within}
 use Rattle.semantics.specs.Texts.{Text, Table, value_at}
-use Rattle.semantics.specs.Histories.{Write, put, remove, declare, Entry, History, DeclaredJoin, joins_after, joins_from, joins_of, base_after, base_of, is_computed, visible}
+use Rattle.semantics.specs.Histories.{Write, put, remove, declare, drop_join, Entry, History, DeclaredJoin, without, joins_after, joins_from, joins_of, base_after, base_of, is_computed, visible}
 use Rattle.semantics.proofs.TableLemmas.{IsAscending, ascending-with_pair, ascending-pairs_where, value_at-pairs_where}
 use Rattle.semantics.proofs.MergedLemmas.{ascending-without_key}
+use Rattle.semantics.proofs.PartSets.{IsPart, part_filter}
 
 -- ---- one entry more
 
@@ -32,6 +33,7 @@ pub ascending-base_after : (write : Write) (table : Table) → IsAscending table
 ascending-base_after (put k v) table s = ascending-with_pair k v table s
 ascending-base_after (remove k) table s = ascending-without_key k table s
 ascending-base_after (declare j) table s = s
+ascending-base_after (drop_join at) table s = s
 
 -- after writes the keys of base pairs ascend
 ascending-base_from : (h : History) (table : Table) → IsAscending table → IsAscending (fold (λ (t : Table) (x : Entry). base_after x.write t) table h)
@@ -90,11 +92,19 @@ ascend-push low high joins s up at_high a = record {
       (slice_get_push joins s i t at);
 }
 
+-- a part of joins whose positions ascend
+ascend_part : (low high : ℕ) (part joins : List DeclaredJoin) → IsPart part joins → Ascend low high joins → Ascend low high part
+ascend_part low high part joins p a = record {
+  between = λ i s at. a.between (p.place i) s (p.same i s at);
+  ascend = λ i k s t less at there. a.ascend (p.place i) (p.place k) s t (p.order i k less) (p.same i s at) (p.same k t there);
+}
+
 -- a write leaves positions ascending
 ascend-joins_after : (low position : ℕ) (write : Write) (joins : List DeclaredJoin) → low ≤ position → Ascend low position joins → Ascend low (position + 1) (joins_after position write joins)
 ascend-joins_after low position (put k v) joins up a = ascend_up low position (position + 1) joins (omega arith) a
 ascend-joins_after low position (remove k) joins up a = ascend_up low position (position + 1) joins (omega arith) a
 ascend-joins_after low position (declare j) joins up a = ascend-push low position joins _ up refl a
+ascend-joins_after low position (drop_join at) joins up a = ascend_up low position (position + 1) (without at joins) (omega arith) (ascend_part low position (without at joins) joins (part_filter _ joins) a)
 
 -- writes leave positions ascending
 ascend-joins_from : (low position : ℕ) (h : History) (joins : List DeclaredJoin) → low ≤ position → Ascend low position joins → Ascend low (position + length h) (joins_from position joins h)

@@ -21,6 +21,8 @@ pub mod GraphRanks
 pub mod GraphLeast
 pub mod JoinSets
 pub mod JoinReadings
+pub mod PartSets
+pub mod StayLemmas
 pub mod AdmissibleSets
 pub mod EnteredLemmas
 pub mod NameLemmas

@@ -1,5 +1,5 @@
 -- Writes, entries and the history; the joins that stand and the base pairs are folds over it.
-use Rattle.std.specs.Prelude.{◌≡◌, ℕ, ◌+◌, List, [], ◌∷◌, ◌++◌, fold, Bool, true, false, not, if◌then◌else◌}
+use Rattle.std.specs.Prelude.{◌≡◌, ℕ, ◌+◌, ◌==◌, List, [], ◌∷◌, ◌++◌, filter, fold, Bool, true, false, not, if◌then◌else◌}
 use Rattle.std.specs.List.{list_any}
 use Rattle.semantics.specs.Texts.{Text, Table, with_pair, without_key, pairs_where}
 use Rattle.semantics.specs.Patterns.{fits}
@@ -9,6 +9,7 @@ pub data Write : Type 0 where
   put : Text → Text → Write
   remove : Text → Write
   declare : Join → Write
+  drop_join : ℕ → Write
 
 -- an entry: the number of the client that wrote it, and the write
 pub record Entry : Type 0 where
@@ -28,18 +29,23 @@ pub record DeclaredJoin : Type 0 where
   pub position : ℕ
   pub join : Join
 
+-- joins without the one that was declared at a position
+abbrev pub without : ℕ → List DeclaredJoin → List DeclaredJoin
+without position joins = filter (λ s. not (s.position == position)) joins
+
 -- the joins that stand after a write that enters at a position
 abbrev pub joins_after : ℕ → Write → List DeclaredJoin → List DeclaredJoin
 joins_after position (put k v) joins = joins
 joins_after position (remove k) joins = joins
 joins_after position (declare j) joins = joins ++ record { position = position; join = j } ∷ []
+joins_after position (drop_join at) joins = without at joins
 
 -- the joins that stand after entries that begin at a position
 abbrev pub joins_from : ℕ → List DeclaredJoin → History → List DeclaredJoin
 joins_from position joins [] = joins
 joins_from position joins (e ∷ es) = joins_from (position + 1) (joins_after position e.write joins) es
 
--- `Joins`: the joins that stand after the history, in order of position
+-- `Joins`: the joins that were declared and not dropped, in order of position
 abbrev pub joins_of : History → List DeclaredJoin
 joins_of h = joins_from 1 [] h
 
@@ -48,13 +54,14 @@ abbrev pub is_of_joins : Write → Bool
 is_of_joins (put k v) = false
 is_of_joins (remove k) = false
 is_of_joins (declare j) = true
+is_of_joins (drop_join at) = true
 
--- the position of the last declaration of entries that begin at a position; where there is none, a given one
+-- the position of the last declaration or drop, of entries that begin at a position; where there is none, a given one
 abbrev pub changed_from : ℕ → ℕ → History → ℕ
 changed_from position last [] = last
 changed_from position last (e ∷ es) = changed_from (position + 1) (if is_of_joins e.write then position else last) es
 
--- the position of the last declaration, 0 where there is none
+-- the position of the last declaration or drop, 0 where there is none
 abbrev pub changed_at : History → ℕ
 changed_at h = changed_from 1 0 h
 
@@ -63,6 +70,7 @@ abbrev pub base_after : Write → Table → Table
 base_after (put k v) table = with_pair k v table
 base_after (remove k) table = without_key k table
 base_after (declare j) table = table
+base_after (drop_join at) table = table
 
 -- `Base`: the pairs that the puts and removes leave
 abbrev pub base_of : History → Table

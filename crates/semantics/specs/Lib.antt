@@ -2,6 +2,7 @@ pub mod Texts
 pub mod Patterns
 pub mod Joins
 pub mod Histories
+pub mod Stays
 pub mod Outputs
 pub mod Graphs
 pub mod States

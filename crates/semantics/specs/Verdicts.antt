@@ -1,18 +1,18 @@
 -- The verdict of a write after a history: the first cause that refuses it.
-use Rattle.std.specs.Prelude.{◌≡◌, ℕ, ◌+◌, ◌-◌, ◌^◌, List, [], ◌∷◌, ◌++◌, length, map, find, slice_get, Bool, true, false, not, nat_lt, nat_le, if◌then◌else◌, Option, Some, None, option_map, unwrap_or}
+use Rattle.std.specs.Prelude.{◌≡◌, ℕ, ◌+◌, ◌-◌, ◌^◌, ◌==◌, List, [], ◌∷◌, ◌++◌, length, map, find, slice_get, Bool, true, false, not, nat_lt, nat_le, if◌then◌else◌, Option, Some, None, option_map, unwrap_or}
 use Rattle.std.specs.List.{list_any}
 use Rattle.semantics.specs.Texts.{Text}
 use Rattle.semantics.specs.Patterns.{fits, overlaps}
 use Rattle.semantics.specs.Joins.{Join, keeps_slot_rule, keeps_source_rule}
-use Rattle.semantics.specs.Histories.{Write, put, remove, declare, Entry, History, DeclaredJoin, joins_of}
+use Rattle.semantics.specs.Histories.{Write, put, remove, declare, drop_join, Entry, History, DeclaredJoin, joins_of}
 use Rattle.semantics.specs.Graphs.{least_cycle}
 use Rattle.semantics.specs.States.{reading, ranks_of}
 
 -- why a write is refused, with what the refusal carries
 pub data Cause : Type 0 where
   computed : ℕ → Cause
-  late : Cause
   full : Cause
+  nojoin : Cause
   slots : Cause
   sources : Cause
   clash : ℕ → Cause
@@ -29,12 +29,6 @@ abbrev pub first_cause : List (Option Cause) → Option Cause
 first_cause [] = None
 first_cause (None ∷ others) = first_cause others
 first_cause (Some cause ∷ others) = Some cause
-
--- whether an entry changes a pair
-abbrev pub is_change : Write → Bool
-is_change (put k v) = true
-is_change (remove k) = true
-is_change (declare j) = false
 
 -- the position of the first join of a set that passes a test
 abbrev first_position : (Join → Bool) → List DeclaredJoin → Option ℕ
@@ -71,13 +65,18 @@ join_cause joins position j =
     ∷ cause_if (nat_le 64 (length joins)) many
     ∷ [])
 
--- why a write may not enter, once the history has room; `late`: a put or remove has entered before a declaration
+-- `nojoin`: no join with the position stands
+abbrev pub drop_cause : ℕ → List DeclaredJoin → Option Cause
+drop_cause at joins = cause_if (not (list_any (λ s. s.position == at) joins)) nojoin
+
+-- why a write may not enter, once the history has room
 abbrev pub write_cause : Write → History → Option Cause
 write_cause (put k v) h = computed_cause k (joins_of h)
 write_cause (remove k) h = computed_cause k (joins_of h)
-write_cause (declare j) h = first_cause (cause_if (list_any (λ e. is_change e.write) h) late ∷ join_cause (joins_of h) (length h + 1) j ∷ [])
+write_cause (declare j) h = join_cause (joins_of h) (length h + 1) j
+write_cause (drop_join at) h = drop_cause at (joins_of h)
 
--- `Verdict`: the first of `full`, `late`, `computed`, `slots`, `sources`, `clash`, `cycle`, `deep` and `many` that holds for the write after the history
+-- `Verdict`: the first of `full`, `computed`, `nojoin`, `slots`, `sources`, `clash`, `cycle`, `deep` and `many` that holds for the write after the history
 unfoldable pub verdict : Write → History → Option Cause
 verdict write h = first_cause (cause_if (nat_le (2 ^ 48 - 1) (length h)) full ∷ write_cause write h ∷ [])
 

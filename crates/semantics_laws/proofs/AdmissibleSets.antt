@@ -1,18 +1,19 @@
 -- A join has no cause against it exactly where the set with it is admissible.
-use Rattle.std.proofs.Common.{◌≡◌, ℕ, ◌+◌, ◌-◌, ◌^◌, ◌<◌, ◌≤◌, List, [], ◌∷◌, ◌++◌, length, Bool, true, false, cond, nat_lt, nat_le, ltb-true, leb-true, leb-false, Option, Some, None, option_map, unwrap_or, slice_get, map, not, find, refl, ap, ◌∙◌, arith, if◌then◌else◌}
+use Rattle.std.proofs.Common.{◌≡◌, ℕ, ◌+◌, ◌-◌, ◌^◌, ◌<◌, ◌≤◌, ◌==◌, List, [], ◌∷◌, ◌++◌, length, Bool, true, false, cond, nat_lt, nat_le, ltb-true, leb-true, leb-false, Option, Some, None, option_map, unwrap_or, slice_get, map, not, find, refl, ap, ◌∙◌, arith, if◌then◌else◌}
 use Rattle.std.specs.List.{AllByRecursion, list_any}
-use Rattle.std.proofs.lemmas.Bool.{or_parts, or_from, false_from_ne_true, cond-false, true≢false}
+use Rattle.std.proofs.lemmas.Bool.{or_parts, or_from, not-false, false_from_ne_true, cond-false}
 use Rattle.semantics.specs.Patterns.{overlaps}
 use Rattle.semantics.specs.Joins.{Join, keeps_slot_rule, keeps_source_rule}
-use Rattle.semantics.specs.Histories.{Write, put, remove, declare, History, DeclaredJoin, joins_of}
+use Rattle.semantics.specs.Histories.{declare, drop_join, History, DeclaredJoin, joins_of}
 use Rattle.semantics.specs.States.{reading, ranks_of, KeepsRules, AreApart, IsAdmissible}
-use Rattle.semantics.specs.Verdicts.{Cause, full, late, slots, sources, clash, cycle, deep, many, first_cause, clash_cause, cycle_cause, joined, join_cause, write_cause, verdict}
+use Rattle.semantics.specs.Verdicts.{Cause, full, nojoin, slots, sources, clash, cycle, deep, many, first_cause, clash_cause, cycle_cause, joined, join_cause, drop_cause, write_cause, verdict}
 use Rattle.semantics.proofs.OfRankLemmas.{overlaps_symmetric}
 use Rattle.semantics.proofs.GraphLeast.{least_cycle-from_HasNoCycle}
 use Rattle.semantics.proofs.JoinSets.{first_cause-None, test-from_None}
 use Rattle.semantics.proofs.JoinReadings.{AreVertices-reading}
 use Rattle.semantics.proofs.AdmissibleSets.{length-joined, joined_is_admissible_lem}
-use Rattle.semantics_laws.specs.AdmissibleLaws.{JoinsWhereAdmissible, Declares, MayDeclare, DeclaresWhereAdmissible}
+use Rattle.semantics_laws.specs.AdmissibleLaws.{JoinsWhereAdmissible, MayDeclare, DeclaresWhereAdmissible, PartIsAdmissible, DropsWhereStanding}
+use Rattle.semantics.proofs.PartSets.{filtered_is_admissible}
 
 -- ---- no cause
 
@@ -33,11 +34,6 @@ find-none p (x ∷ xs) h = cond-false (p x) (Some x) (find p xs) h.0 ∙ find-no
 list_any-none : {X : Type 0} (p : X → Bool) (xs : List X) → AllByRecursion (λ x. p x ≡ false) xs → list_any p xs ≡ false
 list_any-none p [] h = refl
 list_any-none p (x ∷ xs) h = or_from (p x) (list_any p xs) h.0 (list_any-none p xs h.1)
-
--- where none passes each element fails the test
-list_any-each : {X : Type 0} (p : X → Bool) (xs : List X) → list_any p xs ≡ false → AllByRecursion (λ x. p x ≡ false) xs
-list_any-each p [] h = tt
-list_any-each p (x ∷ xs) h = let both = or_parts (p x) (list_any p xs) h in (both.0, list_any-each p xs both.1)
 
 -- what follows of each element
 each-then : {X : Type 0} (P Q : X → Type 0) (xs : List X) → ((x : X) → P x → Q x) → AllByRecursion P xs → AllByRecursion Q xs
@@ -106,36 +102,14 @@ joins_where_admissible_lem joins position j a = (joined_is_admissible_lem joins 
 
 -- ---- declarations
 
--- whether a write changes a pair
-abbrev pub changes : Write → Bool
-changes (put k v) = true
-changes (remove k) = true
-changes (declare j) = false
-
--- a write that declares a join changes no pair
-changes-declared : (w : Write) → Declares w → changes w ≡ false
-changes-declared (put k v) d = absurd d
-changes-declared (remove k) d = absurd d
-changes-declared (declare j) d = refl
-
--- a write that changes no pair declares a join
-declared-unchanged : (w : Write) → changes w ≡ false → Declares w
-declared-unchanged (put k v) e = absurd (true≢false e)
-declared-unchanged (remove k) e = absurd (true≢false e)
-declared-unchanged (declare j) e = tt
-
 -- a declaration that may enter has no cause against it
 verdict-none : (j : Join) (h : History) → MayDeclare j h → verdict (declare j) h ≡ None
 unfolding verdict
 verdict-none j h m =
-    let own = join_cause (joins_of h) (length h + 1) j in
-    let rest = (if list_any (λ e. changes e.write) h then Some late else None) ∷ own ∷ [] in
     let room : (if nat_le (2 ^ 48 - 1) (length h) then Some full else None) ≡ None = none_by_test (nat_le (2 ^ 48 - 1) (length h)) full (not_above (2 ^ 48 - 1) (length h) m.roomy) in
-    let still = list_any-none (λ e. changes e.write) h (each-then (λ e. Declares e.write) (λ e. changes e.write ≡ false) h (λ e. changes-declared e.write) m.early) in
-    let early : (if list_any (λ e. changes e.write) h then Some late else None) ≡ None = none_by_test (list_any (λ e. changes e.write) h) late still in
-    let allowed = none_first own [] (join_cause-none (joins_of h) (length h + 1) j m.admissible) refl in
-    none_first (if nat_le (2 ^ 48 - 1) (length h) then Some full else None) (first_cause rest ∷ []) room
-    (none_first (first_cause rest) [] (none_first (if list_any (λ e. changes e.write) h then Some late else None) (own ∷ []) early allowed) refl)
+    let own = join_cause (joins_of h) (length h + 1) j in
+    none_first (if nat_le (2 ^ 48 - 1) (length h) then Some full else None) (own ∷ []) room
+    (none_first own [] (join_cause-none (joins_of h) (length h + 1) j m.admissible) refl)
 
 -- a declaration without a cause against it may enter
 may-from_verdict : (j : Join) (h : History) → IsAdmissible (joins_of h) → verdict (declare j) h ≡ None → MayDeclare j h
@@ -143,14 +117,29 @@ unfolding verdict
 may-from_verdict j h a e =
     let roomy = first_cause-None (if nat_le (2 ^ 48 - 1) (length h) then Some full else None) (write_cause (declare j) h ∷ []) e in
     let own = first_cause-None (write_cause (declare j) h) [] roomy.1 in
-    let early = first_cause-None (if list_any (λ f. changes f.write) h then Some late else None) (join_cause (joins_of h) (length h + 1) j ∷ []) own.0 in
-    let last = first_cause-None (join_cause (joins_of h) (length h + 1) j) [] early.1 in
     record {
       roomy = leb-false (2 ^ 48 - 1) (length h) (test-from_None _ _ roomy.0);
-      early = each-then (λ f. changes f.write ≡ false) (λ f. Declares f.write) h (λ f. declared-unchanged f.write) (list_any-each (λ f. changes f.write) h (test-from_None _ _ early.0));
-      admissible = joined_is_admissible_lem (joins_of h) (length h + 1) j a last.0;
+      admissible = joined_is_admissible_lem (joins_of h) (length h + 1) j a own.0;
     }
 
 -- a declaration has no cause against it exactly where it may enter
 pub declares_where_admissible_lem : DeclaresWhereAdmissible
 declares_where_admissible_lem j h a = (may-from_verdict j h a, verdict-none j h)
+
+-- ---- drops
+
+pub part_is_admissible_lem : PartIsAdmissible
+part_is_admissible_lem joins position a = filtered_is_admissible _ joins a
+
+pub drops_where_standing_lem : DropsWhereStanding
+unfolding verdict
+drops_where_standing_lem at h = (
+  λ e.
+      let roomy = first_cause-None (if nat_le (2 ^ 48 - 1) (length h) then Some full else None) (write_cause (drop_join at) h ∷ []) e in
+      let own = first_cause-None (write_cause (drop_join at) h) [] roomy.1 in
+      (leb-false (2 ^ 48 - 1) (length h) (test-from_None _ _ roomy.0), not-false (list_any (λ s. s.position == at) (joins_of h)) (test-from_None _ _ own.0)),
+  λ m.
+      let room : (if nat_le (2 ^ 48 - 1) (length h) then Some full else None) ≡ None = none_by_test (nat_le (2 ^ 48 - 1) (length h)) full (not_above (2 ^ 48 - 1) (length h) m.0) in
+      none_first (if nat_le (2 ^ 48 - 1) (length h) then Some full else None) (drop_cause at (joins_of h) ∷ []) room
+      (none_first (drop_cause at (joins_of h)) [] (none_by_test (not (list_any (λ s. s.position == at) (joins_of h))) nojoin (not_failed (list_any (λ s. s.position == at) (joins_of h)) m.1)) refl),
+)

@@ -5,15 +5,15 @@ use Rattle.std.proofs.lemmas.List.{map-append, length-map}
 use Rattle.semantics.specs.Texts.{Text, Table, value_at, pairs_where, pairs_within}
 use Rattle.semantics.specs.Patterns.{fits, overlaps}
 use Rattle.semantics.specs.Joins.{Join, reads_output, keeps_slot_rule, keeps_source_rule}
-use Rattle.semantics.specs.Histories.{Write, put, remove, declare, Entry, History, DeclaredJoin, joins_after, joins_from, joins_of, base_after, is_computed, visible}
+use Rattle.semantics.specs.Histories.{Write, put, remove, declare, drop_join, Entry, History, DeclaredJoin, without, joins_after, joins_from, joins_of, base_after, is_computed, visible}
 use Rattle.semantics.specs.Outputs.{matches, contributions, out}
 use Rattle.semantics.specs.Graphs.{ranks, least_cycle}
 use Rattle.semantics.specs.States.{reading, ranks_of, of_rank, merged, with_outputs, below, state}
-use Rattle.semantics.specs.Verdicts.{computed, late, full, slots, sources, clash, cycle, deep, many, first_cause, computed_cause, clash_cause, cycle_cause, joined, join_cause, write_cause, verdict}
+use Rattle.semantics.specs.Verdicts.{computed, full, nojoin, slots, sources, clash, cycle, deep, many, first_cause, computed_cause, clash_cause, cycle_cause, joined, join_cause, drop_cause, write_cause, verdict}
 use Rattle.semantics.specs.Answers.{Read, get, scan, Answer, found, absent, pairs, answer}
 use Rattle.semantics.proofs.OfRankLemmas.{picked}
 use Rattle.semantics.proofs.StateLemmas.{added, below-zero, below-suc, state-below}
-use Rattle.semantics_laws.proofs.AdmissibleSets.{position_at, changes}
+use Rattle.semantics_laws.proofs.AdmissibleSets.{position_at}
 use Rattle.semantics_laws.specs.KindLaws.{pulled, pulled_write, pulled_entry, pulled_history, KindsChangeNothing}
 
 -- ---- the joins and pairs after a history
@@ -26,10 +26,25 @@ pulled_standing s = record { position = s.position; join = pulled s.join }
 abbrev pulled_joins : List DeclaredJoin → List DeclaredJoin
 pulled_joins joins = map pulled_standing joins
 
+-- the joins without one
+without-pulled : (at : ℕ) (joins : List DeclaredJoin) → without at (pulled_joins joins) ≡ pulled_joins (without at joins)
+without-pulled at [] = refl
+without-pulled at (s ∷ joins) = by (not (s.position == at)) (without-pulled at joins)
+  where
+    by : (b : Bool) → without at (pulled_joins joins) ≡ pulled_joins (without at joins) → cond b (pulled_standing s ∷ without at (pulled_joins joins)) (without at (pulled_joins joins)) ≡ pulled_joins (cond b (s ∷ without at joins) (without at joins))
+    by true e = ap (λ l. pulled_standing s ∷ l) e
+    by false e = e
+
+-- whether a position is that of a join
+standing-pulled : (at : ℕ) (joins : List DeclaredJoin) → list_any (λ (s : DeclaredJoin). s.position == at) (pulled_joins joins) ≡ list_any (λ (s : DeclaredJoin). s.position == at) joins
+standing-pulled at [] = refl
+standing-pulled at (s ∷ joins) = ap (λ b. (s.position == at) || b) (standing-pulled at joins)
+
 -- the joins after one write
 joins_after-pulled : (position : ℕ) (w : Write) (joins : List DeclaredJoin) → joins_after position (pulled_write w) (pulled_joins joins) ≡ pulled_joins (joins_after position w joins)
 joins_after-pulled position (put k v) joins = refl
 joins_after-pulled position (remove k) joins = refl
+joins_after-pulled position (drop_join at) joins = without-pulled at joins
 joins_after-pulled position (declare j) joins = sym (map-append pulled_standing joins (record { position = position; join = j } ∷ []))
 
 -- the joins after all writes
@@ -47,6 +62,7 @@ base_after-pulled : (w : Write) (table : Table) → base_after (pulled_write w) 
 base_after-pulled (put k v) table = refl
 base_after-pulled (remove k) table = refl
 base_after-pulled (declare j) table = refl
+base_after-pulled (drop_join at) table = refl
 
 -- all writes leave the same base pairs
 base_from-pulled : (h : History) (table : Table) → fold (λ (t : Table) (e : Entry). base_after e.write t) table (pulled_history h) ≡ fold (λ (t : Table) (e : Entry). base_after e.write t) table h
@@ -225,17 +241,6 @@ join_cause-pulled joins position j =
     ∷ (if nat_le 64 (long i) then Some many else None)
     ∷ [])
 
--- with `pull` for its kind a write changes a pair exactly where it did
-changes-pulled : (w : Write) → changes (pulled_write w) ≡ changes w
-changes-pulled (put k v) = refl
-changes-pulled (remove k) = refl
-changes-pulled (declare j) = refl
-
--- a history has a write that changes a pair exactly where it did
-any_changes-pulled : (h : History) → list_any (λ (e : Entry). changes e.write) (pulled_history h) ≡ list_any (λ e. changes e.write) h
-any_changes-pulled [] = refl
-any_changes-pulled (e ∷ h) = λ i. changes-pulled e.write i || any_changes-pulled h i
-
 -- a key has the same cause against it
 computed_cause-pulled : (key : Text) (h : History) → computed_cause key (joins_of (pulled_history h)) ≡ computed_cause key (joins_of h)
 computed_cause-pulled key h = ap (computed_cause key) (joins_of-pulled h) ∙ ap (option_map computed) (first_fit-pulled key (joins_of h))
@@ -245,9 +250,9 @@ write_cause-pulled : (w : Write) (h : History) → write_cause (pulled_write w) 
 write_cause-pulled (put k v) h = computed_cause-pulled k h
 write_cause-pulled (remove k) h = computed_cause-pulled k h
 write_cause-pulled (declare j) h =
-    let cause : join_cause (joins_of (pulled_history h)) (length (pulled_history h) + 1) (pulled j) ≡ join_cause (joins_of h) (length h + 1) j =
-    (λ i. join_cause (joins_of-pulled h i) (length-history h i + 1) (pulled j)) ∙ join_cause-pulled (joins_of h) (length h + 1) j in
-    λ i. first_cause ((if any_changes-pulled h i then Some late else None) ∷ cause i ∷ [])
+    (λ i. join_cause (joins_of-pulled h i) (length-history h i + 1) (pulled j)) ∙ join_cause-pulled (joins_of h) (length h + 1) j
+write_cause-pulled (drop_join at) h =
+    ap (drop_cause at) (joins_of-pulled h) ∙ ap (λ b. if not b then Some nojoin else None) (standing-pulled at (joins_of h))
 
 -- each write has the same verdict
 verdict-pulled : (w : Write) (h : History) → verdict (pulled_write w) (pulled_history h) ≡ verdict w h

@@ -1,14 +1,14 @@
 -- Which edges a reading has, that a least cycle repeats no vertex, and what the cause `cycle` carries.
-use Rattle.std.proofs.Common.{◌≡◌, ℕ, zero, suc, ◌+◌, ◌-◌, ◌<◌, ◌⊎◌, inl, inr, List, [], ◌∷◌, length, map, Bool, true, false, eqb, ne_eqb, eq-eqb, Contains, slice_get, Option, Some, None, MatchOption, option_map, unwrap_or, not, nat_lt, nat_le, ◌^◌, if◌then◌else◌, refl, sym, ap, ap₂, subst, ◌∙◌, arith}
+use Rattle.std.proofs.Common.{◌≡◌, ℕ, zero, suc, ◌+◌, ◌-◌, ◌<◌, ◌⊎◌, inl, inr, List, [], ◌∷◌, length, map, filter, cond, Bool, true, false, eqb, ne_eqb, eq-eqb, Contains, slice_get, Option, Some, None, MatchOption, option_map, unwrap_or, not, nat_lt, nat_le, ◌^◌, if◌then◌else◌, refl, sym, ap, ap₂, subst, ◌∙◌, arith}
 use Rattle.std.specs.List.{IsDistinct, AllByRecursion, enumerate_from, list_any}
 use Rattle.std.proofs.lemmas.Bool.{true≢false}
 use Rattle.std.proofs.lemmas.Option.{none-some, same_Some}
 use Rattle.semantics.specs.Patterns.{overlaps}
 use Rattle.semantics.specs.Joins.{Join, keeps_slot_rule, keeps_source_rule}
-use Rattle.semantics.specs.Histories.{Write, put, remove, declare, History, DeclaredJoin, joins_after, joins_from, joins_of}
+use Rattle.semantics.specs.Histories.{Write, put, remove, declare, drop_join, History, DeclaredJoin, without, joins_after, joins_from, joins_of}
 use Rattle.semantics.specs.Graphs.{Edges, reads, BeginsWith, IsWalkTo, HasNoCycle, IsLeastCycle, IsNotAfter}
 use Rattle.semantics.specs.States.{reading, ranks_of}
-use Rattle.semantics.specs.Verdicts.{Cause, computed, late, full, slots, sources, clash, cycle, deep, many, first_cause, clash_cause, cycle_cause, position_at, joined, join_cause, write_cause, verdict}
+use Rattle.semantics.specs.Verdicts.{Cause, computed, full, nojoin, slots, sources, clash, cycle, deep, many, first_cause, clash_cause, cycle_cause, position_at, joined, join_cause, write_cause, verdict}
 use Rattle.semantics.proofs.Members.{IsIn, IsIn-cases, IsIn-from_list_any, list_any-from_IsIn, IsIn-from_Contains, Contains-from_IsIn, IsIn-from_enumerate, IsDistinct-cons, IsDistinct-single, AllByRecursion-append}
 use Rattle.semantics.proofs.GraphCycles.{IsWalkTo-below, IsShort-from_member}
 use Rattle.semantics.proofs.GraphLeast.{cycle_is_least_lem}
@@ -16,6 +16,7 @@ use Rattle.semantics.proofs.OfRankLemmas.{all_at}
 use Rattle.semantics.proofs.JoinSets.{test-from_Some}
 use Rattle.semantics.proofs.JoinReadings.{IsReading, IsReading-from_edge, edge-from_IsReading, AreVertices-reading}
 use Rattle.semantics.proofs.AdmissibleSets.{length-joined}
+use Rattle.semantics.proofs.PartSets.{all_filter}
 use Rattle.semantics_laws.specs.ReadingLaws.{ReadsAt, ReadingIsOverlaps, LeastCycleIsDistinct, ArePositionsOf, ShowsLeastCycle, CarriesLeastCycle, CycleCauseIsLeastCycle, RefusedCycleIsDistinct}
 
 -- ---- edges
@@ -177,6 +178,15 @@ rising-joined (s ∷ joins) p j h below = (
   rising-joined joins p j h.1 below.1,
 )
 
+-- positions rise among those that pass a test
+rising_filter : (test : DeclaredJoin → Bool) (joins : List DeclaredJoin) → AreRising joins → AreRising (filter test joins)
+rising_filter test [] h = tt
+rising_filter test (s ∷ joins) h = by (test s) (rising_filter test joins h.1)
+  where
+    by : (b : Bool) → AreRising (filter test joins) → AreRising (cond b (s ∷ filter test joins) (filter test joins))
+    by true rest = (all_filter (λ t. s.position < t.position) test joins h.0, rest)
+    by false rest = rest
+
 -- after a write that enters at a position the joins' positions rise, up to it
 rising-after : (p : ℕ) (w : Write) (joins : List DeclaredJoin) → AreRising joins → AreBelow p joins → AreRising (joins_after p w joins) × AreBelow (p + 1) (joins_after p w joins)
 rising-after p (put k v) joins h below = (h, below_next p joins below)
@@ -185,6 +195,7 @@ rising-after p (declare j) joins h below = (
   rising-joined joins p j h below,
   AllByRecursion-append (λ s. s.position < p + 1) joins (record { position = p; join = j } ∷ []) (below_next p joins below) (omega arith, tt),
 )
+rising-after p (drop_join at) joins h below = (rising_filter _ joins h, all_filter (λ s. s.position < p + 1) _ joins (below_next p joins below))
 
 -- the positions of the joins that stand rise, up to the length of the history
 rising-from : (p : ℕ) (joins : List DeclaredJoin) (h : History) → AreRising joins → AreBelow p joins → AreRising (joins_from p joins h) × AreBelow (p + length h) (joins_from p joins h)
@@ -231,17 +242,11 @@ distinct_positions joins (n ∷ numbers) (p ∷ positions) rising distinct of =
 
 -- ---- a declaration that is refused for a cycle
 
--- whether a write changes a pair
-abbrev changes : Write → Bool
-changes (put k v) = true
-changes (remove k) = true
-changes (declare j) = false
-
 -- the positions that a cause carries, where it is `cycle`
 abbrev carried : Cause → Option (List ℕ)
 carried (computed p) = None
-carried late = None
 carried full = None
+carried nojoin = None
 carried slots = None
 carried sources = None
 carried (clash p) = None
@@ -285,12 +290,10 @@ cycle_cause-from_verdict j h positions e =
     let sourced = by_test (not (keeps_source_rule j)) sources in
     let slotted = by_test (not (keeps_slot_rule j)) slots in
     let own = join_cause joins (length h + 1) j in
-    let tardy = by_test (list_any (λ f. changes f.write) h) late in
     let roomless = by_test (nat_le (2 ^ 48 - 1) (length h)) full in
     let written = later_cause roomless (write_cause (declare j) h ∷ []) told (no_cycle_if (nat_le (2 ^ 48 - 1) (length h)) full positions refl) e in
     let declared = own_cause (write_cause (declare j) h) [] told nothing written in
-    let timely = later_cause tardy (own ∷ []) told (no_cycle_if (list_any (λ f. changes f.write) h) late positions refl) declared in
-    let asked = own_cause own [] told nothing timely in
+    let asked = declared in
     let unslotted = later_cause slotted (sourced ∷ clashed ∷ cycled ∷ deepened ∷ crowded ∷ []) told (no_cycle_if (not (keeps_slot_rule j)) slots positions refl) asked in
     let unsourced = later_cause sourced (clashed ∷ cycled ∷ deepened ∷ crowded ∷ []) told (no_cycle_if (not (keeps_source_rule j)) sources positions refl) unslotted in
     let unclashed = later_cause clashed (cycled ∷ deepened ∷ crowded ∷ []) told (no_cycle_of_clash _ positions) unsourced in

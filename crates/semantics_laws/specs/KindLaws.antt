@@ -1,7 +1,7 @@
 -- That the kinds of joins change nothing.
 use Rattle.std.specs.Prelude.{◌≡◌, map}
 use Rattle.semantics.specs.Joins.{pull, Join}
-use Rattle.semantics.specs.Histories.{Write, put, remove, declare, Entry, History}
+use Rattle.semantics.specs.Histories.{Write, put, remove, declare, drop_join, Entry, History}
 use Rattle.semantics.specs.States.{state}
 use Rattle.semantics.specs.Verdicts.{verdict}
 use Rattle.semantics.specs.Answers.{Read, answer}
@@ -15,6 +15,7 @@ abbrev pub pulled_write : Write → Write
 pulled_write (put k v) = put k v
 pulled_write (remove k) = remove k
 pulled_write (declare j) = declare (pulled j)
+pulled_write (drop_join at) = drop_join at
 
 abbrev pub pulled_entry : Entry → Entry
 pulled_entry e = record { client = e.client; write = pulled_write e.write }

@@ -76,16 +76,32 @@ BadLines = Replies
     ∷ (codes "[\"pairs\",1,[[\"k|" ++ (195 ∷ 169 ∷ []) ++ codes "\",\"\\\"\"]]]")
     ∷ [])
 
--- a join is not declared after a put
-abbrev pub Late : Type 0
-Late = Replies
-    (codes "[\"put\",\"a|1\",\"Hi\"]"
+-- a join is declared after puts and hides them; once it is dropped they are back
+abbrev pub Dropped : Type 0
+Dropped = Replies
+    (codes "[\"put\",\"b|1\",\"base\"]"
+    ∷ codes "[\"put\",\"b|2\",\"two\"]"
+    ∷ codes "[\"put\",\"a|1\",\"A\"]"
     ∷ codes "[\"join\",\"b|<x> = copy a|<x>\"]"
     ∷ codes "[\"scan\",\"b|\",\"b}\"]"
+    ∷ codes "[\"put\",\"b|3\",\"x\"]"
+    ∷ codes "[\"drop\",4]"
+    ∷ codes "[\"scan\",\"b|\",\"b}\"]"
+    ∷ codes "[\"drop\",4]"
+    ∷ codes "[\"drop\",281474976710656]"
+    ∷ codes "[\"drop\",\"4\"]"
     ∷ [])
     (codes "[\"ok\",1]"
-    ∷ codes "[\"error\",\"late\",1]"
-    ∷ codes "[\"pairs\",1,[]]"
+    ∷ codes "[\"ok\",2]"
+    ∷ codes "[\"ok\",3]"
+    ∷ codes "[\"ok\",4]"
+    ∷ codes "[\"pairs\",4,[[\"b|1\",\"A\"]]]"
+    ∷ codes "[\"error\",\"computed\",4,4]"
+    ∷ codes "[\"ok\",5]"
+    ∷ codes "[\"pairs\",5,[[\"b|1\",\"base\"],[\"b|2\",\"two\"]]]"
+    ∷ codes "[\"error\",\"nojoin\",5]"
+    ∷ codes "[\"error\",\"form\"]"
+    ∷ codes "[\"error\",\"form\"]"
     ∷ [])
 
 -- two texts are a range where they bound keys of one table, in order

@@ -1,5 +1,5 @@
 // Runs of refused writes and lines.
-ghost use Rattle.worked_runs.specs.RefusalRows.{Cycles, Clashes, ComputedKeys, BadLines, Late, Ranges};
+ghost use Rattle.worked_runs.specs.RefusalRows.{Cycles, Clashes, ComputedKeys, BadLines, Dropped, Ranges};
 
 /// A join that closes a cycle is refused with the shortest one.
 pub fn cycles()
@@ -21,9 +21,9 @@ pub fn bad_lines()
     ensures { BadLines }
 {}
 
-/// A join is not declared after a put.
-pub fn late()
-    ensures { Late }
+/// A join is declared after puts and hides them; once it is dropped they are back.
+pub fn dropped()
+    ensures { Dropped }
 {}
 
 /// Two texts are a range where they bound keys of one table, in order.

@@ -1,6 +1,6 @@
 use Rattle.std.proofs.Common.{refl}
 use Rattle.worked_runs.proofs.Computes.{definitions_on_literals}
-use Rattle.worked_runs.proofs.refusal_rows.late.Goals as goal
+use Rattle.worked_runs.proofs.refusal_rows.dropped.Goals as goal
 
 pub returns : goal.returns
 unfolding definitions_on_literals

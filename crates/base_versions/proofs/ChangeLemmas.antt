@@ -6,7 +6,7 @@ use Rattle.std.proofs.lemmas.Bool.Decides.{nat_tests}
 use Rattle.std.proofs.lemmas.List.{map-append}
 use Rattle.std.proofs.lemmas.List.Elements.{filter-append}
 use Rattle.semantics.specs.Texts.{Text, same, table_of, is_range, Range, within}
-use Rattle.semantics.specs.Histories.{Write, put, remove, declare, Entry, History}
+use Rattle.semantics.specs.Histories.{Write, put, remove, declare, drop_join, Entry, History}
 use Rattle.semantics.proofs.PieceLemmas.{same_by_equal}
 use Rattle.key_ranges.proofs.RangeLemmas.{within_table}
 use Rattle.growing_history.specs.Changes.{written, in_order, changed_keys}
@@ -29,6 +29,7 @@ makes_in_order : (table : Text) → MakesInOrder of_change (λ position. change_
 makes_in_order table position (put k v) cs a = ascend_onto of_change (same (table_of k) table) (record { position = position; key = k }) cs position refl a
 makes_in_order table position (remove k) cs a = ascend_onto of_change (same (table_of k) table) (record { position = position; key = k }) cs position refl a
 makes_in_order table position (declare j) cs a = ascend_from_less of_change (position + 1) position cs (omega arith) a
+makes_in_order table position (drop_join at) cs a = ascend_from_less of_change (position + 1) position cs (omega arith) a
 
 -- the changes of a table ascend
 pub ascend-changes_of : (table : Text) (h : History) → Ascend 0 (changes_of table h)
@@ -60,6 +61,7 @@ keys_of_write : (r : Range) (position : ℕ) (write : Write) → is_range r.low 
 keys_of_write r position (put k v) h = one_key r position k (same (table_of k) (table_of r.low)) h refl
 keys_of_write r position (remove k) h = one_key r position k (same (table_of k) (table_of r.low)) h refl
 keys_of_write r position (declare j) h = refl
+keys_of_write r position (drop_join at) h = refl
 
 same_either : {A : Type 0} (b : Bool) (xs : List A) → xs ≡ cond b xs xs
 same_either true xs = refl
@@ -84,6 +86,7 @@ keys_of_change r q p position (remove k) h =
     ap (keys_within r) (between_one q p (same (table_of k) (table_of r.low)) (record { position = position; key = k }))
     ∙ keys_under r (lies_between q p position) (change_by position (table_of r.low) (remove k)) (filter (within r) (k ∷ [])) (keys_of_write r position (remove k) h)
 keys_of_change r q p position (declare j) h = same_either (lies_between q p position) []
+keys_of_change r q p position (drop_join at) h = same_either (lies_between q p position) []
 
 -- the keys of the range that the entries between put or remove, entry by entry
 keys_from : Range → ℕ → ℕ → ℕ → History → List Text

@@ -8,7 +8,7 @@ use Rattle.std.proofs.lemmas.List.Elements.{filter-append}
 use Rattle.std.proofs.lemmas.List.Folds.{list_any-append}
 use Rattle.std.proofs.lemmas.List.{map-append}
 use Rattle.semantics.specs.Texts.{Text, text_cmp, same, table_of, Table, value_at, with_pair, is_range, Range, within}
-use Rattle.semantics.specs.Histories.{Write, put, remove, declare, History}
+use Rattle.semantics.specs.Histories.{Write, put, remove, declare, drop_join, History}
 use Rattle.semantics.proofs.PieceLemmas.{equal_by_same}
 use Rattle.semantics.proofs.TableLemmas.{IsAscending, value_at-with_pair, ascending-with_pair, same_tables}
 use Rattle.growing_history.specs.Changes.{written, changed_keys}
@@ -146,6 +146,7 @@ of_write q p position k (put t v) =
 of_write q p position k (remove t) =
     member_written (lies_between q p position) (same k t) k t refl ∙ sym (between_made q p (same k t) (record { position = position; value = None }))
 of_write q p position k (declare j) = nothing_between (lies_between q p position) k
+of_write q p position k (drop_join at) = nothing_between (lies_between q p position) k
 
 of_entries : (r : Range) (q p position : ℕ) (k : Text) (h : History) → is_range r.low r.high ≡ true →
     list_any (same k) (keys_within r (filter (is_between q p) (changes_from position (table_of r.low) h))) ≡ (within r k && has_between q p (versions_from position k h))

@@ -5,7 +5,7 @@ use Rattle.std.proofs.lemmas.Bool.Decides.{nat_tests}
 use Rattle.std.proofs.lemmas.Bool.{cases_lt, false_from_ne_true, le-leb, leb-true}
 use Rattle.std.proofs.lemmas.List.Sums.{fold-append}
 use Rattle.semantics.specs.Texts.{Text, same, Table, value_at}
-use Rattle.semantics.specs.Histories.{Write, put, remove, declare, Entry, History, base_after, base_of}
+use Rattle.semantics.specs.Histories.{Write, put, remove, declare, drop_join, Entry, History, base_after, base_of}
 use Rattle.semantics.proofs.TableLemmas.{value_at-with_pair, value_at-pairs_where}
 use Rattle.base_versions.specs.declared.versions.Version.{Version}
 use Rattle.base_versions.specs.Positions.{lies_between, made_from}
@@ -35,6 +35,7 @@ late_write : (p position : ℕ) (key : Text) (write : Write) (value : Option Tex
 late_write p position key (put k v) value h = late_one p (same key k) (record { position = position; value = Some v }) value h
 late_write p position key (remove k) value h = late_one p (same key k) (record { position = position; value = None }) value h
 late_write p position key (declare j) value h = refl
+late_write p position key (drop_join at) value h = refl
 
 -- entries after p leave the value
 late_entries : (p position : ℕ) (key : Text) (h : History) (value : Option Text) → p < position → fold (taken p) value (versions_from position key h) ≡ value
@@ -62,6 +63,7 @@ early_write p position key (remove k) table h =
     early_one p (same key k) (record { position = position; value = None }) (value_at key table) h
     ∙ without (same key k) (value_at key table) ∙ sym (value_at-pairs_where (λ x. not (same x k)) key table)
 early_write p position key (declare j) table h = refl
+early_write p position key (drop_join at) table h = refl
 
 -- the base pairs after entries
 abbrev base_from : Table → History → Table
@@ -103,6 +105,7 @@ makes_in_order : (key : Text) → MakesInOrder of_version (λ position. version_
 makes_in_order key position (put k v) vs a = ascend_onto of_version (same key k) (record { position = position; value = Some v }) vs position refl a
 makes_in_order key position (remove k) vs a = ascend_onto of_version (same key k) (record { position = position; value = None }) vs position refl a
 makes_in_order key position (declare j) vs a = ascend_from_less of_version (position + 1) position vs (omega arith) a
+makes_in_order key position (drop_join at) vs a = ascend_from_less of_version (position + 1) position vs (omega arith) a
 
 -- the versions of a key ascend
 pub ascend-versions_of : (key : Text) (h : History) → AscendFrom 0 (versions_of key h)

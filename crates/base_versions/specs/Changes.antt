@@ -1,7 +1,7 @@
 -- The changes of a table: which of its keys were put or removed, and at which positions.
 use Rattle.std.specs.Prelude.{ℕ, List, [], ◌∷◌, map, filter, Bool, if◌then◌else◌}
 use Rattle.semantics.specs.Texts.{Text, same, table_of, Range, within}
-use Rattle.semantics.specs.Histories.{Write, put, remove, declare, History}
+use Rattle.semantics.specs.Histories.{Write, put, remove, declare, drop_join, History}
 use Rattle.growing_history.specs.Changes.{in_order}
 use Rattle.base_versions.specs.Positions.{AscendBy, lies_between, made_from}
 use Rattle.base_versions.specs.declared.changes.Change.{Change}
@@ -11,6 +11,7 @@ abbrev pub change_by : ℕ → Text → Write → List Change
 change_by position table (put k v) = if same (table_of k) table then record { position = position; key = k } ∷ [] else []
 change_by position table (remove k) = if same (table_of k) table then record { position = position; key = k } ∷ [] else []
 change_by position table (declare j) = []
+change_by position table (drop_join at) = []
 
 -- the changes that a history makes in a table
 unfoldable pub changes_of : Text → History → List Change

@@ -5,7 +5,7 @@ use Rattle.std.specs.BTreeMap.{is_at}
 use Rattle.std.specs.Map.{lookup}
 use Rattle.std.specs.Option.{unwrap_or}
 use Rattle.semantics.specs.Texts.{Text, same, text_cmp, Table}
-use Rattle.semantics.specs.Histories.{Write, put, remove, declare, History}
+use Rattle.semantics.specs.Histories.{Write, put, remove, declare, drop_join, History}
 use Rattle.base_versions.specs.Positions.{AscendBy, IsKeptSince, lies_between, made_from}
 use Rattle.base_versions.specs.declared.versions.Version.{Version}
 
@@ -14,6 +14,7 @@ abbrev pub version_by : ℕ → Text → Write → List Version
 version_by position key (put k v) = if same key k then record { position = position; value = Some v } ∷ [] else []
 version_by position key (remove k) = if same key k then record { position = position; value = None } ∷ [] else []
 version_by position key (declare j) = []
+version_by position key (drop_join at) = []
 
 -- the versions that a key has from a history
 unfoldable pub versions_of : Text → History → List Version

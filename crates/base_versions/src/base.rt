@@ -175,6 +175,7 @@ impl BaseVersions {
             Write::Put(key, value) => self.change(key, Some(value.copy()?))?,
             Write::Remove(key) => self.change(key, None)?,
             Write::Declare(_) => {}
+            Write::Drop(_) => {}
         }
         self.position += 1;
         Ok(())

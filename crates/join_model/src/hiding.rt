@@ -10,7 +10,7 @@ use key_pattern::Slots;
 /// Leaves out the pairs whose keys fit the output of a join that stands. It looks, for each join, at the keys that begin as
 /// its output does.
 pub fn hide_computed(table: &mut Table, joins: &JoinSet)
-    ensures { table.new ≡ pairs_where (λ key. not (is_computed joins.now key)) table.old }
+    ensures { table.new ≡ pairs_where (λ key. not (is_computed joins.now.standing key)) table.old }
 {
     for i in 0..joins.len() {
         let join = joins.join(i);

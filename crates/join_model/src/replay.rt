@@ -20,7 +20,7 @@ pub struct Left {
     pub base: Table,
 }
 
-/// Applies the write to the base pairs, of which a declaration changes none. Logarithmic in the table.
+/// Applies the write to the base pairs, of which a declaration or a drop changes none. Logarithmic in the table.
 pub fn apply(base: &mut Table, write: &Write) -> Result<(), OutOfMemory>
     ensures ok { OnOk result (base.new ≡ base_after (plain_write write.now) base.old) }
     ensures err { OnErr result (base.new ≡ base.old) }
@@ -29,11 +29,12 @@ pub fn apply(base: &mut Table, write: &Write) -> Result<(), OutOfMemory>
         Write::Put(key, value) => base.put(key.copy()?, value.copy()?)?,
         Write::Remove(key) => base.remove(key),
         Write::Declare(_) => {}
+        Write::Drop(_) => {}
     }
     Ok(())
 }
 
-/// What the entries leave, each of which entered at its place. A put or remove searches the table, and a declaration
+/// What the entries leave, each of which entered at its place. A put or remove searches the table, and a declaration or a drop
 /// compares each join with each.
 pub fn replay(alloc: Global, entries: &[Entry]) -> Result<Left, OutOfMemory>
     requires { AllEntered entries.now }

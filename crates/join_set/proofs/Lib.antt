@@ -4,4 +4,9 @@ pub mod ReadingLemmas
 pub mod RankLemmas
 pub mod OwnerLemmas
 pub mod CauseLemmas
+pub mod RemoveLemmas
+pub mod TimelineLemmas
+pub mod BareLemmas
+pub mod StayLemmas
 pub mod SummaryLemmas
+pub mod BareSinceLemmas

@@ -1,23 +1,29 @@
 -- The verdict from what is kept of a history, and what is kept after one entry more.
-use Rattle.std.proofs.Common.{◌≡◌, ℕ, ◌+◌, ◌-◌, ◌^◌, [], ◌∷◌, ◌++◌, length, nat_le, true, false, ◌<◌, leb-false, ◌||◌, Option, Some, None, if◌then◌else◌, refl, sym, ap, ◌∙◌, length-append}
-use Rattle.std.specs.List.{list_any}
-use Rattle.std.proofs.Math.Bool.{or-false}
-use Rattle.std.proofs.lemmas.List.Folds.{list_any-append}
-use Rattle.semantics.specs.Histories.{Write, put, remove, declare, Entry, History, joins_of, joins_after}
-use Rattle.semantics.specs.Verdicts.{Cause, full, late, is_change, first_cause, computed_cause, join_cause, write_cause, verdict}
+use Rattle.std.proofs.Common.{◌≡◌, ℕ, ◌+◌, ◌-◌, ◌^◌, [], ◌∷◌, ◌++◌, List, length, take, nat_le, true, false, ◌<◌, ◌≤◌, leb-false, Option, Some, None, if◌then◌else◌, refl, sym, ap, ◌∙◌, subst, length-append, length-take, arith}
+use Rattle.semantics.specs.Texts.{Text}
 use Rattle.semantics.specs.Joins.{Join}
-use Rattle.semantics.proofs.BaseLemmas.{joins_of-push}
+use Rattle.semantics.specs.Histories.{Write, put, remove, declare, drop_join, Entry, History, DeclaredJoin, joins_of, changed_at}
+use Rattle.semantics.specs.States.{IsAdmissible}
+use Rattle.semantics.specs.Stays.{Stay, stays_of, stays_after, joins_at}
+use Rattle.semantics.specs.Verdicts.{Cause, full, first_cause, computed_cause, join_cause, drop_cause, write_cause, verdict}
+use Rattle.semantics.proofs.AdmissibleSets.{entered_is_admissible_lem}
+use Rattle.semantics.proofs.EnteredLemmas.{AllEntered-nil, AllEntered-push}
 use Rattle.semantics.proofs.JoinSets.{first_cause-None, test-from_None}
-use Rattle.join_set.specs.Summaries.{Summary, StandsFor, own_cause, cause_over, summary_after}
+use Rattle.semantics.proofs.StayLemmas.{joins_at_stays}
+use Rattle.growing_history.proofs.EnteredLemmas.{entered_taken}
+use Rattle.join_set.specs.Sets.{Joins, LastDrop, AreJoins, joins_then, last_drop}
+use Rattle.join_set.specs.Timelines.{changed_up_to, dropped_up_to}
+use Rattle.join_set.specs.Summaries.{Summary, no_summary, StandsFor, IsOfSome, own_cause, cause_over, summary_after}
+use Rattle.join_set.proofs.TimelineLemmas.{stays_of-push, changed_within}
+use Rattle.join_set.proofs.BareLemmas.{AreJoins-nil, AreJoins-push, AreJoins-taken}
 
 -- the cause against a write, once there is room
 own_cause-StandsFor : (summary : Summary) (h : History) (write : Write) → StandsFor summary h → own_cause summary write ≡ write_cause write h
-own_cause-StandsFor summary h (put k v) s = ap (λ joins. computed_cause k joins) s.same_joins
-own_cause-StandsFor summary h (remove k) s = ap (λ joins. computed_cause k joins) s.same_joins
+own_cause-StandsFor summary h (put k v) s = ap (λ joins. computed_cause k joins) s.joins.standing
+own_cause-StandsFor summary h (remove k) s = ap (λ joins. computed_cause k joins) s.joins.standing
 own_cause-StandsFor summary h (declare j) s =
-    ap (λ changed. first_cause ((if changed then Some late else None) ∷ join_cause summary.joins (summary.length + 1) j ∷ [])) s.same_changed
-    ∙ ap (λ joins. first_cause ((if list_any (λ e. is_change e.write) h then Some late else None) ∷ join_cause joins (summary.length + 1) j ∷ [])) s.same_joins
-    ∙ ap (λ n. first_cause ((if list_any (λ e. is_change e.write) h then Some late else None) ∷ join_cause (joins_of h) (n + 1) j ∷ [])) s.same_length
+    ap (λ joins. join_cause joins (summary.length + 1) j) s.joins.standing ∙ ap (λ n. join_cause (joins_of h) (n + 1) j) s.same_length
+own_cause-StandsFor summary h (drop_join at) s = ap (λ joins. drop_cause at joins) s.joins.standing
 
 -- the verdict is the same after each history that a summary stands for
 pub cause_over-StandsFor : (summary : Summary) (h : History) (write : Write) → StandsFor summary h → cause_over summary write ≡ verdict write h
@@ -27,21 +33,44 @@ cause_over-StandsFor summary h write s =
     ∙ ap (λ c. first_cause ((if nat_le (2 ^ 48 - 1) (length h) then Some full else None) ∷ c ∷ [])) (own_cause-StandsFor summary h write s)
 
 -- what is kept of the history without entries
-pub StandsFor-nil : StandsFor (record { joins = []; length = 0; changed = false }) []
-StandsFor-nil = record { same_joins = refl; same_length = refl; same_changed = refl }
+pub StandsFor-nil : StandsFor no_summary []
+StandsFor-nil = record { joins = AreJoins-nil; same_length = refl; same_stays = refl; entered = AllEntered-nil }
 
--- what is kept after one entry more
-pub StandsFor-push : (summary : Summary) (h : History) (client : ℕ) (write : Write) → StandsFor summary h →
+-- what is kept after one entry more, against which nothing was
+pub StandsFor-push : (summary : Summary) (h : History) (client : ℕ) (write : Write) → StandsFor summary h → cause_over summary write ≡ None →
     StandsFor (summary_after summary write) (h ++ record { client = client; write = write } ∷ [])
-StandsFor-push summary h client write s =
+StandsFor-push summary h client write s free =
     let e : Entry = record { client = client; write = write } in
+    let next : length h + 1 ≡ summary.length + 1 = ap (λ n. n + 1) (sym s.same_length) in
     record {
-      same_joins = ap (λ joins. joins_after (summary.length + 1) write joins) s.same_joins ∙ ap (λ n. joins_after (n + 1) write (joins_of h)) s.same_length ∙ sym (joins_of-push h e);
-      same_length = ap (λ n. n + 1) s.same_length ∙ sym (length-append h (e ∷ []));
-      same_changed = ap (λ b. b || is_change write) s.same_changed
-          ∙ ap (λ b. list_any (λ f. is_change f.write) h || b) (sym (or-false (is_change write)))
-          ∙ sym (list_any-append (λ (f : Entry). is_change f.write) h (e ∷ []));
+      joins = subst (λ n. AreJoins 0 (joins_then n write summary.joins) (h ++ e ∷ [])) next (AreJoins-push summary.joins h e s.joins);
+      same_length = sym next ∙ sym (length-append h (e ∷ []));
+      same_stays = (λ i. stays_after (sym next i) write (s.same_stays i)) ∙ sym (stays_of-push h e);
+      entered = AllEntered-push h e s.entered (sym (cause_over-StandsFor summary h write s) ∙ free);
     }
+
+-- ---- some history
+
+-- the last declaration or drop lies within the history
+pub within_some : (summary : Summary) → IsOfSome summary → summary.joins.changed ≤ summary.length
+within_some summary some =
+    let s = some.stands in
+    let last = changed_within some.history s.entered in
+    omega (arith, last, s.joins.changed, s.same_length)
+
+-- the joins that stand after the first entries may stand
+pub admissible_some : (summary : Summary) (p : ℕ) → IsOfSome summary → IsAdmissible (joins_at p summary.stays)
+admissible_some summary p some =
+    let s = some.stands in
+    subst (λ js. IsAdmissible js) (joins_at_stays some.history p ∙ ap (joins_at p) (sym s.same_stays)) (entered_is_admissible_lem (take p some.history) (entered_taken p some.history s.entered))
+
+-- what the stays tell of the first entries is the set of these
+pub taken_some : (summary : Summary) (h : History) (p : ℕ) (drops : List LastDrop) → StandsFor summary h → p ≤ summary.length →
+    ((table : Text) → last_drop table drops ≡ dropped_up_to p table summary.stays) →
+    AreJoins 0 (record { standing = joins_at p summary.stays; changed = changed_up_to p summary.stays; drops = drops }) (take p h)
+taken_some summary h p drops s within tell =
+    subst (λ stays. AreJoins 0 (record { standing = joins_at p stays; changed = changed_up_to p stays; drops = drops }) (take p h)) (sym s.same_stays)
+    (AreJoins-taken h p drops s.entered (omega (arith, within, s.same_length)) (λ table. tell table ∙ ap (dropped_up_to p table) s.same_stays))
 
 -- ---- the cause from the summary
 
@@ -68,8 +97,20 @@ free-from_cause_over summary write h =
     let none = test-from_None (nat_le (2 ^ 48 - 1) summary.length) full room.0 in
     (leb-false (2 ^ 48 - 1) summary.length none, (first_cause-None (own_cause summary write) [] room.1).0)
 
--- a declaration without a cause of its own has none against its join
-pub free-from_own_cause : (summary : Summary) (j : Join) → own_cause summary (declare j) ≡ None → join_cause summary.joins (summary.length + 1) j ≡ None
-free-from_own_cause summary j h =
-    let early = first_cause-None (if summary.changed then Some late else None) (join_cause summary.joins (summary.length + 1) j ∷ []) h in
-    (first_cause-None (join_cause summary.joins (summary.length + 1) j) [] early.1).0
+-- what is kept after one entry more is of some history too
+pub some_after : (summary : Summary) (write : Write) → IsOfSome summary → cause_over summary write ≡ None → IsOfSome (summary_after summary write)
+some_after summary write some free =
+    let room = (free-from_cause_over summary write free).0 in
+    record {
+      history = some.history ++ record { client = 0; write = write } ∷ [];
+      stands = StandsFor-push summary some.history 0 write some.stands free;
+      room = omega (arith, room);
+    }
+
+-- a declaration that nothing refuses has no cause against its join
+pub free_join : (summary : Summary) (j : Join) → cause_over summary (declare j) ≡ None → join_cause summary.joins.standing (summary.length + 1) j ≡ None
+free_join summary j free = (free-from_cause_over summary (declare j) free).1
+
+-- a drop that nothing refuses has none against it
+pub free_drop : (summary : Summary) (position : ℕ) → cause_over summary (drop_join position) ≡ None → drop_cause position summary.joins.standing ≡ None
+free_drop summary position free = (free-from_cause_over summary (drop_join position) free).1

@@ -3,6 +3,8 @@ use Rattle.std.specs.Prelude.{◌≡◌, Option, Some, None}
 use Rattle.semantics.specs.Verdicts as plain
 use Rattle.join_set.specs.declared.fault.AddFault.{AddFault}
 use Rattle.join_set.specs.declared.fault.AddFault.TheVariants.{Slots, Sources, Clash, Cycle, Deep, Many, OutOfMemory}
+use Rattle.join_set.specs.declared.fault.RemoveFault.{RemoveFault}
+use Rattle.join_set.specs.declared.fault.RemoveFault.TheVariants.{NoJoin, OutOfMemory as NoRoom}
 
 -- the fault is the cause; that no memory was found says nothing of it
 abbrev pub IsFaultOf : AddFault → Option plain.Cause → Type 0
@@ -23,3 +25,8 @@ plain_fault (Cycle positions) = Some (plain.cycle positions)
 plain_fault Deep = Some plain.deep
 plain_fault Many = Some plain.many
 plain_fault OutOfMemory = None
+
+-- the fault is the cause against a drop; that no memory was found says nothing of it
+abbrev pub IsRemoveFaultOf : RemoveFault → Option plain.Cause → Type 0
+IsRemoveFaultOf NoJoin cause = cause ≡ Some plain.nojoin
+IsRemoveFaultOf NoRoom cause = Unit {0}

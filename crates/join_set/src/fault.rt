@@ -1,6 +1,7 @@
 // Why a join may not be added to a set.
 ghost use Rattle.std.specs.Prelude.{◌≡◌};
 ghost use Rattle.join_set.specs.declared.fault.AddFault.TheVariants.{OutOfMemory as NoMemory};
+ghost use Rattle.join_set.specs.declared.fault.RemoveFault.TheVariants.{OutOfMemory as NoRoom};
 
 use join_types::Positions;
 use out_of_memory::OutOfMemory;
@@ -46,5 +47,24 @@ impl<T: Drop> From<AllocFailed<T>> for AddFault {
 
     fn from(_failed: AllocFailed<T>) -> Self {
         AddFault::OutOfMemory
+    }
+}
+
+/// Why a join may not be taken out of a set of joins.
+#[derive(Debug, Drop, Error)]
+pub enum RemoveFault {
+    /// No join of the set was declared at the position.
+    #[error("no join of the set was declared at the position")]
+    NoJoin,
+    /// No memory was found.
+    #[error("out of memory")]
+    OutOfMemory,
+}
+
+impl From<OutOfMemory> for RemoveFault {
+    ghost from_gives = { λ _ fault. fault ≡ NoRoom };
+
+    fn from(_want: OutOfMemory) -> Self {
+        RemoveFault::OutOfMemory
     }
 }

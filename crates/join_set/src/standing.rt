@@ -1,15 +1,16 @@
 // What is kept of a history to judge the next write.
-ghost use Rattle.std.specs.Prelude.{◌≡◌, ℕ, ◌+◌, ◌∷◌, [], ◌++◌, ◌<◌, ◌^◌, IfOk, OnOk, OnErr, Some, None, option_map, true, if◌then◌else◌, ◌-◌};
-ghost use Rattle.semantics.specs.Histories.{History};
-ghost use Rattle.semantics.specs.Verdicts.{computed_cause, first_cause, join_cause, joined, late, verdict};
+ghost use Rattle.std.specs.Prelude.{◌≡◌, ℕ, ◌+◌, ◌∷◌, [], ◌++◌, ◌<◌, ◌≤◌, ◌^◌, take, IfOk, OnOk, OnErr, Some, None, option_map};
+ghost use Rattle.semantics.specs.Histories.{History, declare, drop_join};
+ghost use Rattle.semantics.specs.Verdicts.{computed_cause, drop_cause, join_cause, verdict};
 ghost use Rattle.join_types.specs.Causes.{plain_cause};
 ghost use Rattle.join_types.specs.Writes.{plain_write};
 ghost use Rattle.join_set.specs.Faults.{plain_fault};
-ghost use Rattle.join_set.specs.Sets.{AreBelow};
+ghost use Rattle.join_set.specs.Sets.{AreJoins, with_join, without_join};
 ghost use Rattle.join_set.specs.Summaries.{StandsFor, cause_over, own_cause, summary_after};
 
-use crate::fault::AddFault;
+use crate::fault::{AddFault, RemoveFault};
 use crate::set::JoinSet;
+use crate::stays::{Stay, changed_up_to, drops_up_to, end_stays, joins_at};
 use join_types::{Cause, Join, Write};
 use key_space::Key;
 use out_of_memory::OutOfMemory;
@@ -19,25 +20,24 @@ use std::marker::Model;
 /// The number of entries with which a history is full.
 pub const FULL: u64 = (1 << 48) - 1;
 
-/// What is kept of a history: the joins that stand, the number of entries, and whether a put or remove has entered.
+/// What is kept of a history each of whose entries entered: the joins that stand, the number of entries, and each join that was
+/// ever declared with the positions from which and until which it stood.
 #[derive(Debug, Drop)]
 pub struct Standing {
     alloc: Global,
     joins: JoinSet,
     entries: u64,
-    changed: bool,
+    stays: Vec<Stay>,
 }
 
 impl Model for Standing {
-    ghost use Rattle.std.specs.Prelude.{◌<◌, ◌^◌, ◌+◌};
-    ghost use Rattle.join_set.specs.Summaries.{Summary};
-    ghost use Rattle.join_set.specs.Sets.{AreBelow};
+    ghost use Rattle.join_set.specs.Summaries.{Summary, IsOfSome};
 
     ghost Value = { Summary };
 
-    ghost view = { λ s. record { joins = s.joins; length = s.entries; changed = s.changed } };
+    ghost view = { λ s. record { joins = s.joins; length = s.entries; stays = s.stays.items } };
 
-    ghost invariant = { λ s. (s.entries < 2 ^ 48) × AreBelow (s.entries + 1) s.joins };
+    ghost invariant = { λ s. IsOfSome (record { joins = s.joins; length = s.entries; stays = s.stays.items }) };
 }
 
 impl Standing {
@@ -49,16 +49,28 @@ impl Standing {
             alloc,
             joins: JoinSet::new(alloc),
             entries: 0,
-            changed: false,
+            stays: Vec::new(alloc),
         }
     }
 
-    /// The joins that stand. Each has a position from 1 to the number of entries.
+    /// The joins that stand. Their last declaration or drop lies up to the number of entries.
     pub fn joins(&self) -> &JoinSet
         ensures joins { result.now ≡ self.now.joins }
-        ensures below { AreBelow (self.now.length + 1) self.now.joins }
+        ensures within { result.now.changed ≤ self.now.length }
     {
         &self.joins
+    }
+
+    /// Makes the set of the joins that stand after the first p entries, and their ranks: each join is compared with each. Linear
+    /// in the joins that were ever declared, each of which is held against the tables of dropped ones.
+    pub fn joins_at(&self, p: u64) -> Result<JoinSet, OutOfMemory>
+        requires { p ≤ self.now.length }
+        ensures { IfOk result (λ joins. (h : History) → StandsFor self.now h → AreJoins 0 joins (take p h)) }
+    {
+        let stays = self.stays.as_slice();
+        let joins = joins_at(self.alloc, stays, p)?;
+        let drops = drops_up_to(self.alloc, stays, p)?;
+        JoinSet::of(self.alloc, joins, changed_up_to(stays, p), drops)
     }
 
     /// The number of entries, below 2^48.
@@ -95,12 +107,14 @@ impl Standing {
         match write {
             Write::Put(key, _) => Ok(judge_key(&self.joins, key)),
             Write::Remove(key) => Ok(judge_key(&self.joins, key)),
-            Write::Declare(join) => judge_join(&self.joins, self.changed, self.entries + 1, join),
+            Write::Declare(join) => judge_join(&self.joins, self.entries + 1, join),
+            Write::Drop(position) => Ok(judge_drop(&self.joins, *position)),
         }
     }
 
     /// Enters the write, which no cause refuses. After `OutOfMemory` nothing is changed. A put or remove takes constant
-    /// time. A declaration copies the join and compares each join with each, as `judge` does.
+    /// time. A declaration copies the join, a drop those that are left, and both compare each join with each. A drop is also
+    /// linear in the joins that were ever declared.
     pub fn enter(&mut self, write: &Write) -> Result<(), OutOfMemory>
         requires { cause_over self.old (plain_write write.now) ≡ None }
         ensures exact { OnOk result (self.new ≡ summary_after self.old (plain_write write.now)) }
@@ -118,43 +132,56 @@ impl Standing {
     {
         match write {
             Write::Put(_, _) => {
-                self.take_change();
+                self.entries += 1;
                 Ok(())
             }
             Write::Remove(_) => {
-                self.take_change();
+                self.entries += 1;
                 Ok(())
             }
             Write::Declare(join) => self.take_join(join),
+            Write::Drop(position) => self.take_drop(*position),
         }
-    }
-
-    /// Enters a put or remove.
-    fn take_change(&mut self)
-        requires { self.old.length < 2 ^ 48 - 1 }
-        ensures { self.new ≡ record { joins = self.old.joins; length = self.old.length + 1; changed = true } }
-    {
-        self.changed = true;
-        self.entries += 1;
     }
 
     /// Enters a declaration.
     fn take_join(&mut self, join: &Join) -> Result<(), OutOfMemory>
-        requires room { self.old.length < 2 ^ 48 - 1 }
-        requires free { join_cause self.old.joins (self.old.length + 1) join.now ≡ None }
-        ensures ok { OnOk result (self.new ≡ record { joins = joined self.old.joins (self.old.length + 1) join.now; length = self.old.length + 1; changed = self.old.changed }) }
+        requires { cause_over self.old (declare join.now) ≡ None }
+        ensures ok { OnOk result (self.new ≡ summary_after self.old (declare join.now)) }
         ensures err { OnErr result (self.new ≡ self.old) }
     {
-        let join = join.copy(self.alloc)?;
-        add(&mut self.joins, self.entries + 1, join)?;
-        self.entries += 1;
+        let at = self.entries + 1;
+        let stay = Stay {
+            position: at,
+            join: join.copy(self.alloc)?,
+            until: None,
+        };
+        self.stays.reserve(1)?;
+        add(&mut self.joins, at, join.copy(self.alloc)?)?;
+        self.entries = at;
+        match self.stays.push(stay) {
+            Ok(()) => Ok(()),
+            Err(_) => unreachable!(),
+        }
+    }
+
+    /// Enters a drop.
+    fn take_drop(&mut self, position: u64) -> Result<(), OutOfMemory>
+        requires { cause_over self.old (drop_join position) ≡ None }
+        ensures ok { OnOk result (self.new ≡ summary_after self.old (drop_join position)) }
+        ensures err { OnErr result (self.new ≡ self.old) }
+    {
+        let at = self.entries + 1;
+        take_out(&mut self.joins, at, position)?;
+        end_stays(self.stays.as_mut_slice(), position, at);
+        self.entries = at;
         Ok(())
     }
 }
 
 /// Why a pair at the key may not be changed.
 fn judge_key(joins: &JoinSet, key: &Key) -> Option<Cause>
-    ensures { option_map plain_cause result ≡ computed_cause key.now joins.now }
+    ensures { option_map plain_cause result ≡ computed_cause key.now joins.now.standing }
 {
     match joins.owner(key) {
         Some(position) => Some(Cause::Computed(position)),
@@ -162,18 +189,35 @@ fn judge_key(joins: &JoinSet, key: &Key) -> Option<Cause>
     }
 }
 
-/// Why the join may not be declared at the position.
-fn judge_join(
-    joins: &JoinSet,
-    changed: bool,
-    at: u64,
-    join: &Join,
-) -> Result<Option<Cause>, OutOfMemory>
-    ensures { IfOk result (λ found. option_map plain_cause found ≡ first_cause ((if changed then Some late else None) ∷ join_cause joins.now at join.now ∷ [])) }
+/// Why the join that was declared at the position may not be dropped.
+fn judge_drop(joins: &JoinSet, position: u64) -> Option<Cause>
+    ensures { option_map plain_cause result ≡ drop_cause position joins.now.standing }
 {
-    if changed {
-        return Ok(Some(Cause::Late));
+    if joins.has(position) {
+        None
+    } else {
+        Some(Cause::NoJoin)
     }
+}
+
+/// Takes out the join that was declared at a position, by a drop at another, against which no cause is.
+fn take_out(joins: &mut JoinSet, at: u64, position: u64) -> Result<(), OutOfMemory>
+    requires later { joins.old.changed < at }
+    requires free { drop_cause position joins.old.standing ≡ None }
+    ensures removed { OnOk result (joins.new ≡ without_join position at joins.old) }
+    ensures unchanged { OnErr result (joins.new ≡ joins.old) }
+{
+    match joins.remove(at, position) {
+        Ok(()) => Ok(()),
+        Err(RemoveFault::OutOfMemory) => Err(OutOfMemory),
+        Err(_) => unreachable!(),
+    }
+}
+
+/// Why the join may not be declared at the position.
+fn judge_join(joins: &JoinSet, at: u64, join: &Join) -> Result<Option<Cause>, OutOfMemory>
+    ensures { IfOk result (λ found. option_map plain_cause found ≡ join_cause joins.now.standing at join.now) }
+{
     match joins.refuses(at, join) {
         Ok(()) => Ok(None),
         Err(fault) => Ok(Some(cause_of(fault)?)),
@@ -197,9 +241,9 @@ fn cause_of(fault: AddFault) -> Result<Cause, OutOfMemory>
 
 /// Adds the join at the position, which no cause refuses.
 fn add(joins: &mut JoinSet, at: u64, join: Join) -> Result<(), OutOfMemory>
-    requires below { AreBelow at joins.old }
-    requires free { join_cause joins.old at join ≡ None }
-    ensures added { OnOk result (joins.new ≡ joined joins.old at join) }
+    requires later { joins.old.changed < at }
+    requires free { join_cause joins.old.standing at join ≡ None }
+    ensures added { OnOk result (joins.new ≡ with_join at join joins.old) }
     ensures unchanged { OnErr result (joins.new ≡ joins.old) }
 {
     match joins.add(at, join) {

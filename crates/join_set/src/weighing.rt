@@ -101,3 +101,19 @@ pub fn weigh(alloc: Global, joins: &[Stands], at: u64, join: &Join) -> Result<Ve
     }
     Ok(ranks)
 }
+
+/// The ranks of a set that may stand. Each join is compared with each, and the ranks are those of a graph.
+pub fn ranks_of(alloc: Global, joins: &[Stands]) -> Result<Vec<u64>, OutOfMemory>
+    requires { IsAdmissible joins.now }
+    ensures { IfOk result (λ ranks. ranks.items ≡ ranks_of joins.now) }
+{
+    let Some(last) = joins.len().checked_sub(1) else {
+        return Ok(Vec::new(alloc));
+    };
+    let stands = &joins[last];
+    let edges = edges(alloc, &joins[..last], &stands.join)?;
+    match ranks(alloc, joins.len(), edges.as_slice(), last)? {
+        Ranked::Ranks(ranks) => Ok(ranks),
+        Ranked::Cycle(_) => unreachable!(),
+    }
+}

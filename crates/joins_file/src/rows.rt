@@ -13,8 +13,8 @@ use std::alloc::Global;
 
 /// The row of the join with this number: its position, its rank in the set and its canonical text. Linear in the row.
 fn join_row(alloc: Global, joins: &JoinSet, number: usize) -> Result<Vec<u8>, OutOfMemory>
-    requires { number < length joins.now }
-    ensures { IfOk result (λ row. option_map (λ s. join_row (slice_index (ranks_of joins.now) number, s)) (slice_get joins.now number) ≡ Some row.items) }
+    requires { number < length joins.now.standing }
+    ensures { IfOk result (λ row. option_map (λ s. join_row (slice_index (ranks_of joins.now.standing) number, s)) (slice_get joins.now.standing number) ≡ Some row.items) }
 {
     let word = text_value(alloc, "join")?;
     let position = number_value(joins.at(number));
@@ -34,7 +34,7 @@ fn push_row(rows: &mut Vec<u8>, row: &[u8]) -> Result<(), OutOfMemory>
 
 /// A row for each join, in order. Linear in the rows.
 pub fn join_rows(alloc: Global, joins: &JoinSet) -> Result<Vec<u8>, OutOfMemory>
-    ensures { IfOk result (λ rows. rows.items ≡ flat_map join_row (zip (ranks_of joins.now) joins.now)) }
+    ensures { IfOk result (λ rows. rows.items ≡ flat_map join_row (zip (ranks_of joins.now.standing) joins.now.standing)) }
 {
     let mut rows = Vec::new(alloc);
     for number in 0..joins.len() {

@@ -7,7 +7,7 @@ use Rattle.std.proofs.lemmas.Fmt.{length-decimal-le, decimal_is_IsNumeral}
 use Rattle.std.proofs.lemmas.List.{length-replicate}
 use Rattle.std.proofs.Math.Seq.{drop-append-add, take-append_seam}
 use Rattle.semantics.specs.Texts.{Text, bar}
-use Rattle.semantics.specs.Histories.{Write, put, remove, declare}
+use Rattle.semantics.specs.Histories.{Write, put, remove, declare, drop_join}
 use Rattle.rand_pcg.specs.Lcg.{Lcg}
 use Rattle.join_types.specs.Writes.{plain_write}
 use Rattle.load_gen.specs.Keys.{padded, subscription, post, vote}
@@ -67,6 +67,7 @@ abbrev pub Names : ℕ → Write → Type 0
 Names poster (put key value) = poster_in key ≡ poster
 Names poster (remove key) = poster_in key ≡ poster
 Names poster (declare join) = ⊥
+Names poster (drop_join at) = ⊥
 
 -- the act reads, or writes such a key of its poster
 abbrev pub IsNamed : Act → Type 0

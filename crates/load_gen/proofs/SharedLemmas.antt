@@ -6,10 +6,10 @@ use Rattle.std.proofs.lemmas.Bool.{cond-true, cond-false}
 use Rattle.std.proofs.lemmas.Bool.Decides.{nat_tests}
 use Rattle.std.proofs.lemmas.List.{length-map, append_cancel_left}
 use Rattle.semantics.specs.Texts.{Text, Table, pairs_where}
-use Rattle.semantics.specs.Histories.{Write, put, remove, declare, Entry, History, DeclaredJoin, joins_after, joins_from, joins_of, base_of, is_computed}
+use Rattle.semantics.specs.Histories.{Write, put, remove, declare, drop_join, Entry, History, DeclaredJoin, joins_after, joins_from, joins_of, base_of, is_computed}
 use Rattle.semantics.specs.States.{below, state, with_outputs, of_rank}
 use Rattle.join_types.specs.Writes.{plain_write}
-use Rattle.join_types.specs.declared.write.Write.TheVariants.{Put, Remove, Declare}
+use Rattle.join_types.specs.declared.write.Write.TheVariants.{Put, Remove, Declare, Drop}
 use Rattle.load_gen.specs.Plans.{planned}
 use Rattle.load_gen.specs.declared.acts.Act.{Act}
 use Rattle.load_gen.specs.declared.acts.Act.TheVariants.{Change, Look}
@@ -52,6 +52,7 @@ of_worker workers worker (Change poster (Put key value) ∷ acts) named =
 of_worker workers worker (Change poster (Remove key) ∷ acts) named =
     act_writes-cond _ _ (remove key) (Change poster (Remove key)) _ _ (ap (λ (p : ℕ). p % workers == worker) named.0) refl (of_worker workers worker acts named.1)
 of_worker workers worker (Change poster (Declare join) ∷ acts) named = absurd named.0
+of_worker workers worker (Change poster (Drop at) ∷ acts) named = absurd named.0
 of_worker workers worker (Look poster user ∷ acts) named =
     of_worker workers worker acts named.1 ∙ look_writes (poster % workers == worker) poster user (acts_of workers worker acts)
 
@@ -62,6 +63,7 @@ abbrev OwnedBy : ℕ → ℕ → Write → Type 0
 OwnedBy workers client (put key value) = client ≡ owner_among workers key + 1
 OwnedBy workers client (remove key) = client ≡ owner_among workers key + 1
 OwnedBy workers client (declare join) = ⊥
+OwnedBy workers client (drop_join at) = ⊥
 
 -- the entry is by the owner of its key
 abbrev IsOwn : ℕ → Entry → Type 0
@@ -87,6 +89,7 @@ owns_acts workers worker (Change poster (Remove key) ∷ acts) named =
     owns_by workers worker (Change poster (Remove key)) (acts_of workers worker acts) (poster % workers == worker)
     (λ is. (own_of workers worker poster key named.0 is, tt)) (owns_acts workers worker acts named.1)
 owns_acts workers worker (Change poster (Declare join) ∷ acts) named = absurd named.0
+owns_acts workers worker (Change poster (Drop at) ∷ acts) named = absurd named.0
 owns_acts workers worker (Look poster user ∷ acts) named =
     owns_by workers worker (Look poster user) (acts_of workers worker acts) (poster % workers == worker) (λ is. tt) (owns_acts workers worker acts named.1)
 
@@ -113,6 +116,7 @@ same_owner : (workers worker client : ℕ) (w : Write) → OwnedBy workers clien
 same_owner workers worker client (put key value) own = same_number (owner_among workers key) worker client own
 same_owner workers worker client (remove key) own = same_number (owner_among workers key) worker client own
 same_owner workers worker client (declare join) own = absurd own
+same_owner workers worker client (drop_join at) own = absurd own
 
 map-cond : {A B : Type 0} (f : A → B) (b : Bool) (x : A) (xs : List A) → cond b (f x ∷ map f xs) (map f xs) ≡ map f (cond b (x ∷ xs) xs)
 map-cond f true x xs = refl
@@ -135,6 +139,7 @@ owned_write : (workers client : ℕ) (w : Write) → 1 ≤ workers → OwnedBy w
 owned_write workers client (put key value) some own = owner_below workers key some
 owned_write workers client (remove key) some own = owner_below workers key some
 owned_write workers client (declare join) some own = absurd own
+owned_write workers client (drop_join at) some own = absurd own
 
 owned_writes : (workers : ℕ) (h : History) → 1 ≤ workers → AllByRecursion (IsOwn workers) h → AllByRecursion (λ w. owned_below (owner_among workers) workers w ≡ true) (writes_in h)
 owned_writes workers [] some own = tt
@@ -145,6 +150,7 @@ named_writes workers [] some named = tt
 named_writes workers (Change poster (Put key value) ∷ acts) some named = (owner_below workers key some, named_writes workers acts some named.1)
 named_writes workers (Change poster (Remove key) ∷ acts) some named = (owner_below workers key some, named_writes workers acts some named.1)
 named_writes workers (Change poster (Declare join) ∷ acts) some named = absurd named.0
+named_writes workers (Change poster (Drop at) ∷ acts) some named = absurd named.0
 named_writes workers (Look poster user ∷ acts) some named = named_writes workers acts some named.1
 
 -- ---- what stands
@@ -154,6 +160,7 @@ joins_after_own : (workers client position : ℕ) (w : Write) (joins : List Decl
 joins_after_own workers client position (put key value) joins own = refl
 joins_after_own workers client position (remove key) joins own = refl
 joins_after_own workers client position (declare join) joins own = absurd own
+joins_after_own workers client position (drop_join at) joins own = absurd own
 
 joins_stay : (workers position : ℕ) (joins : List DeclaredJoin) (h : History) → AllByRecursion (IsOwn workers) h → joins_from position joins h ≡ joins
 joins_stay workers position joins [] own = refl
@@ -164,6 +171,7 @@ joins_after_named : (position poster : ℕ) (w : Write) (joins : List DeclaredJo
 joins_after_named position poster (put key value) joins named = refl
 joins_after_named position poster (remove key) joins named = refl
 joins_after_named position poster (declare join) joins named = absurd named
+joins_after_named position poster (drop_join at) joins named = absurd named
 
 joins_stay_named : (client position : ℕ) (joins : List DeclaredJoin) (acts : List Act) → AllByRecursion IsNamed acts → joins_from position joins (entries_of client acts) ≡ joins
 joins_stay_named client position joins [] named = refl

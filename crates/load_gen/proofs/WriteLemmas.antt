@@ -5,7 +5,7 @@ use Rattle.std.specs.List.{AllByRecursion}
 use Rattle.std.proofs.lemmas.Bool.{cond-true, cond-false, false≢true}
 use Rattle.std.proofs.lemmas.Bool.Decides.{nat_tests}
 use Rattle.semantics.specs.Texts.{Text, Table, same, value_at}
-use Rattle.semantics.specs.Histories.{Write, put, remove, declare, Entry, History, base_after, base_of}
+use Rattle.semantics.specs.Histories.{Write, put, remove, declare, drop_join, Entry, History, base_after, base_of}
 use Rattle.semantics.proofs.PieceLemmas.{equal_by_same}
 use Rattle.semantics.proofs.TableLemmas.{value_at-with_pair, same_tables}
 use Rattle.semantics.proofs.MergedLemmas.{value_at-without_key}
@@ -22,17 +22,20 @@ abbrev writes_key : Text → Write → Bool
 writes_key q (put key value) = same q key
 writes_key q (remove key) = same q key
 writes_key q (declare join) = false
+writes_key q (drop_join at) = false
 
 -- what stands at the key after a write
 abbrev value_after : Text → Option Text → Write → Option Text
 value_after q stood (put key value) = cond (same q key) (Some value) stood
 value_after q stood (remove key) = cond (not (same q key)) stood None
 value_after q stood (declare join) = stood
+value_after q stood (drop_join at) = stood
 
 value_at-base_after : (q : Text) (w : Write) (table : Table) → value_at q (base_after w table) ≡ value_after q (value_at q table) w
 value_at-base_after q (put key value) table = value_at-with_pair q key value table
 value_at-base_after q (remove key) table = value_at-without_key q key table
 value_at-base_after q (declare join) table = refl
+value_at-base_after q (drop_join at) table = refl
 
 value_at-base_from : (q : Text) (h : History) (table : Table) →
     value_at q (fold (λ (t : Table) (e : Entry). base_after e.write t) table h) ≡ fold (value_after q) (value_at q table) (writes_in h)
@@ -45,6 +48,7 @@ unchanged : (q : Text) (w : Write) (stood : Option Text) → writes_key q w ≡ 
 unchanged q (put key value) stood other = cond-false _ _ _ other
 unchanged q (remove key) stood other = ap (λ (b : Bool). cond (not b) stood None) other
 unchanged q (declare join) stood other = refl
+unchanged q (drop_join at) stood other = refl
 
 fold-of_key : (q : Text) (ws : List Write) (stood : Option Text) → fold (value_after q) stood ws ≡ fold (value_after q) stood (filter (writes_key q) ws)
 fold-of_key q [] stood = refl
@@ -62,18 +66,21 @@ abbrev pub owned_by : (Text → ℕ) → ℕ → Write → Bool
 owned_by owner n (put key value) = owner key == n
 owned_by owner n (remove key) = owner key == n
 owned_by owner n (declare join) = false
+owned_by owner n (drop_join at) = false
 
 -- whether a write changes a key whose owner has a number below this one
 abbrev pub owned_below : (Text → ℕ) → ℕ → Write → Bool
 owned_below owner n (put key value) = nat_lt (owner key) n
 owned_below owner n (remove key) = nat_lt (owner key) n
 owned_below owner n (declare join) = false
+owned_below owner n (drop_join at) = false
 
 -- what changes a key is its owner's
 owned_key : (owner : Text → ℕ) (q : Text) (w : Write) → writes_key q w ≡ true → owned_by owner (owner q) w ≡ true
 owned_key owner q (put key value) is = eq-eqb (owner key) (owner q) (ap owner (sym (equal_by_same q key is)))
 owned_key owner q (remove key) is = eq-eqb (owner key) (owner q) (ap owner (sym (equal_by_same q key is)))
 owned_key owner q (declare join) is = absurd (false≢true is)
+owned_key owner q (drop_join at) is = absurd (false≢true is)
 
 -- what passes a test is among what passes a wider one
 filter-wider : {A : Type 0} (narrow wide : A → Bool) → ((x : A) → narrow x ≡ true → wide x ≡ true) → (xs : List A) → filter narrow xs ≡ filter narrow (filter wide xs)
@@ -119,6 +126,7 @@ next_owner : (owner : Text → ℕ) (n : ℕ) (w : Write) → cond (owned_below 
 next_owner owner n (put key value) = next_test (owner key) n
 next_owner owner n (remove key) = next_test (owner key) n
 next_owner owner n (declare join) = refl
+next_owner owner n (drop_join at) = refl
 
 counted_next : (owner : Text → ℕ) (n : ℕ) (ws : List Write) →
     length (filter (owned_below owner (suc n)) ws) ≡ length (filter (owned_below owner n) ws) + length (filter (owned_by owner n) ws)
@@ -135,6 +143,7 @@ none_below : (owner : Text → ℕ) (w : Write) → owned_below owner 0 w ≡ fa
 none_below owner (put key value) = grind (arith, nat_tests)
 none_below owner (remove key) = grind (arith, nat_tests)
 none_below owner (declare join) = refl
+none_below owner (drop_join at) = refl
 
 counted_none : (owner : Text → ℕ) (ws : List Write) → length (filter (owned_below owner 0) ws) ≡ 0
 counted_none owner [] = refl

@@ -19,10 +19,13 @@ pub struct Told {
     pub standing: Standing,
 }
 
-/// Reads the write that a text is: the text of a join, `key=value` for a put, or a key for a remove.
+/// Reads the write that a text is: the text of a join, `drop` and a position, `key=value` for a put, or a key for a remove.
 fn read_write(alloc: Global, text: &str) -> Result<Write, Unread> {
     if text.contains(" = ") {
         return Ok(Write::Declare(parse(alloc, text)?));
+    }
+    if let Some(position) = text.strip_prefix("drop ") {
+        return Ok(Write::Drop(position.parse::<u64>().map_err(|_| Unread)?));
     }
     if text.contains('=') {
         let (key, value) = read_pair(alloc, text)?;

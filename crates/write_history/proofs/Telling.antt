@@ -1,22 +1,37 @@
 -- What a look tells of the joins that stand.
-use Rattle.std.proofs.Common.{◌≡◌, ℕ, List, [], Some, None, sym, ap, ◌∙◌, subst}
-use Rattle.semantics.specs.Histories.{History, DeclaredJoin}
-use Rattle.layering.proofs.StandingLemmas.{last_is_changed}
-use Rattle.join_set.specs.Sets.{last_position}
+use Rattle.std.proofs.Common.{◌≡◌, ◌≢◌, ℕ, ◌≤◌, [], length, take, Some, None, refl, sym, ap, ◌∙◌, subst, arith}
+use Rattle.semantics.specs.Histories.{History}
+use Rattle.growing_history.proofs.PrefixLemmas.{prefix_length, take_prefix}
+use Rattle.join_set.specs.Sets.{Joins, AreJoins}
 use Rattle.write_history.specs.Stored.{Stored, IsLog}
 use Rattle.write_history.specs.Steps.{Sat, HasLog, TakesTurn, held_by}
 use Rattle.write_history.specs.Looks.{TellsJoins}
 
--- the last join that is kept stands where the last declaration is, at the position that is known
-pub told_none : (h : History) (floor : ℕ) (log : Stored) (joins : List DeclaredJoin) (known : ℕ) → IsLog h floor log → joins ≡ log.summary.joins → last_position joins ≡ known → TellsJoins h known None
+-- the last declaration or drop that is kept is at the position that is known
+pub told_none : (h : History) (floor : ℕ) (log : Stored) (joins : Joins) (known : ℕ) → IsLog h floor log → joins ≡ log.summary.joins → joins.changed ≡ known → TellsJoins h known None
 told_none h floor log joins known is kept at = record {
   joins = tt;
-  same = sym (last_is_changed h) ∙ ap last_position (sym (kept ∙ is.stands.same_joins)) ∙ at;
+  same = sym (ap (λ (j : Joins). j.changed) kept ∙ is.stands.joins.changed) ∙ at;
+  none = λ e. refl;
 }
 
--- the joins are those that are kept
-pub told_all : (h : History) (floor : ℕ) (log : Stored) (joins : List DeclaredJoin) (known : ℕ) → IsLog h floor log → joins ≡ log.summary.joins → TellsJoins h known (Some joins)
-told_all h floor log joins known is kept = record { joins = kept ∙ is.stands.same_joins; same = tt }
+-- the joins are those that are kept, where their last declaration or drop is at another position
+pub told_all : (h : History) (floor : ℕ) (log : Stored) (joins : Joins) (known : ℕ) → IsLog h floor log → joins ≡ log.summary.joins → joins.changed ≢ known → TellsJoins h known (Some joins)
+told_all h floor log joins known is kept other = record {
+  joins = subst (λ (j : Joins). AreJoins 0 j h) (sym kept) is.stands.joins;
+  same = tt;
+  none = λ e. absurd (other (ap (λ (j : Joins). j.changed) kept ∙ is.stands.joins.changed ∙ e));
+}
+
+-- the log keeps as many entries as the view has, at least
+pub kept_as_many : (m m' : Sat) (turn : TakesTurn m m') (p : ℕ) → p ≤ length m.0.seen → p ≤ turn.log.summary.length
+kept_as_many m m' turn p within =
+    let more = prefix_length m.0.seen turn.history turn.begins in
+    omega (arith, within, more, turn.is_log.stands.same_length)
+
+-- the first entries of the view are those of the history
+pub first_of_view : (m m' : Sat) (turn : TakesTurn m m') (p : ℕ) → p ≤ length m.0.seen → take p turn.history ≡ take p m.0.seen
+first_of_view m m' turn p within = take_prefix p m.0.seen turn.history within turn.begins
 
 -- who has looked has the log that it had
 pub log_seen : (h : History) (log : Stored) (m m' : Sat) → m' ≡ (record m.0 { seen = held_by m.0 }, m.1) → HasLog h log m → HasLog h log m'

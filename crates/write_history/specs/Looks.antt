@@ -1,8 +1,10 @@
 -- What a look tells of the joins that stand.
-use Rattle.std.specs.Prelude.{◌≡◌, ℕ, List, Option, IfSome, IfNone}
-use Rattle.semantics.specs.Histories.{History, DeclaredJoin, joins_of, changed_at}
+use Rattle.std.specs.Prelude.{◌≡◌, ℕ, Option, None, IfSome, IfNone}
+use Rattle.semantics.specs.Histories.{History, changed_at}
+use Rattle.join_set.specs.Sets.{Joins, AreJoins}
 
--- who knows a position is told the joins that stand after the history, or none, and then the last declaration is at that position
-pub record TellsJoins (h : History) (known : ℕ) (told : Option (List DeclaredJoin)) : Type 0 where
-  pub joins : IfSome told (λ joins. joins ≡ joins_of h)
+-- who knows a position is told the joins of the history; or none, just where the last declaration or drop is at that position
+pub record TellsJoins (h : History) (known : ℕ) (told : Option Joins) : Type 0 where
+  pub joins : IfSome told (λ joins. AreJoins 0 joins h)
   pub same : IfNone told (changed_at h ≡ known)
+  pub none : changed_at h ≡ known → told ≡ None

@@ -1,10 +1,12 @@
 // The history that all threads share.
-ghost use Rattle.std.specs.Prelude.{◌≡◌, ℕ, ◌+◌, ◌-◌, ◌<◌, ◌≤◌, [], ◌∷◌, ◌++◌, length, slice_get, take, drop, IfOk, IfErr, OnErr, OnOk, IfSome, IfNone, Some};
+ghost use Rattle.std.specs.Prelude.{◌≡◌, ℕ, ◌+◌, ◌-◌, ◌<◌, ◌≤◌, [], ◌∷◌, ◌++◌, length, slice_get, take, drop, IfOk, IfErr, OnErr, OnOk, Some};
 ghost use Rattle.join_types.specs.Writes.{plain_write};
-ghost use Rattle.semantics.specs.Histories.{IsPrefix, changed_at, joins_of};
+ghost use Rattle.semantics.specs.Histories.{IsPrefix};
+ghost use Rattle.join_set.specs.Sets.{AreJoins};
 ghost use Rattle.write_history.specs.Entries.{EndsWith};
 ghost use Rattle.write_history.specs.Passes.{GoesOn, entry_by, new_pass, own};
 ghost use Rattle.write_history.specs.Faults.{SaysWhy};
+ghost use Rattle.write_history.specs.Looks.{TellsJoins};
 ghost use Rattle.write_history.specs.Rule.{dealer};
 ghost use Rattle.write_history.specs.Steps.{IsSized};
 
@@ -15,7 +17,10 @@ use crate::looked::Looked;
 use crate::pass::Pass;
 use crate::plays::Deal;
 use crate::rule::{Board, Place, SharedBoard};
-use crate::turn::{copy_entries, enter, free_turn, look, look_joins, take_turn, tell};
+use crate::turn::{
+    copy_entries, enter, free_turn, look, look_joins, make_joins_at, take_turn, tell,
+};
+use join_set::JoinSet;
 use join_types::{Entry, Write};
 use out_of_memory::OutOfMemory;
 use std::alloc::Global;
@@ -146,12 +151,13 @@ impl History {
         length
     }
 
-    /// Extends the view of the pass to all entries of the history, as `look` does, and gives their number and the joins that stand
-    /// after them. It takes the position of a declaration that is known, or 0. Where this is the position of the last declaration,
-    /// or none is declared, the joins are those after the first so many entries, and it gives none.
+    /// Extends the view of the pass to all entries of the history, as `look` does, and gives their number and the joins that
+    /// stand after them. It takes the position of the last declaration or drop that is known, 0 where none is. Where this is
+    /// that of the last one, the joins are those after the first so many entries, and it gives none.
     ///
-    /// It costs a look and compares two numbers. Where they differ, it copies the joins, at most 64, under the turn. While another
-    /// thread has the turn, this one sleeps. On `OutOfMemory` the view is extended all the same.
+    /// It costs a look and compares two numbers. Where they differ, it copies the joins under the turn: at most 64, and a
+    /// position for each table of which a join was dropped. While another thread has the turn, this one sleeps. On
+    /// `OutOfMemory` the view is extended all the same.
     pub fn look_joins<R: Wait>(
         &self,
         rt: &R,
@@ -162,8 +168,7 @@ impl History {
         ensures goes_on { GoesOn pass.old pass.new }
         ensures length { IfOk result (λ looked. looked.length ≡ length pass.new.view) }
         ensures own { own pass.new ≡ own pass.old }
-        ensures joins { IfOk result (λ looked. IfSome looked.joins (λ joins. joins ≡ joins_of pass.new.view)) }
-        ensures same { IfOk result (λ looked. IfNone looked.joins (changed_at pass.new.view ≡ known)) }
+        ensures told { IfOk result (λ looked. TellsJoins pass.new.view known looked.joins) }
     {
         let board = &self.board.shared;
         take_turn(rt, board, &mut pass.place);
@@ -207,5 +212,21 @@ impl History {
         let copies = copy_entries(board, &mut pass.place, self.alloc, from, to);
         free_turn(board, &mut pass.place);
         copies
+    }
+
+    /// Makes the joins of the first p entries of the view. The pass is unchanged. Under the turn it goes over the joins that were
+    /// ever declared, holds each against the tables of dropped ones, and compares those that stood with each other.
+    pub fn joins_at<R: Wait>(&self, rt: &R, pass: &mut Pass, p: u64) -> Result<JoinSet, OutOfMemory>
+        requires same_history { pass.old.history ≡ self.now }
+        requires within { p ≤ length pass.old.view }
+        ensures goes_on { GoesOn pass.old pass.new }
+        ensures unchanged { pass.new ≡ pass.old }
+        ensures joins { IfOk result (λ joins. AreJoins 0 joins (take p pass.old.view)) }
+    {
+        let board = &self.board.shared;
+        take_turn(rt, board, &mut pass.place);
+        let joins = make_joins_at(board, &mut pass.place, p);
+        free_turn(board, &mut pass.place);
+        joins
     }
 }

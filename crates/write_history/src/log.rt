@@ -4,6 +4,7 @@ ghost use Rattle.semantics.specs.Histories.{History};
 ghost use Rattle.semantics.specs.Verdicts.{verdict};
 ghost use Rattle.join_types.specs.Writes.{plain_write};
 ghost use Rattle.growing_history.specs.Entered.{IsWrite};
+ghost use Rattle.join_set.specs.Sets.{AreJoins};
 ghost use Rattle.write_history.specs.Looks.{TellsJoins};
 ghost use Rattle.write_history.specs.Stored.{IsLog};
 ghost use Rattle.write_history.specs.Takes.{Takes, SaysVerdict};
@@ -45,6 +46,7 @@ fn look_at(write: &Write)
         Write::Declare(join) => {
             let _names = &join.names;
         }
+        Write::Drop(_) => {}
     }
 }
 
@@ -86,8 +88,8 @@ impl Log {
         self.entries.copy(alloc, from as usize, to as usize)
     }
 
-    /// Copies the joins that stand, at most 64, where the last declaration is not at the position that is known. Where it is there, it
-    /// compares two numbers and gives none.
+    /// Copies the joins that stand where the last declaration or drop is not at the position that is known, at the cost of
+    /// `JoinSet::copy`. Where it is there, it compares two numbers and gives none.
     pub(crate) fn joins_unless(&self, known: u64) -> Result<Option<JoinSet>, OutOfMemory>
         ensures { IfOk result (λ told. (h : History) (floor : ℕ) → IsLog h floor self.now → TellsJoins h known told) }
     {
@@ -96,5 +98,13 @@ impl Log {
             return Ok(None);
         }
         Ok(Some(joins.copy()?))
+    }
+
+    /// Makes the joins of the first p entries, at the cost of `Standing::joins_at`.
+    pub(crate) fn joins_at(&self, p: u64) -> Result<JoinSet, OutOfMemory>
+        requires { p ≤ self.now.summary.length }
+        ensures { IfOk result (λ joins. (h : History) (floor : ℕ) → IsLog h floor self.now → AreJoins 0 joins (take p h)) }
+    {
+        self.standing.joins_at(p)
     }
 }

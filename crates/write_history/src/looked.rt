@@ -6,6 +6,6 @@ use join_set::JoinSet;
 pub struct Looked {
     /// The number of entries.
     pub length: u64,
-    /// The joins that stand after them. None where the last declaration is at the position that is known.
+    /// The joins that stand after them. None where the last declaration or drop is at the position that is known.
     pub joins: Option<JoinSet>,
 }

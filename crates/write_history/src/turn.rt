@@ -1,6 +1,7 @@
 // The turn: whoever has it has the log too. Waiting for it, and what is done under it.
 ghost use Rattle.std.specs.Prelude.{◌≡◌, ℕ, ◌-◌, ◌<◌, ◌≤◌, [], length, take, drop, IfOk, IfErr, OnErr, Some};
 ghost use Rattle.semantics.specs.Histories.{History};
+ghost use Rattle.join_set.specs.Sets.{AreJoins};
 ghost use Rattle.write_history.specs.Looks.{TellsJoins};
 ghost use Rattle.write_history.specs.Stored.{Stored};
 ghost use Rattle.write_history.specs.Steps.{HasLog, IsResting, IsSized, Learns, TakesTurn, held_by};
@@ -160,7 +161,24 @@ pub(crate) fn copy_entries(
     log.copy(alloc, from, to)
 }
 
-/// Copies the joins that stand, out of the log. It gives none where the last declaration is at the position that is known.
+/// Makes the joins of the first p entries, out of the log.
+pub(crate) fn make_joins_at(
+    board: &SharedBoard,
+    place: &mut Place,
+    p: u64,
+) -> Result<JoinSet, OutOfMemory>
+    requires own { place.old.table_id ≡ board.now.table_id }
+    requires log { (h : History) × (log : Stored) × HasLog h log place.old.me × (p ≤ log.summary.length) }
+    ensures own { place.new.table_id ≡ place.old.table_id }
+    ensures unchanged { place.new.me ≡ place.old.me }
+    ensures joins { IfOk result (λ joins. (h : History) (log : Stored) → HasLog h log place.old.me → AreJoins 0 joins (take p h)) }
+{
+    let log = place.slot_mut(board, LOG);
+    log.joins_at(p)
+}
+
+/// Copies the joins that stand, out of the log. It gives none where the last declaration or drop is at the position that is
+/// known.
 fn copy_joins(
     board: &SharedBoard,
     place: &mut Place,
@@ -177,7 +195,7 @@ fn copy_joins(
 }
 
 /// Looks at the number of entries, and so sees them all, and copies the joins that stand out of the log. It gives none where the
-/// last declaration is at the position that is known. On `OutOfMemory` it has looked all the same.
+/// last declaration or drop is at the position that is known. On `OutOfMemory` it has looked all the same.
 pub(crate) fn look_joins(
     board: &SharedBoard,
     place: &mut Place,

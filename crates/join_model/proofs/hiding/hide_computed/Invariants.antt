@@ -5,5 +5,5 @@ use Rattle.join_model.proofs.hiding.hide_computed.Given as goal
 
 abbrev pub invariant-loop-i : goal.invariant-loop-i
 invariant-loop-i l =
-    pairs_where (λ key. not (is_computed (drop l.i l.joins) key)) l.table
-    ≡ pairs_where (λ key. not (is_computed l.joins key)) l.initial.table
+    pairs_where (λ key. not (is_computed (drop l.i l.joins.standing) key)) l.table
+    ≡ pairs_where (λ key. not (is_computed l.joins.standing key)) l.initial.table

@@ -1,4 +1,5 @@
-use Rattle.std.proofs.Common.{◌∙◌, sym}
+use Rattle.std.proofs.Common.{◌∙◌, ap, sym}
+use Rattle.join_set.specs.Sets.{Joins}
 use Rattle.joins_file.specs.Declarations.{plain_refusal}
 use Rattle.joins_file.proofs.RowLemmas.{check_text-joins, check_text-refused}
 use Rattle.joins_file.proofs.reporting.report.Goals as goal
@@ -7,7 +8,7 @@ pub returns-in_ok-join_rows-in-Joins-clause-text : goal.returns-in_ok-join_rows-
 returns-in_ok-join_rows-in-Joins-clause-text c =
     let declared = rw c.in-Joins.is at c.in_ok-standing.ensures in
     c.in_ok-join_rows-in-Joins.ensures
-    ∙ sym (check_text-joins c.args.bytes.now declared.0 c.joins.result.now declared.1 (c.joins.ensures.joins ∙ declared.2.same_joins))
+    ∙ sym (check_text-joins c.args.bytes.now declared.0 c.joins.result.now.standing declared.1 (ap (λ (j : Joins). j.standing) c.joins.ensures.joins ∙ declared.2.joins.standing))
 
 pub returns-in_ok-refused_row-in-Refused-clause-text : goal.returns-in_ok-refused_row-in-Refused-clause-text
 returns-in_ok-refused_row-in-Refused-clause-text c =

@@ -1,12 +1,12 @@
 use Rattle.std.proofs.Common.{◌≡◌, ◌++◌, ◌∷◌, [], Some, None, sym, ◌∙◌, ap, refl, subst}
-use Rattle.semantics.specs.Histories.{Write, put, remove, declare, Entry}
+use Rattle.semantics.specs.Histories.{Write, put, remove, declare, drop_join, Entry}
 use Rattle.join_types.specs.Writes.{plain_write}
 use Rattle.base_versions.specs.Versions.{version_by}
 use Rattle.base_versions.specs.Changes.{change_by}
 use Rattle.base_versions.specs.Kept.{Kept, StandsFor}
 use Rattle.base_versions.proofs.EnterLemmas.{Gives, raised, stands-kept, stands-change, stands-declared, on_err_always}
 use Rattle.base_versions.proofs.base.BaseVersions.enter.Goals as goal
-use Rattle.base_versions.proofs.base.BaseVersions.enter.Goals.{in-Put+in_ok-copy-in-Put+in_ok-change-in-Put, in-Remove+in_ok-change-in-Remove, in-Declare}
+use Rattle.base_versions.proofs.base.BaseVersions.enter.Goals.{in-Put+in_ok-copy-in-Put+in_ok-change-in-Put, in-Remove+in_ok-change-in-Remove, in-Declare, in-Drop}
 
 pub returns-in_err-change-in-Put-clause-err : goal.returns-in_err-change-in-Put-clause-err
 returns-in_err-change-in-Put-clause-err c =
@@ -35,6 +35,10 @@ returns-clause-ok c = λ start h s.
           subst (λ (k : Kept). StandsFor start (raised k) (h ++ entry ∷ [])) (sym (c.self.view_is ∙ w.self-is)) stands
       | in-Declare w ↦
           let is : entry.write ≡ declare w.in-Declare.field-0 = write ∙ ap plain_write w.in-Declare.is in
+          let stands = stands-declared start c.args.self.now h entry (λ n q. ap (version_by n q) is) (λ n t. ap (change_by n t) is) s in
+          subst (λ (k : Kept). StandsFor start (raised k) (h ++ entry ∷ [])) (sym (c.self.view_is ∙ w.self-is)) stands
+      | in-Drop w ↦
+          let is : entry.write ≡ drop_join w.in-Drop.field-0 = write ∙ ap plain_write w.in-Drop.is in
           let stands = stands-declared start c.args.self.now h entry (λ n q. ap (version_by n q) is) (λ n t. ap (change_by n t) is) s in
           subst (λ (k : Kept). StandsFor start (raised k) (h ++ entry ∷ [])) (sym (c.self.view_is ∙ w.self-is)) stands
     ]

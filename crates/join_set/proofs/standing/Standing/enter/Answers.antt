@@ -8,4 +8,4 @@ use Rattle.join_set.proofs.standing.Standing.enter.Goals as goal
 pub returns-clause-history : goal.returns-clause-history
 returns-clause-history c =
     on_ok_weaker c.take.result
-    (λ e h client s. subst (λ (t : Summary). StandsFor t (h ++ record { client = client; write = plain_write c.args.write.now } ∷ [])) (sym e) (StandsFor-push c.args.self.now h client (plain_write c.args.write.now) s)) c.take.ensures.ok
+    (λ e h client s. subst (λ (t : Summary). StandsFor t (h ++ record { client = client; write = plain_write c.args.write.now } ∷ [])) (sym e) (StandsFor-push c.args.self.now h client (plain_write c.args.write.now) s c.requires)) c.take.ensures.ok

@@ -1,20 +1,26 @@
-use Rattle.std.proofs.Common.{◌≡◌, None, subst}
+use Rattle.std.proofs.Common.{◌≡◌, None, sym, subst}
 use Rattle.join_types.specs.declared.write.Write.{Write}
 use Rattle.join_types.specs.Writes.{plain_write}
-use Rattle.join_set.specs.Summaries.{own_cause}
-use Rattle.join_set.proofs.SummaryLemmas.{free-from_cause_over, free-from_own_cause}
+use Rattle.join_set.specs.Summaries.{Summary, cause_over}
+use Rattle.join_set.proofs.SummaryLemmas.{some_after}
 use Rattle.join_set.proofs.standing.Standing.take.Goals as goal
 
-pub take_change-requires : goal.take_change-requires
-take_change-requires c = (free-from_cause_over c.args.self.now (plain_write c.args.write.now) c.requires).0
+pub take_join-requires : goal.take_join-requires
+take_join-requires c = subst (λ (w : Write). cause_over c.args.self.now (plain_write w) ≡ None) c.in-Declare.is c.requires
 
-pub take_change-requires-in-Remove : goal.take_change-requires-in-Remove
-take_change-requires-in-Remove c = (free-from_cause_over c.args.self.now (plain_write c.args.write.now) c.requires).0
+pub take_drop-requires : goal.take_drop-requires
+take_drop-requires c = subst (λ (w : Write). cause_over c.args.self.now (plain_write w) ≡ None) c.in-Drop.is c.requires
 
-pub take_join-requires-clause-room : goal.take_join-requires-clause-room
-take_join-requires-clause-room c = (free-from_cause_over c.args.self.now (plain_write c.args.write.now) c.requires).0
+pub invariant_of-self : goal.invariant_of-self
+invariant_of-self c =
+    let inside = c.self.inside in
+    let kept : Summary = record { joins = inside.joins; length = inside.entries; stays = inside.stays.items } in
+    let free = subst (λ (s : Summary). cause_over s (plain_write c.args.write.now) ≡ None) (sym c.self.view_is) c.requires in
+    some_after kept _ c.self.invariant (subst (λ (w : Write). cause_over kept (plain_write w) ≡ None) c.in-Put.is free)
 
-pub take_join-requires-clause-free : goal.take_join-requires-clause-free
-take_join-requires-clause-free c =
-    let own = (free-from_cause_over c.args.self.now (plain_write c.args.write.now) c.requires).1 in
-    free-from_own_cause c.args.self.now c.in-Declare.join (subst (λ (w : Write). own_cause c.args.self.now (plain_write w) ≡ None) c.in-Declare.is own)
+pub invariant_of-self-in-Remove : goal.invariant_of-self-in-Remove
+invariant_of-self-in-Remove c =
+    let inside = c.self-in-Remove.inside in
+    let kept : Summary = record { joins = inside.joins; length = inside.entries; stays = inside.stays.items } in
+    let free = subst (λ (s : Summary). cause_over s (plain_write c.args.write.now) ≡ None) (sym c.self-in-Remove.view_is) c.requires in
+    some_after kept _ c.self-in-Remove.invariant (subst (λ (w : Write). cause_over kept (plain_write w) ≡ None) c.in-Remove.is free)

@@ -1,0 +1,35 @@
+-- What the stays tell of the first entries of a history: the last declaration or drop, and the last drop of each table.
+use Rattle.std.specs.Prelude.{ℕ, List, [], ◌∷◌, max, nat_le, if◌then◌else◌, Option, Some, None}
+use Rattle.semantics.specs.Texts.{Text}
+use Rattle.semantics.specs.Stays.{Stay}
+use Rattle.growing_history.specs.Changes.{has_table}
+
+-- a position, where it lies up to another; otherwise 0
+abbrev pub up_to : ℕ → ℕ → ℕ
+up_to p n = if nat_le n p then n else 0
+
+-- the position of the drop that ends a stay, where it lies up to another; otherwise 0
+abbrev pub end_up_to : ℕ → Option ℕ → ℕ
+end_up_to p None = 0
+end_up_to p (Some d) = up_to p d
+
+-- the last of a stay's declaration and drop that lies up to a position, 0 where neither does
+abbrev pub change_up_to : ℕ → Stay → ℕ
+change_up_to p s = max (up_to p s.position) (end_up_to p s.until)
+
+-- the drop of a stay that lies up to a position, where its join has its output in a table; otherwise 0
+abbrev pub drop_up_to : ℕ → Text → Stay → ℕ
+drop_up_to p table s = if has_table s.join.output table then end_up_to p s.until else 0
+
+-- the greatest of the numbers that stays have, 0 where there is none
+abbrev pub greatest : (Stay → ℕ) → List Stay → ℕ
+greatest f [] = 0
+greatest f (s ∷ stays) = max (f s) (greatest f stays)
+
+-- the last declaration or drop up to a position
+abbrev pub changed_up_to : ℕ → List Stay → ℕ
+changed_up_to p stays = greatest (change_up_to p) stays
+
+-- the last drop, up to a position, of a join with its output in a table
+abbrev pub dropped_up_to : ℕ → Text → List Stay → ℕ
+dropped_up_to p table stays = greatest (drop_up_to p table) stays

@@ -1,0 +1,170 @@
+// The joins that ever stood, each from its declaration until its drop, and what they tell of the first entries of a history.
+ghost use Rattle.std.specs.Prelude.{◌≡◌, ◌&&◌, ◌==◌, IfOk, Some, is_none, max, if◌then◌else◌};
+ghost use Rattle.semantics.specs.Texts.{Text};
+ghost use Rattle.semantics.specs.Histories.{drop_join};
+ghost use Rattle.semantics.specs.Stays.{declared, joins_at, stands_at, stays_after};
+ghost use Rattle.join_set.specs.Sets.{drops_after, last_drop, last_drop_of};
+ghost use Rattle.join_set.specs.Timelines.{up_to, end_up_to, change_up_to, changed_up_to, drop_up_to, dropped_up_to};
+
+use crate::drops::{LastDrop, drops_after, last_drop_of};
+use crate::stands::Stands;
+use join_types::Join;
+use out_of_memory::OutOfMemory;
+use std::alloc::Global;
+use std::marker::Model;
+
+/// A join with the position of its declaration, and that of its drop if it was dropped.
+#[derive(Debug, Drop)]
+pub struct Stay {
+    /// Where the declaration stands in the history.
+    pub position: u64,
+    /// The join.
+    pub join: Join,
+    /// Where the drop stands in the history.
+    pub until: Option<u64>,
+}
+
+impl Model for Stay {
+    ghost use Rattle.semantics.specs.Stays as plain;
+
+    ghost Value = { plain.Stay };
+
+    ghost view = { λ s. record { position = s.position; join = s.join; until = s.until } };
+}
+
+/// Gives the position, where it lies up to another; otherwise 0.
+fn up_to(p: u64, position: u64) -> u64
+    ensures { result ≡ up_to p position }
+{
+    if position <= p { position } else { 0 }
+}
+
+impl Stay {
+    /// Whether the join stands after the first p entries.
+    fn stands_at(&self, p: u64) -> bool
+        ensures { result ≡ stands_at p self.now }
+    {
+        self.position <= p
+            && match self.until {
+                Some(end) => p < end,
+                None => true,
+            }
+    }
+
+    /// Gives the position of the drop, where it lies up to another; otherwise 0.
+    fn end_up_to(&self, p: u64) -> u64
+        ensures { result ≡ end_up_to p self.now.until }
+    {
+        match self.until {
+            Some(end) => up_to(p, end),
+            None => 0,
+        }
+    }
+
+    /// Gives the last of the declaration and the drop that lies up to a position, 0 where neither does.
+    fn change_up_to(&self, p: u64) -> u64
+        ensures { result ≡ change_up_to p self.now }
+    {
+        up_to(p, self.position).max(self.end_up_to(p))
+    }
+
+    /// Gives the last drop of the table of its join, 0 where none is known. Linear in the last drops.
+    fn last_drop(&self, drops: &[LastDrop]) -> u64
+        ensures { result ≡ last_drop_of self.now.join.output drops.now }
+    {
+        last_drop_of(drops, &self.join.output)
+    }
+
+    /// Gives the last drops once its join is dropped at a later position. Linear in the last drops.
+    fn drops_after(
+        &self,
+        alloc: Global,
+        drops: &[LastDrop],
+        at: u64,
+    ) -> Result<Vec<LastDrop>, OutOfMemory>
+        ensures { IfOk result (λ found. found.items ≡ drops_after at self.now.join.output drops.now) }
+    {
+        drops_after(alloc, drops, &self.join.output, at)
+    }
+
+    /// Copies it as a join that stands.
+    fn copy(&self, alloc: Global) -> Result<Stands, OutOfMemory>
+        ensures { IfOk result (λ copy. copy ≡ declared self.now) }
+    {
+        let join = self.join.copy(alloc)?;
+        Ok(Stands {
+            position: self.position,
+            join,
+        })
+    }
+
+    /// Ends the stay at a position, where it was declared at another and has not ended.
+    fn end(&mut self, at: u64, position: u64)
+        ensures { self.new ≡ (if (self.old.position == at) && is_none self.old.until then record { position = self.old.position; join = self.old.join; until = Some position } else self.old) }
+    {
+        if self.position == at && self.until.is_none() {
+            self.until = Some(position);
+        }
+    }
+}
+
+/// Ends the stays of the joins that were declared at a position and stand, by a drop at another. Linear in the stays.
+pub fn end_stays(stays: &mut [Stay], at: u64, position: u64)
+    ensures { stays.new ≡ stays_after position (drop_join at) stays.old }
+{
+    for stay in stays.iter_mut() {
+        stay.end(at, position);
+    }
+}
+
+/// Copies the joins that stand after the first p entries. Linear in the stays.
+pub fn joins_at(alloc: Global, stays: &[Stay], p: u64) -> Result<Vec<Stands>, OutOfMemory>
+    ensures { IfOk result (λ joins. joins.items ≡ joins_at p stays.now) }
+{
+    let mut joins = Vec::new(alloc);
+    for stay in stays {
+        if stay.stands_at(p) {
+            joins.push(stay.copy(alloc)?)?;
+        }
+    }
+    Ok(joins)
+}
+
+/// Gives the position of the last declaration or drop among the first p entries, 0 where there is none. Linear in the stays.
+pub fn changed_up_to(stays: &[Stay], p: u64) -> u64
+    ensures { result ≡ changed_up_to p stays.now }
+{
+    let mut changed = 0;
+    for stay in stays {
+        changed = changed.max(stay.change_up_to(p));
+    }
+    changed
+}
+
+/// Gives the last drops with that of a stay, where it lies up to a position and is later than that of its table.
+fn add_drop(
+    alloc: Global,
+    drops: Vec<LastDrop>,
+    stay: &Stay,
+    p: u64,
+) -> Result<Vec<LastDrop>, OutOfMemory>
+    ensures { IfOk result (λ found. (table : Text) → last_drop table found.items ≡ max (last_drop table drops.items) (drop_up_to p table stay.now)) }
+{
+    let end = stay.end_up_to(p);
+    if end <= stay.last_drop(drops.as_slice()) {
+        return Ok(drops);
+    }
+    stay.drops_after(alloc, drops.as_slice(), end)
+}
+
+/// Gives the last drop of each table among the first p entries. Linear in the stays, each of which is held against the tables
+/// with a drop.
+pub fn drops_up_to(alloc: Global, stays: &[Stay], p: u64) -> Result<Vec<LastDrop>, OutOfMemory>
+    ensures { IfOk result (λ drops. (table : Text) → last_drop table drops.items ≡ dropped_up_to p table stays.now) }
+{
+    let mut drops = Vec::new(alloc);
+    for stay in stays {
+        drops = add_drop(alloc, drops, stay, p)?;
+    }
+    Ok(drops)
+}

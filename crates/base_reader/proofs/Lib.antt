@@ -1,3 +1,4 @@
+pub mod LaterLemmas
 pub mod ReachingLemmas
 pub mod ReadingLemmas
 pub mod EnteringLemmas

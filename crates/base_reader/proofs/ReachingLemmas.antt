@@ -1,25 +1,17 @@
 -- The joins that a range reaches, found one after another.
-use Rattle.std.proofs.Common.{◌≡◌, ◌&&◌, ℕ, zero, suc, ◌+◌, ◌<◌, ◌≤◌, List, [], ◌∷◌, ◌++◌, Bool, true, false, cond, eqb, filter, map, zip, not, drop, get_or, length, take, slice_get, slice_index, Option, Some, None, option_map, refl, sym, ap, ◌∙◌, arith}
-use Rattle.std.specs.List.{list_all}
+use Rattle.std.proofs.Common.{◌≡◌, ◌&&◌, ℕ, zero, suc, ◌+◌, ◌<◌, ◌≤◌, List, [], ◌∷◌, ◌++◌, Bool, true, false, cond, eqb, filter, map, zip, not, length, take, slice_get, slice_index, Option, Some, option_map, refl, sym, ap, ◌∙◌, arith}
 use Rattle.std.proofs.lemmas.Bool.{false≢true}
-use Rattle.std.proofs.lemmas.List.Folds.{list_all-append}
-use Rattle.std.proofs.lemmas.List.{take_more, take_all, append-nil, take-append-drop, drop_more}
+use Rattle.std.proofs.lemmas.List.{take_more, take_all, append-nil}
 use Rattle.std.proofs.lemmas.Option.{none-some, same_Some, slice_get_within, get_or_from_slice_get}
 use Rattle.semantics.specs.Texts.{Table, Range, table_of, pairs_where}
-use Rattle.semantics.specs.Joins.{Join}
-use Rattle.semantics.specs.Histories.{Entry, History, DeclaredJoin, joins_of, is_computed}
-use Rattle.semantics.specs.Verdicts.{AllEntered}
-use Rattle.join_set.specs.Summaries.{Summary, StandsFor, cause_over}
-use Rattle.join_set.proofs.SummaryLemmas.{cause_over-StandsFor}
+use Rattle.semantics.specs.Histories.{DeclaredJoin, is_computed}
 use Rattle.semantics.specs.States.{ranks_of}
 use Rattle.semantics.proofs.OfRankLemmas.{length-ranks_of}
-use Rattle.growing_history.specs.Changes.{has_table, is_bare}
 use Rattle.layering.specs.Reached.{reached, reaches}
-use Rattle.layering.specs.Standing.{last_declared}
-use Rattle.layering.proofs.StandingLemmas.{last_is_changed, same_joins_since}
 use Rattle.layering.proofs.ReachLemmas.{reached_are_picked}
 use Rattle.join_eval.specs.declared.between.Between.TheVariants.{Steady, Bare, Other}
-use Rattle.join_eval.proofs.BareLemmas.{bare_throughout}
+use Rattle.join_set.specs.Sets.{Joins, bare_since}
+use Rattle.join_set.proofs.BareSinceLemmas.{bare_by_joins}
 use Rattle.base_reader.specs.Reaching.{IsReachedAt, SaysBetween}
 
 -- the positions of those of the first joins, beside their ranks, that have a rank and that a range reaches
@@ -106,66 +98,19 @@ picked_all range rank joins i ats past is =
     ∙ picked_map range rank (zip (ranks_of joins) joins)
     ∙ ap (map (λ s. s.position)) (sym (reached_are_picked joins range rank))
 
--- ---- entries one after another
-
--- the entries around the one at a place
-split_at_place : (h : History) (n : ℕ) (e : Entry) → n < length h → e ≡ get_or h n e → h ≡ take n h ++ e ∷ drop (n + 1) h
-split_at_place h n e less is =
-    sym (take-append-drop n h) ∙ ap (λ es. take n h ++ es) (drop_more h n e less ∙ ap (λ x. x ∷ drop (n + 1) h) (sym is))
-
--- nothing is against the entry at a place
-pub next_cause : (h : History) (n : ℕ) (e : Entry) (summary : Summary) → AllEntered h → n < length h → e ≡ get_or h n e → StandsFor summary (take n h) → cause_over summary e.write ≡ None
-next_cause h n e summary entered less is stands =
-    cause_over-StandsFor summary (take n h) e.write stands ∙ entered (take n h) e (drop (n + 1) h) (split_at_place h n e less is)
-
--- ---- ranges that are bare
-
--- the join has no output in the range's table
-abbrev is_elsewhere : Range → DeclaredJoin → Bool
-is_elsewhere range s = not (has_table s.join.output (table_of range.low))
-
-named_join : (joins : List DeclaredJoin) (i : ℕ) (s : DeclaredJoin) (j : Join) → slice_get joins i ≡ Some s → option_map (λ t. t.join) (slice_get joins i) ≡ Some j → s.join ≡ j
-named_join joins i s j at is = same_Some s.join j (sym (ap (option_map (λ t. t.join)) at) ∙ is)
-
--- one join more that has its output elsewhere
-pub bare_more : (range : Range) (joins : List DeclaredJoin) (i : ℕ) (j : Join) → i < length joins → option_map (λ s. s.join) (slice_get joins i) ≡ Some j → has_table j.output (table_of range.low) ≡ false →
-    is_bare range (take i joins) ≡ true → is_bare range (take (i + 1) joins) ≡ true
-bare_more range joins i j less at other before =
-    let w = stands joins i less in
-    let one : is_elsewhere range w.0 ≡ true = ap (λ (k : Join). not (has_table k.output (table_of range.low))) (named_join joins i w.0 j w.1 at) ∙ ap not other in
-    ap (is_bare range) (take_more joins i w.0 less ∙ ap (λ x. take i joins ++ x ∷ []) (get_or_from_slice_get joins i w.0 w.0 w.1))
-    ∙ list_all-append (is_elsewhere range) (take i joins) (w.0 ∷ [])
-    ∙ (λ k. before k && (one k && true))
-
-and_false : (b : Bool) → (b && false) ≡ false
-and_false true = refl
-and_false false = refl
-
--- one that has it in the table
-pub not_bare : (range : Range) (joins : List DeclaredJoin) (i : ℕ) (j : Join) → option_map (λ s. s.join) (slice_get joins i) ≡ Some j → has_table j.output (table_of range.low) ≡ true → is_bare range joins ≡ false
-not_bare range [] i j at has = absurd (none-some j at)
-not_bare range (s ∷ joins) zero j at has =
-    let one : is_elsewhere range s ≡ false = ap (λ (k : Join). not (has_table k.output (table_of range.low))) (same_Some s.join j at) ∙ ap not has in
-    ap (λ b. b && list_all (is_elsewhere range) joins) one
-not_bare range (s ∷ joins) (suc i) j at has = ap (λ b. is_elsewhere range s && b) (not_bare range joins i j at has) ∙ and_false (is_elsewhere range s)
-
 -- ---- what is said of the joins between two positions
 
-pub steady_between : (joins : List DeclaredJoin) (q : ℕ) (range : Range) → last_declared joins ≤ q → SaysBetween joins q range Steady
-steady_between joins q range upto h p order are = let e = sym (last_is_changed (take p h)) ∙ ap last_declared (sym are) in omega (arith, e, upto)
+pub steady_between : (joins : Joins) (q : ℕ) (range : Range) → joins.changed ≤ q → SaysBetween joins q range Steady
+steady_between joins q range upto h p order within are = omega (arith, upto, are.changed)
 
-pub bare_between : (joins : List DeclaredJoin) (q : ℕ) (range : Range) → is_bare range joins ≡ true → SaysBetween joins q range Bare
-bare_between joins q range bare h p order are = bare_throughout h q p range (ap (is_bare range) (sym are) ∙ bare)
+pub bare_between : (joins : Joins) (q : ℕ) (range : Range) → bare_since q (table_of range.low) joins ≡ true → SaysBetween joins q range Bare
+bare_between joins q range bare h p order within are = (bare_by_joins joins h q p range order within are).0 bare
 
-pub other_between : (joins : List DeclaredJoin) (q : ℕ) (range : Range) → q < last_declared joins → is_bare range joins ≡ false → SaysBetween joins q range Other
-other_between joins q range later computed h p order are = (
-  let e = sym (last_is_changed (take p h)) ∙ ap last_declared (sym are) in omega (arith, e, later),
-  λ bare. false≢true (sym computed ∙ ap (is_bare range) are ∙ bare p order (omega arith)),
+pub other_between : (joins : Joins) (q : ℕ) (range : Range) → q < joins.changed → bare_since q (table_of range.low) joins ≡ false → SaysBetween joins q range Other
+other_between joins q range later computed h p order within are = (
+  omega (arith, later, are.changed),
+  λ bare. false≢true (sym computed ∙ (bare_by_joins joins h q p range order within are).1 bare),
 )
-
--- where no join is declared after the first p entries, the joins after them are those that stand
-pub none_later : (h : History) (p : ℕ) → last_declared (joins_of h) ≤ p → joins_of (take p h) ≡ joins_of h
-none_later h p upto = same_joins_since h p (let e = last_is_changed h in omega (arith, e, upto))
 
 -- ---- joins that hide nothing
 

@@ -1,7 +1,6 @@
 -- Reading base pairs after some entries.
-use Rattle.std.proofs.Common.{◌≡◌, ◌==◌, ℕ, zero, suc, ◌+◌, ◌-◌, ◌%◌, ◌≤◌, ◌⊎◌, inl, inr, true, false, cond, not, List, [], ◌∷◌, ◌++◌, length, take, drop, slice_get, Contains, Some, None, refl, sym, ap, ◌∙◌, subst, arith, Bool, sum, Option, option_map, Result, Ok, Err, OnOk, OnErr}
+use Rattle.std.proofs.Common.{◌≡◌, ◌==◌, ℕ, zero, suc, ◌+◌, ◌-◌, ◌%◌, ◌≤◌, ◌⊎◌, inl, inr, true, false, cond, not, List, [], ◌∷◌, ◌++◌, length, take, drop, Contains, None, refl, sym, ap, ◌∙◌, subst, arith, Bool, sum, Result, Ok, Err, OnOk, OnErr}
 use Rattle.std.proofs.lemmas.List.{take_all, take-append-drop, length-drop}
-use Rattle.std.proofs.lemmas.Option.{none-some, same_Some}
 use Rattle.semantics.specs.Texts.{Text, Table, value_at, is_range, Range, within, pairs_within, pairs_where}
 use Rattle.semantics.specs.Histories.{Entry, History, DeclaredJoin, joins_of, changed_at, base_of, is_computed}
 use Rattle.semantics.specs.States.{below}
@@ -14,8 +13,7 @@ use Rattle.growing_history.proofs.ChangeLemmas.{changed_keys_are_written, change
 use Rattle.growing_history.proofs.ElementLemmas.{all_from_has}
 use Rattle.growing_history.proofs.EnteredLemmas.{has_entered_taken, declares_joins}
 use Rattle.growing_history.proofs.UnchangedLemmas.{bare_is_base, base_kept, unchanged_is_same}
-use Rattle.layering.specs.Standing.{last_declared}
-use Rattle.layering.proofs.StandingLemmas.{joins_stay_since, last_is_declared}
+use Rattle.layering.proofs.StandingLemmas.{joins_stay_since}
 use Rattle.layering.proofs.LayerLemmas.{visible_within}
 use Rattle.join_eval.specs.Answers.{ListsChanges}
 use Rattle.base_versions.specs.Kept.{Kept, has_table, StandsFor, HasEnteredInPart}
@@ -68,7 +66,7 @@ left_fewer test (e ∷ es) = by (test e.0) (left_fewer test es)
 
 -- ---- what is the same
 
--- at a key that no entry between writes the same is visible, where no join is declared between
+-- at a key that no entry between writes the same is visible, where no join is declared or dropped between
 visible_same : (h : History) (q p : ℕ) (range : Range) (key : Text) → q ≤ p → changed_at (take p h) ≤ q → within range key ≡ true → (Contains (changed_keys q p range h) key → ⊥) → Same h q p 0 key
 visible_same h q p range key order steady inside unlisted x up down =
     let stay = joins_stay_since h q p steady in
@@ -89,7 +87,7 @@ lists h q p rank range same = record {
   complete = same;
 }
 
--- they do at rank 0 where no join is declared between, and over a range that is bare throughout
+-- they do at rank 0 where no join is declared or dropped between, and over a range that is bare throughout
 pub changed_listed : (h : History) (q p rank : ℕ) (range : Range) (keys : List Text) → HasEntered h → is_range range.low range.high ≡ true → q ≤ p → rank ≤ 0 → keys ≡ changed_keys q p range h →
     (changed_at (take p h) ≤ q) ⊎ IsBareThroughout h q p range → ListsChanges h q p rank range keys
 changed_listed h q p rank range keys entered ok order none is (inl steady) =
@@ -118,11 +116,6 @@ caught_up (Err e) old new es part is within stands ok position err =
 -- versions that have caught up stand for all entries
 pub stands_for_all : (h es : History) (base : Kept) → es ≡ h → base.position ≡ length es → StandsFor 0 base (take base.position es) → StandsFor 0 base h
 stands_for_all h es base is position stands = subst (StandsFor 0 base) (take_all base.position es (omega (arith, position)) ∙ is) stands
-
--- the last join's position
-pub last_at : (joins : List DeclaredJoin) (i at : ℕ) (o : Option DeclaredJoin) → slice_get joins i ≡ o → option_map (λ s. s.position) o ≡ Some at → length joins ≡ i + 1 → at ≡ last_declared joins
-last_at joins i at None there is long = absurd (none-some at is)
-last_at joins i at (Some s) there is long = sym (same_Some s.position at is) ∙ sym (last_is_declared joins i s there long)
 
 -- rank 0
 pub at_rank_zero : (h : History) (p rank : ℕ) (range : Range) (left : Table) → rank ≤ 0 → left ≡ pairs_within range (below (take p h) 0) → left ≡ pairs_within range (below (take p h) rank)

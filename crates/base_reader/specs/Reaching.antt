@@ -1,13 +1,12 @@
--- Which joins of a set a range reaches, by their numbers.
-use Rattle.std.specs.Prelude.{◌≡◌, ◌&&◌, ◌==◌, ℕ, ◌<◌, ◌≤◌, List, slice_get, slice_index, take, Bool, Option, Some, None}
+-- The joins of a set by their positions and numbers, those that a range reaches, and the joins at earlier positions.
+use Rattle.std.specs.Prelude.{◌≡◌, ◌&&◌, ◌==◌, ℕ, ◌≤◌, List, length, slice_get, slice_index, take, Bool, Option, Some, None, option_map}
 use Rattle.semantics.specs.Texts.{Range}
 use Rattle.semantics.specs.Joins.{Join}
-use Rattle.semantics.specs.Histories.{History, DeclaredJoin, joins_of}
+use Rattle.semantics.specs.Histories.{History, DeclaredJoin}
 use Rattle.semantics.specs.States.{ranks_of}
-use Rattle.growing_history.specs.Entered.{HasRank}
 use Rattle.layering.specs.Reached.{reaches}
-use Rattle.cell_slots.specs.Slots.{IsDeclared}
-use Rattle.join_set.specs.Summaries as summaries
+use Rattle.cell_slots.specs.Slots.{StandsNot}
+use Rattle.join_set.specs.Sets.{Joins, AreJoins}
 use Rattle.join_eval.specs.declared.between.Between.{Between}
 use Rattle.join_eval.specs.Answers.{TellsBetween}
 
@@ -16,21 +15,21 @@ abbrev pub IsReachedAt : List DeclaredJoin → ℕ → ℕ → Range → Bool �
 IsReachedAt joins i rank range answer =
     (s : DeclaredJoin) → slice_get joins i ≡ Some s → answer ≡ ((slice_index (ranks_of joins) i == rank) && reaches range s)
 
--- the join that was declared at a position stands among joins with a rank, or none that was declared there stands
-abbrev pub IsRankIn : List DeclaredJoin → ℕ → Option ℕ → Type 0
-IsRankIn joins at None = (i : ℕ) (s : DeclaredJoin) → slice_get joins i ≡ Some s → s.position ≡ at → ⊥
-IsRankIn joins at (Some rank) = (i : ℕ) × (s : DeclaredJoin) × (slice_get joins i ≡ Some s) × (s.position ≡ at) × (slice_index (ranks_of joins) i ≡ rank)
+-- the join with a number was declared at a position, or none that was stands among the joins
+abbrev pub IsNumberIn : List DeclaredJoin → ℕ → Option ℕ → Type 0
+IsNumberIn joins at None = StandsNot joins at
+IsNumberIn joins at (Some i) = option_map (λ s. s.position) (slice_get joins i) ≡ Some at
 
--- the join that was declared at a position has a rank after the first p entries, or it is declared later
-abbrev pub IsRankAt : History → ℕ → ℕ → Option ℕ → Type 0
-IsRankAt h p at None = p < at
-IsRankAt h p at (Some rank) = (at ≤ p) × ((j : Join) → IsDeclared h at j → HasRank (joins_of (take p h)) j rank)
+-- the join was declared at a position and stands among joins, or none that was declared there does
+abbrev pub IsJoinIn : List DeclaredJoin → ℕ → Option Join → Type 0
+IsJoinIn joins at None = StandsNot joins at
+IsJoinIn joins at (Some j) = (place : ℕ) × (slice_get joins place ≡ Some (record { position = at; join = j }))
 
 -- what is said of the joins between a position and the one after which these joins stand
-abbrev pub SaysBetween : List DeclaredJoin → ℕ → Range → Between → Type 0
-SaysBetween joins q range answer = (h : History) (p : ℕ) → q ≤ p → joins ≡ joins_of (take p h) → TellsBetween h q p range answer
+abbrev pub SaysBetween : Joins → ℕ → Range → Between → Type 0
+SaysBetween joins q range answer = (h : History) (p : ℕ) → q ≤ p → p ≤ length h → AreJoins 0 joins (take p h) → TellsBetween h q p range answer
 
--- the joins after the first p entries: what is kept of these, or where nothing is, those that stand
-abbrev pub KeepsJoinsAt : History → ℕ → Option summaries.Summary → Type 0
-KeepsJoinsAt h p None = joins_of (take p h) ≡ joins_of h
-KeepsJoinsAt h p (Some earlier) = earlier.joins ≡ joins_of (take p h)
+-- a set of the joins after the first p entries; or none, where each set of the joins after all entries is one
+abbrev pub KeepsJoinsAt : History → ℕ → Option Joins → Type 0
+KeepsJoinsAt h p None = (joins : Joins) → AreJoins 0 joins h → AreJoins 0 joins (take p h)
+KeepsJoinsAt h p (Some earlier) = AreJoins 0 earlier (take p h)

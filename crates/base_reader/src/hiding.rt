@@ -14,7 +14,7 @@ pub fn hide_computed(
     joins: &JoinSet,
     pairs: Vec<Pair>,
 ) -> Result<Vec<Pair>, OutOfMemory>
-    ensures { IfOk result (λ left. left.items ≡ pairs_where (λ key. not (is_computed joins.now key)) pairs.items) }
+    ensures { IfOk result (λ left. left.items ≡ pairs_where (λ key. not (is_computed joins.now.standing key)) pairs.items) }
 {
     if joins.is_empty() {
         return Ok(pairs);

@@ -1,23 +1,20 @@
-// The joins whose outputs a range reaches.
-ghost use Rattle.std.specs.Prelude.{◌≡◌, ◌<◌, ◌-◌, IfOk, length, map};
-ghost use Rattle.semantics.specs.Verdicts.{AllEntered};
-ghost use Rattle.join_set.specs.Summaries.{StandsFor};
-ghost use Rattle.growing_history.specs.Changes.{is_bare};
+// The joins of a set by their positions and ranks, and those whose outputs a range reaches.
+ghost use Rattle.std.specs.Prelude.{◌≡◌, ◌<◌, ◌≤◌, IfOk, IfSome, length, map, option_copied};
 ghost use Rattle.layering.specs.Reached.{reached};
-ghost use Rattle.layering.specs.Standing.{last_declared};
-ghost use Rattle.base_reader.specs.Reaching.{IsRankIn, IsReachedAt, SaysBetween};
+ghost use Rattle.cell_slots.specs.Slots.{IsRankIn};
+ghost use Rattle.base_reader.specs.Reaching.{IsJoinIn, IsNumberIn, IsReachedAt, SaysBetween};
 
-use join_eval::{Between, has_table};
-use join_set::{JoinSet, Standing};
-use join_types::Entry;
+use join_eval::Between;
+use join_set::JoinSet;
+use join_types::Join;
 use key_space::Range;
 use out_of_memory::OutOfMemory;
 use std::alloc::Global;
 
 /// Whether the join with a number has the rank, and the range reaches its output. Linear in the bounds.
 fn is_reached(joins: &JoinSet, i: usize, rank: u8, range: &Range) -> bool
-    requires { i < length joins.now }
-    ensures { IsReachedAt joins.now i rank range.now result }
+    requires { i < length joins.now.standing }
+    ensures { IsReachedAt joins.now.standing i rank range.now result }
 {
     if joins.rank(i) != rank {
         return false;
@@ -34,7 +31,7 @@ pub fn reached_in(
     rank: u8,
     range: &Range,
 ) -> Result<Vec<u64>, OutOfMemory>
-    ensures { IfOk result (λ ats. ats.items ≡ map (λ s. s.position) (reached range.now rank joins.now)) }
+    ensures { IfOk result (λ ats. ats.items ≡ map (λ s. s.position) (reached range.now rank joins.now.standing)) }
 {
     let mut ats = Vec::new(alloc);
     for i in 0..joins.len() {
@@ -45,64 +42,49 @@ pub fn reached_in(
     Ok(ats)
 }
 
-/// The rank of the join that was declared at a position, if it stands among the joins. Linear in the joins.
-pub fn rank_of(joins: &JoinSet, at: u64) -> Option<u8>
-    ensures { IsRankIn joins.now at result }
+/// Finds the number of the join that was declared at a position; none exactly where it does not stand among the joins. Linear in
+/// the joins.
+fn number_of(joins: &JoinSet, at: u64) -> Option<usize>
+    ensures within { IfSome result (λ i. i < length joins.now.standing) }
+    ensures number { IsNumberIn joins.now.standing at result }
 {
     for i in 0..joins.len() {
         if joins.at(i) == at {
-            return Some(joins.rank(i));
+            return Some(i);
         }
     }
     None
 }
 
-/// Returns the position of the last join, 0 where there is none: that of the last declaration.
-pub fn last_declared(joins: &JoinSet) -> u64
-    ensures { result ≡ last_declared joins.now }
+/// Finds the rank of the join that was declared at a position; none exactly where it does not stand among the joins. Linear in
+/// the joins.
+pub fn rank_of(joins: &JoinSet, at: u64) -> Option<u8>
+    ensures rank { IsRankIn joins.now.standing at result }
+    ensures shallow { IfSome result (λ rank. rank ≤ 7) }
 {
-    if joins.is_empty() {
-        return 0;
-    }
-    joins.at(joins.len() - 1)
+    let i = number_of(joins, at)?;
+    Some(joins.rank(i))
 }
 
-/// Returns whether no join has its output in the range's table. Linear in the joins.
-fn is_bare(joins: &JoinSet, range: &Range) -> bool
-    ensures { result ≡ is_bare range.now joins.now }
+/// Finds the join that was declared at a position; none exactly where it does not stand among the joins. Linear in the joins.
+pub fn join_of(joins: &JoinSet, at: u64) -> Option<&Join>
+    ensures { IsJoinIn joins.now.standing at (option_copied result) }
 {
-    let table = range.table();
-    for i in 0..joins.len() {
-        if has_table(&joins.join(i).output, table) {
-            return false;
-        }
-    }
-    true
+    let i = number_of(joins, at)?;
+    Some(joins.join(i))
 }
 
 /// Says what is so of the joins, for the range, from a position on up to the one after which these stand. It compares two
-/// numbers; where a join is declared between, it is linear in the joins.
+/// numbers; where a join is declared or dropped between, it is linear in the joins, and in the tables of those that were
+/// dropped.
 pub fn between(joins: &JoinSet, q: u64, range: &Range) -> Between
     ensures { SaysBetween joins.now q range.now result }
 {
-    if last_declared(joins) <= q {
+    if joins.changed_at() <= q {
         return Between::Steady;
     }
-    if is_bare(joins, range) {
+    if joins.bare_since(q, range.table()) {
         return Between::Bare;
     }
     Between::Other
-}
-
-/// What is kept of entries, each of which entered at its place: the joins that stand after them. It compares, for each
-/// declaration, each join with each.
-pub fn standing_after(alloc: Global, entries: &[Entry]) -> Result<Standing, OutOfMemory>
-    requires { AllEntered entries.now }
-    ensures { IfOk result (λ standing. StandsFor standing entries.now) }
-{
-    let mut standing = Standing::new(alloc);
-    for entry in entries {
-        standing.enter(&entry.write)?;
-    }
-    Ok(standing)
 }

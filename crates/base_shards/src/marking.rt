@@ -34,6 +34,7 @@ fn mark_entry(index: &mut UpdaterIndex, number: u8, entry: &Entry) -> Result<(),
         Write::Put(key, _) => mark_key(index, number, key),
         Write::Remove(key) => mark_key(index, number, key),
         Write::Declare(_) => Ok(()),
+        Write::Drop(_) => Ok(()),
     }
 }
 

@@ -2,11 +2,11 @@
 use Rattle.std.specs.Prelude.{◌≡◌, ℕ, ◌-◌, ◌≤◌, List, [], ◌∷◌, ◌++◌, length, take, slice_get, slice_set, true, false, Option, Some, None, is_some}
 use Rattle.semantics.specs.Texts.{Range}
 use Rattle.semantics.specs.Joins.{Join}
-use Rattle.semantics.specs.Histories.{declare, Entry, History, joins_of}
+use Rattle.semantics.specs.Histories.{declare, Entry, History, DeclaredJoin, joins_of}
 use Rattle.key_ranges.specs.Ranges.{meets}
 use Rattle.key_ranges.specs.Containing.{bind_range}
-use Rattle.growing_history.specs.Entered.{HasRank}
 use Rattle.layering.specs.Parts.{IsWithin}
+use Rattle.layering.specs.Reached.{StandsWithRank}
 use Rattle.kept_ranges.specs.Sound.{KeptRange, IsSound}
 use Rattle.range_state.specs.Ready.{IsReady, StandsAt}
 use Rattle.range_serving.specs.Serving.{IsPast, StandsFrom}
@@ -58,13 +58,26 @@ pub record IsDeclared (h : History) (at : ℕ) (j : Join) : Type 0 where
 -- the join that was declared at a position stands after the first p entries, with this rank
 pub record StandsAs (h : History) (p at rank : ℕ) (j : Join) : Type 0 where
   pub declared : IsDeclared h at j
-  pub ranked : HasRank (joins_of (take p h)) j rank
+  pub stands : StandsWithRank (joins_of (take p h)) rank (record { position = at; join = j })
 
 -- so does a join whose output a range reaches
 pub record IsReached (h : History) (p at rank : ℕ) (range : Range) : Type 0 where
   pub join : Join
   pub stands : StandsAs h p at rank join
   pub reaches : is_some (bind_range join.output range) ≡ true
+
+-- no join that was declared at a position stands among joins
+abbrev pub StandsNot : List DeclaredJoin → ℕ → Type 0
+StandsNot joins at = (place : ℕ) (s : DeclaredJoin) → slice_get joins place ≡ Some s → s.position ≡ at → ⊥
+
+-- the join that was declared at a position stands among joins with a rank, or it does not stand
+abbrev pub IsRankIn : List DeclaredJoin → ℕ → Option ℕ → Type 0
+IsRankIn joins at None = StandsNot joins at
+IsRankIn joins at (Some rank) = (j : Join) × StandsWithRank joins rank (record { position = at; join = j })
+
+-- the join that was declared at a position stands after the first p entries with a rank, or it does not: it is declared later, or is dropped by then
+abbrev pub IsRankAt : History → ℕ → ℕ → Option ℕ → Type 0
+IsRankAt h p at rank = IsRankIn (joins_of (take p h)) at rank
 
 -- ---- what slots hold
 

@@ -30,7 +30,7 @@ fn removal_of(rt: &impl Abort, alloc: Global, key: &str) -> Write {
 fn number_of<'a>(rt: &impl Abort, write: &'a Write) -> &'a str {
     match write {
         Write::Put(_, value) => value.text(),
-        Write::Remove(_) | Write::Declare(_) => panic!(rt; "no put"),
+        Write::Remove(_) | Write::Declare(_) | Write::Drop(_) => panic!(rt; "no put"),
     }
 }
 
@@ -271,7 +271,7 @@ fn offered<R: Wait + Abort>(
     (pass, last)
 }
 
-/// A join is declared in the midst of the puts of two threads.
+/// A join is declared before the puts of two threads, and another behind them; no join stands at the position of a put.
 fn declared_between<R: Threads + Wait + Abort + Sync>(
     rt: &R,
     alloc: Global,
@@ -288,10 +288,12 @@ fn declared_between<R: Threads + Wait + Abort + Sync>(
         move || offered(rt, alloc, history, first, 50),
         move || offered(rt, alloc, history, second, 50),
     );
-    let late = history.append(rt, &mut second, Write::Declare(copy_of(rt, alloc, "c")?));
+    let later = history.append(rt, &mut second, Write::Declare(copy_of(rt, alloc, "c")?));
+    assert!(rt; matches!(&later, Ok(102)), "{later:?}");
+    let dropped = history.append(rt, &mut second, Write::Drop(2));
     assert!(rt;
-        matches!(&late, Err(AppendFault::Refused(101, Cause::Late))),
-        "{late:?}"
+        matches!(&dropped, Err(AppendFault::Refused(102, Cause::NoJoin))),
+        "{dropped:?}"
     );
     history.meet(rt, &mut first, &mut second);
     let last = one.max(other);

@@ -47,6 +47,15 @@ s|ann|bob
 p|bob|130=No
 s|ann|bob=1";
 
+const DROPPED: &str = "s|ann|bob=1
+s|<a>|<b> = copy r|<a>|<b>
+r|ann|cat=1
+t|<user>|<time>|<poster> = check s|<user>|<poster> copy p|<poster>|<time>
+p|bob|100=Hi
+p|cat|110=Ha
+drop 2
+p|bob|120=Ho";
+
 const FEED: &str = "f|<user>|<post> = check m|<user>|<group> check g|<group>|<post> copy p|<post>
 m|ann|a=1
 m|ann|b=1
@@ -113,7 +122,14 @@ struct Row {
     wanted: &'static str,
 }
 
-const ROWS: [Row; 17] = [
+const ROWS: [Row; 18] = [
+    Row {
+        lines: DROPPED,
+        low: "t|ann|",
+        high: "t|ann}",
+        script: "fill 7, read, advance 8, mend, read",
+        wanted: " t|ann|100|bob=Hi; t|ann|100|bob=Hi t|ann|120|bob=Ho;",
+    },
     Row {
         lines: TIMELINE,
         low: "t|ann|",

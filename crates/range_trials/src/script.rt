@@ -55,8 +55,8 @@ pub fn call<L: Ledger>(
     steps: &mut Steps<L>,
     text: &mut String,
 ) -> Result<(), Fail>
-    requires { IsTried trial.old.reader.inner trial.old.declared trial.old.length trial.old.state }
-    ensures { IsTried trial.new.reader.inner trial.new.declared trial.new.length trial.new.state }
+    requires { IsTried trial.old.reader.inner trial.old.changed trial.old.length trial.old.state }
+    ensures { IsTried trial.new.reader.inner trial.new.changed trial.new.length trial.new.state }
 {
     let (name, number) = words.split_once(' ').unwrap_or((words, "0"));
     let p = number.parse::<u64>().expect(rt, "a position");

@@ -8,7 +8,7 @@ use crate::refusing::RefusingReader;
 use crate::telling::Told;
 use join_types::Pair;
 use key_space::Range;
-use layering::standing_laws::{last_is_changed, last_is_declared, same_joins_since};
+use layering::standing_laws::same_joins_since;
 use list_reader::ListReader;
 use out_of_memory::OutOfMemory;
 use range_state::RangeState;
@@ -25,8 +25,8 @@ pub struct Trial {
     pub state: RangeState,
     /// The reader.
     pub reader: RefusingReader,
-    /// Where the last join was declared.
-    pub declared: u64,
+    /// Where the last join was declared or dropped: from there on the same joins stand.
+    pub changed: u64,
     /// How many entries were told.
     pub length: u64,
 }
@@ -35,7 +35,7 @@ pub struct Trial {
 pub fn start(rt: &impl Abort, alloc: Global, told: Told, range: &Range) -> Result<Trial, Fail>
     requires entered { AllEntered told.entries.items }
     requires stands { StandsFor told.standing told.entries.items }
-    ensures { IfOk result (λ trial. IsTried trial.reader.inner trial.declared trial.length trial.state) }
+    ensures { IfOk result (λ trial. IsTried trial.reader.inner trial.changed trial.length trial.state) }
 {
     let Told { entries, standing } = told;
     let joins = standing.joins();
@@ -44,8 +44,6 @@ pub fn start(rt: &impl Abort, alloc: Global, told: Told, range: &Range) -> Resul
     }
     let last = joins.len() - 1;
     same_joins_since();
-    last_is_changed();
-    last_is_declared();
     let join = joins.join(last).copy(alloc)?;
     Ok(Trial {
         state: RangeState::new(alloc, join, joins.rank(last), range.copy()?),
@@ -54,7 +52,7 @@ pub fn start(rt: &impl Abort, alloc: Global, told: Told, range: &Range) -> Resul
             left: 0,
             counted: 0,
         },
-        declared: joins.at(last),
+        changed: joins.changed_at(),
         length: standing.length(),
     })
 }
@@ -67,10 +65,10 @@ impl Trial {
         p: u64,
         steps: &mut Steps<L>,
     ) -> Result<(), OutOfMemory>
-        requires { IsTried self.old.reader.inner self.old.declared self.old.length self.old.state }
-        ensures { IsTried self.new.reader.inner self.new.declared self.new.length self.new.state }
+        requires { IsTried self.old.reader.inner self.old.changed self.old.length self.old.state }
+        ensures { IsTried self.new.reader.inner self.new.changed self.new.length self.new.state }
     {
-        if p < self.declared || self.length < p {
+        if p < self.changed || self.length < p {
             panic!(rt; "the join does not stand there");
         }
         if self.state.position().is_some() {
@@ -86,10 +84,10 @@ impl Trial {
         p: u64,
         steps: &mut Steps<L>,
     ) -> Result<(), OutOfMemory>
-        requires { IsTried self.old.reader.inner self.old.declared self.old.length self.old.state }
-        ensures { IsTried self.new.reader.inner self.new.declared self.new.length self.new.state }
+        requires { IsTried self.old.reader.inner self.old.changed self.old.length self.old.state }
+        ensures { IsTried self.new.reader.inner self.new.changed self.new.length self.new.state }
     {
-        if p < self.declared || self.length < p {
+        if p < self.changed || self.length < p {
             panic!(rt; "the join does not stand there");
         }
         let Some(position) = self.state.position() else {
@@ -108,8 +106,8 @@ impl Trial {
         range: &Range,
         steps: &mut Steps<L>,
     ) -> Result<(), OutOfMemory>
-        requires { IsTried self.old.reader.inner self.old.declared self.old.length self.old.state }
-        ensures { IsTried self.new.reader.inner self.new.declared self.new.length self.new.state }
+        requires { IsTried self.old.reader.inner self.old.changed self.old.length self.old.state }
+        ensures { IsTried self.new.reader.inner self.new.changed self.new.length self.new.state }
     {
         if self.state.position().is_none() {
             panic!(rt; "nothing is kept");

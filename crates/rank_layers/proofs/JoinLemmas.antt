@@ -1,31 +1,29 @@
 -- What joins of one rank give in a range, and what reading it costs.
-use Rattle.std.proofs.Common.{◌≡◌, ℕ, zero, suc, ◌+◌, ◌-◌, ◌<◌, ◌≤◌, List, [], ◌∷◌, ◌++◌, flat_map, get_or, length, map, take, slice_get, drop, inl, inr, Ordering, Less, Equal, Greater, true, Contains, Some, Result, Ok, Err, IfOk, OnOk, refl, sym, ap, ◌∙◌, subst, arith, append_assoc}
-use Rattle.std.specs.List.{AllByRecursion}
-use Rattle.std.proofs.lemmas.List.{take_more, take-append-drop}
+use Rattle.std.proofs.Common.{◌≡◌, ℕ, zero, suc, ◌+◌, ◌-◌, ◌<◌, ◌≤◌, List, [], ◌∷◌, ◌++◌, flat_map, get_or, length, map, take, slice_get, Ordering, Less, Equal, Greater, true, Contains, Some, Result, Ok, Err, IfOk, OnOk, refl, sym, ap, ◌∙◌, subst, arith}
+use Rattle.std.proofs.lemmas.List.{take_more}
 use Rattle.std.proofs.lemmas.List.Sums.{fold-append}
 use Rattle.std.specs.FinMap.Entries.{by_order}
-use Rattle.std.proofs.lemmas.Option.{none-some, same_Some, slice_get_within, get_or_from_slice_get}
+use Rattle.std.proofs.lemmas.Option.{slice_get_within, get_or_from_slice_get}
 use Rattle.semantics.specs.Texts.{Text, text_cmp, Table, with_pair, Range, pairs_within}
 use Rattle.semantics.specs.Joins.{Join}
-use Rattle.semantics.specs.Histories.{Write, put, remove, declare, Entry, History, DeclaredJoin, joins_after, joins_from, joins_of}
+use Rattle.semantics.specs.Histories.{History, DeclaredJoin, joins_of}
 use Rattle.semantics.specs.Outputs.{out}
 use Rattle.semantics.specs.States.{below, merged}
 use Rattle.semantics.proofs.GatherLemmas.{ascending-out}
-use Rattle.semantics.proofs.MemberLemmas.{Has, contains_from_has}
-use Rattle.semantics.proofs.Members.{AllByRecursion-append}
+use Rattle.semantics.proofs.MemberLemmas.{contains_from_has}
 use Rattle.semantics.proofs.MergedLemmas.{ascending-pairs_within}
 use Rattle.key_ranges.specs.Ranges.{is_open}
-use Rattle.growing_history.proofs.ElementLemmas.{has_of_all}
 use Rattle.layering.specs.Merging.{Ascends}
 use Rattle.layering.specs.Reached.{reached, reaches, with_parts, part_of}
 use Rattle.layering.specs.Parts.{JoinTo}
 use Rattle.layering.proofs.PartLemmas.{parts_make_range}
 use Rattle.layering.proofs.ReachLemmas.{reached_stand}
 use Rattle.kept_ranges.specs.Sound.{KeptRange}
+use Rattle.kept_ranges.proofs.PathLemmas.{has_from_at}
 use Rattle.cell_slots.specs.declared.slot.Part.{Part}
-use Rattle.cell_slots.specs.Slots.{Holdings, IsReadySlot, IsDeclared, StandsAs}
+use Rattle.cell_slots.specs.Slots.{Holdings, IsReadySlot, StandsAs}
 use Rattle.cell_slots.specs.Spending.{KeepsJust, MayKeep, OneSpends, JoinsSpend}
-use Rattle.rank_layers.proofs.PartLemmas.{declared_over_longer}
+use Rattle.cell_slots.proofs.DeclaredLemmas.{stands_as}
 
 -- ---- parts of a range
 
@@ -63,52 +61,9 @@ one_spends items (Err e) h before after p range rank at j old new output ready h
 
 -- ---- the joins of a history by their positions
 
-after_write : (before es : History) (e : Entry) (joins : List DeclaredJoin) (w : Write) → e.write ≡ w → AllByRecursion (λ s. IsDeclared (before ++ e ∷ es) s.position s.join) joins →
-    AllByRecursion (λ s. IsDeclared (before ++ e ∷ es) s.position s.join) (joins_after (length before + 1) w joins)
-after_write before es e joins (put k v) is all = all
-after_write before es e joins (remove k) is all = all
-after_write before es e joins (declare j) is all =
-    AllByRecursion-append (λ s. IsDeclared (before ++ e ∷ es) s.position s.join) joins (record { position = length before + 1; join = j } ∷ []) all
-    (record { counted = omega arith; entry = e; stands = ap (slice_get (before ++ e ∷ es)) minus ∙ next_at before; declares = is }, tt)
-  where
-    minus : length before + 1 - 1 ≡ length before
-    minus = omega arith
-
-    next_at : (xs : History) → slice_get (xs ++ e ∷ es) (length xs) ≡ Some e
-    next_at [] = refl
-    next_at (x ∷ xs) = next_at xs
-
-declared_from : (before es h : History) (joins : List DeclaredJoin) → h ≡ before ++ es → AllByRecursion (λ s. IsDeclared h s.position s.join) joins → AllByRecursion (λ s. IsDeclared h s.position s.join) (joins_from (length before + 1) joins es)
-declared_from before [] h joins is all = all
-declared_from before (e ∷ es) h joins is all =
-    let step = after_write before es e joins e.write refl (subst (λ l. AllByRecursion (λ s. IsDeclared l s.position s.join) joins) is all) in
-    let longer : length (before ++ e ∷ []) + 1 ≡ length before + 1 + 1 = ap (λ n. n + 1) (length_one before) in
-    let rest = declared_from (before ++ e ∷ []) es h (joins_after (length before + 1) e.write joins) (is ∙ sym (append_assoc before (e ∷ []) es))
-    (subst (λ l. AllByRecursion (λ s. IsDeclared l s.position s.join) (joins_after (length before + 1) e.write joins)) (sym is) step) in
-    subst (λ n. AllByRecursion (λ s. IsDeclared h s.position s.join) (joins_from n (joins_after (length before + 1) e.write joins) es)) longer rest
-  where
-    length_one : (xs : History) → length (xs ++ e ∷ []) ≡ length xs + 1
-    length_one [] = refl
-    length_one (x ∷ xs) = let more = length_one xs in omega (arith, more)
-
--- each join that stands was declared at its position
-pub joins_declared : (h : History) → AllByRecursion (λ s. IsDeclared h s.position s.join) (joins_of h)
-joins_declared h = declared_from [] h h [] refl tt
-
 -- a join of a rank that a range reaches stands so
-pub reached_stands : (h : History) (p : ℕ) (range : Range) (rank : ℕ) (s : DeclaredJoin) → p ≤ length h → Contains (reached range rank (joins_of (take p h))) s → StandsAs h p s.position rank s.join
-reached_stands h p range rank s less has =
-    let stands = ((reached_stand (joins_of (take p h)) range rank s).0 has).0 in
-    let at = contains_at (joins_of (take p h)) stands.place s stands.stands in
-    record {
-      declared = declared_over_longer (take p h) h s.position s.join (drop p h, sym (take-append-drop p h)) (has_of_all (λ t. IsDeclared (take p h) t.position t.join) (joins_of (take p h)) s (joins_declared (take p h)) at);
-      ranked = record { place = stands.place; standing = s; stands = stands.stands; is = refl; ranked = stands.ranked };
-    }
-  where
-    contains_at : (xs : List DeclaredJoin) (i : ℕ) (x : DeclaredJoin) → slice_get xs i ≡ Some x → Has xs x
-    contains_at [] i x is = absurd (none-some x is)
-    contains_at (y ∷ ys) zero x is = inl (same_Some y x is)
-    contains_at (y ∷ ys) (suc i) x is = inr (contains_at ys i x is)
+pub reached_stands : (h : History) (p : ℕ) (range : Range) (rank : ℕ) (s : DeclaredJoin) → Contains (reached range rank (joins_of (take p h))) s → StandsAs h p s.position rank s.join
+reached_stands h p range rank s has = stands_as h p rank s ((reached_stand (joins_of (take p h)) range rank s).0 has).0
 
 -- ---- one join after another
 
@@ -189,18 +144,13 @@ listed_stands h p range rank ats i less is place =
     let w = join_at_place (reached range rank (joins_of (take p h))) ats i 0 is place in (
       w.0,
       w.1,
-      subst (λ at. StandsAs h p at rank w.0.join) (sym w.2) (reached_stands h p range rank w.0 less (contains_place (reached range rank (joins_of (take p h))) i w.0 w.1)),
+      subst (λ at. StandsAs h p at rank w.0.join) (sym w.2) (reached_stands h p range rank w.0 (contains_place (reached range rank (joins_of (take p h))) i w.0 w.1)),
       w.2,
       ((reached_stand (joins_of (take p h)) range rank w.0).0 (contains_place (reached range rank (joins_of (take p h))) i w.0 w.1)).1,
     )
   where
-    has_place : (xs : List DeclaredJoin) (k : ℕ) (x : DeclaredJoin) → slice_get xs k ≡ Some x → Has xs x
-    has_place [] k x at = absurd (none-some x at)
-    has_place (y ∷ ys) zero x at = inl (same_Some y x at)
-    has_place (y ∷ ys) (suc k) x at = inr (has_place ys k x at)
-
     contains_place : (xs : List DeclaredJoin) (k : ℕ) (x : DeclaredJoin) → slice_get xs k ≡ Some x → Contains xs x
-    contains_place xs k x at = contains_from_has xs x (has_place xs k x at)
+    contains_place xs k x at = contains_from_has xs x (has_from_at xs k x at)
 
 -- what reading one join costs, over a list with the same first entries
 pub one_spends_over : (h more : History) (before after : Holdings) (p : ℕ) (range : Range) (rank at other : ℕ) (j : Join) (added : ℕ) → take p more ≡ take p h → other ≡ at →

@@ -1,16 +1,15 @@
 -- One part of a range that is read from a cell.
-use Rattle.std.proofs.Common.{◌≡◌, ℕ, zero, suc, ◌+◌, ◌-◌, ◌<◌, ◌≤◌, List, [], ◌∷◌, ◌++◌, flat_map, get_or, length, take, slice_get, Some, None, sym, ap, ◌∙◌, subst, arith}
+use Rattle.std.proofs.Common.{◌≡◌, ℕ, ◌+◌, ◌-◌, ◌<◌, List, [], ◌∷◌, ◌++◌, flat_map, get_or, length, take, slice_get, Some, None, sym, ap, ◌∙◌, subst, arith}
 use Rattle.std.proofs.lemmas.List.{append-nil, take_more}
 use Rattle.std.proofs.lemmas.List.Concat.{flat_map-append}
-use Rattle.std.proofs.lemmas.Option.{none-some, same_Some}
 use Rattle.semantics.specs.Texts.{Range, pairs_within}
 use Rattle.semantics.specs.Joins.{Join}
-use Rattle.semantics.specs.Histories.{declare, Write, Entry, History, IsPrefix, joins_of}
+use Rattle.semantics.specs.Histories.{History, IsPrefix, joins_of}
 use Rattle.semantics.specs.Outputs.{out}
 use Rattle.semantics.specs.States.{below}
 use Rattle.key_ranges.proofs.OrderLemmas.{up_to_itself}
 use Rattle.growing_history.specs.Entered.{HasEntered, HasRank}
-use Rattle.growing_history.proofs.PrefixLemmas.{prefix_refl, take_prefix}
+use Rattle.growing_history.proofs.PrefixLemmas.{prefix_refl}
 use Rattle.layering.specs.Parts.{IsWithin}
 use Rattle.layering.proofs.PartLemmas.{part_of_range, within_is_kept}
 use Rattle.join_eval.specs.Moves.{Moves}
@@ -23,6 +22,7 @@ use Rattle.cell_slots.specs.declared.slot.Slot.TheVariants.{Lent, Held}
 use Rattle.cell_slots.specs.Slots.{Holdings, with_slot, Frame, HoldsWhole, IsDeclared, IsRightFor, StandsAs, Takes}
 use Rattle.cell_slots.specs.Spending.{KeepsJust}
 use Rattle.cell_slots.specs.FrameLaws.{frame_refl, frame_trans}
+use Rattle.cell_slots.proofs.DeclaredLemmas.{declared_over_longer, declared_once, rank_declared}
 use Rattle.rank_layers.proofs.FrameLemmas.{frame_weaker, frame_around, still_lent, given_back}
 
 -- ---- how a reader goes on
@@ -47,31 +47,6 @@ moves_by_frame list floor holds top a b same floors frame = record {
   same_floor = floors;
   on = frame;
 }
-
--- ---- joins by their positions
-
-get-append : {A : Type 0} (xs ys : List A) (i : ℕ) (x : A) → slice_get xs i ≡ Some x → slice_get (xs ++ ys) i ≡ Some x
-get-append [] ys i x is = absurd (none-some x is)
-get-append (y ∷ xs) ys zero x is = is
-get-append (y ∷ xs) ys (suc i) x is = get-append xs ys i x is
-
--- a join that was declared stays so in a longer history
-pub declared_over_longer : (h more : History) (at : ℕ) (j : Join) → IsPrefix h more → IsDeclared h at j → IsDeclared more at j
-declared_over_longer h more at j prefix d = record {
-  counted = d.counted;
-  entry = d.entry;
-  stands = ap (λ l. slice_get l (at - 1)) prefix.1 ∙ get-append h prefix.0 (at - 1) d.entry d.stands;
-  declares = d.declares;
-}
-
-declared_as : (w : Write) → (j k : Join) → w ≡ declare j → w ≡ declare k → j ≡ k
-declared_as w j k is also = cc
-
--- at a position one join is declared
-pub declared_once : (h : History) (at : ℕ) (j k : Join) → IsDeclared h at j → IsDeclared h at k → j ≡ k
-declared_once h at j k d e =
-    let same : d.entry ≡ e.entry = same_Some d.entry e.entry (sym d.stands ∙ e.stands) in
-    declared_as d.entry.write j k d.declares (ap (λ (x : Entry). x.write) same ∙ e.declares)
 
 -- ---- a kept range that is taken out of a slot, worked on and given back
 
@@ -112,6 +87,13 @@ output_of_part h more floor before lent id at rank p part state j takes same dec
     part_of_range part state.range (out state.join (below (take p more) state.rank)) (λ key. within_is_kept part state.range key takes.whole)
     ∙ (λ i. pairs_within part (out (declared_once h at state.join j takes.right.declared declared i) (below (take p (same i)) (takes.ranked i))))
 
+-- the kept range's join stands with its rank
+pub rank_of_part : (h more : History) (floor : ℕ) (before lent : Holdings) (id at rank p : ℕ) (part : Range) (state : KeptRange) (j : Join) → Takes h floor before lent id at rank p part state → more ≡ h → StandsAs h p at rank j →
+    HasRank (joins_of (take p more)) state.join state.rank
+rank_of_part h more floor before lent id at rank p part state j takes same stands =
+    subst (λ l. HasRank (joins_of (take p l)) state.join state.rank) (sym same)
+    (subst (HasRank (joins_of (take p h)) state.join) (sym takes.ranked) (rank_declared h p at rank j state.join stands takes.right.declared))
+
 -- a range lies within itself
 pub within_itself : (range : Range) → IsWithin range range
 within_itself range = record { begins = up_to_itself range.low; ends = up_to_itself range.high }
@@ -137,13 +119,6 @@ keeps_from h floor before lent mid after id at rank p part state s takes frame s
 }
 
 -- ---- over longer histories
-
--- a join stands so in a longer history too
-pub stands_over : (h more : History) (p at rank : ℕ) (j : Join) → p ≤ length h → IsPrefix h more → StandsAs h p at rank j → StandsAs more p at rank j
-stands_over h more p at rank j less prefix stands = record {
-  declared = declared_over_longer h more at j prefix stands.declared;
-  ranked = subst (λ l. HasRank (joins_of l) j rank) (sym (take_prefix p h more less prefix)) stands.ranked;
-}
 
 -- layers go on one after another
 pub moves_on : {S : Type 0} (list : S → History) (floor : S → ℕ) (holds : S → Holdings) (top : ℕ) (a b c : S) →

@@ -26,9 +26,9 @@ use Rattle.kept_ranges.specs.Sound.{KeptRange}
 use Rattle.range_serving.specs.Telling.{TellsOutput}
 use Rattle.cell_slots.specs.declared.slot.Part.{Part}
 use Rattle.cell_slots.specs.Slots.{Holdings, IsDeclared, Takes}
+use Rattle.cell_slots.proofs.DeclaredLemmas.{declared_once}
 use Rattle.rank_layers.specs.Telling.{ListsJoin, TellsJoin, ListsAdded, AddsChanges}
 use Rattle.rank_layers.proofs.KeyLemmas.{all_then, less_from_lt}
-use Rattle.rank_layers.proofs.PartLemmas.{declared_once}
 
 -- ---- lists
 

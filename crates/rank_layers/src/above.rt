@@ -65,10 +65,10 @@ pub fn pairs_above<R: Cells, L: Ledger>(
 /// top rank: what the reader says of the ranks below, and what the cells keep of the outputs of the joins of this rank that
 /// the range reaches.
 ///
-/// Where a join is declared between, they are the reader's keys if the range is bare throughout, and otherwise it is not
-/// known which. Nor is it where the reader does not know it of the ranks below, where no cell holds
-/// some part of the range for such a join or that cell cannot be lent, and where what the cell holds does not know it: it
-/// keeps nothing, its notes start later, or slots meet the part that are pending or were noted since.
+/// Where a join is declared or dropped between, they are the reader's keys if the range is bare throughout, and otherwise
+/// it is not known which. Nor is it where the reader does not know it of the ranks below, where no cell holds some part of
+/// the range for such a join or that cell cannot be lent, and where what the cell holds does not know it: it keeps nothing,
+/// its notes start later, or slots meet the part that are pending or were noted since.
 pub fn changed_above<R: Cells, L: Ledger>(
     alloc: Global,
     rank: u8,

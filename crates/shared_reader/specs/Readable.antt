@@ -1,14 +1,14 @@
 -- What is true of the lowest reader of a history that threads share.
-use Rattle.std.specs.Prelude.{◌≡◌, ℕ, ◌≤◌, List, length, take}
+use Rattle.std.specs.Prelude.{◌≡◌, ℕ, ◌≤◌, length, take}
 use Rattle.atomic_table.specs.Seated.{TableId}
-use Rattle.semantics.specs.Histories.{DeclaredJoin, joins_of}
+use Rattle.join_set.specs.Sets.{Joins, AreJoins}
 use Rattle.write_history.specs.Entries.{IsRecorded}
 use Rattle.write_history.specs.Passes.{PassView}
 
 -- a pass of the history with a name has seen so many entries and more, it may have seen what it has, and these are the joins after them
-pub record IsReadable (name history : TableId) (joins : List DeclaredJoin) (p : ℕ) (pass : PassView) : Type 0 where
+pub record IsReadable (name history : TableId) (joins : Joins) (p : ℕ) (pass : PassView) : Type 0 where
   pub this : history ≡ name
   pub same_history : pass.history ≡ name
   pub recorded : IsRecorded pass.writers pass.view
   pub within : p ≤ length pass.view
-  pub same_joins : joins ≡ joins_of (take p pass.view)
+  pub are_joins : AreJoins 0 joins (take p pass.view)

@@ -2,9 +2,11 @@
 ghost use Rattle.std.specs.Prelude.{◌≡◌, ◌≤◌, length, not, take, true, IfOk, refl};
 ghost use Rattle.std.proofs.Common.{rules};
 ghost use Rattle.semantics.specs.Texts.{is_range, pairs_where};
+ghost use Rattle.semantics.specs.Joins.{Join as PlainJoin};
 ghost use Rattle.semantics.specs.Histories.{is_computed, joins_of};
-ghost use Rattle.join_set.specs.Summaries.{StandsFor};
+ghost use Rattle.join_set.specs.Sets.{AreJoins};
 ghost use Rattle.join_eval.specs.Answers.{TellsBetween};
+ghost use Rattle.cell_slots.specs.Slots.{IsDeclared};
 ghost use Rattle.base_shards.specs.Reading.{ReadsOn};
 ghost use Rattle.base_shards.proofs.ReadingLemmas.{reads_on-refl, reads_on-trans};
 ghost use Rattle.shared_reader.specs.Readable.{IsReadable};
@@ -13,10 +15,10 @@ use crate::followed::Followed;
 use crate::noted::Noted;
 use crate::stacked::{Stacked, Use};
 use base_reader::hiding::hide_computed;
-use base_reader::reaching::{between, reached_in, standing_after};
+use base_reader::reaching::{between, join_of, reached_in};
 use base_shards::{BaseShards, Naming};
 use join_eval::{Between, Changed, Reader};
-use join_set::{JoinSet, Standing};
+use join_set::JoinSet;
 use join_types::{Join, Kind, Pair, Write};
 use key_space::Range;
 use out_of_memory::OutOfMemory;
@@ -29,8 +31,8 @@ use steps::Steps;
 use write_history::{History, Pass};
 
 /// Reads the base pairs that no output hides, from the parts that threads share, with a pass of its own. It is made to read
-/// after one number of entries, and is given the joins after these; at every other position it takes the declarations from
-/// the history one by one.
+/// after one number of entries, and is given the joins after these; for every other position it takes the joins from the
+/// history.
 #[derive(Drop)]
 pub struct SharedReader<'a, N: Naming, W> {
     alloc: Global,
@@ -92,15 +94,31 @@ impl<'a, N: Naming, W> SharedReader<'a, N, W> {
 }
 
 impl<'a, N: Naming, W: Wait> SharedReader<'a, N, W> {
-    /// What is kept of the first p entries: the joins that stand after them. It takes the history's turn, and is linear in
-    /// the entries; for each declaration it compares each join with each.
-    fn standing_at(&mut self, p: u64) -> Result<Standing, OutOfMemory>
+    /// The joins after the first p entries. It takes the history's turn, and is linear in the joins that were declared; each that
+    /// stands then is compared with each.
+    fn joins_at(&mut self, p: u64) -> Result<JoinSet, OutOfMemory>
         requires { p ≤ length self.old.view }
-        ensures standing { IfOk result (λ standing. StandsFor standing (take p self.old.view)) }
+        ensures joins { IfOk result (λ joins. AreJoins 0 joins (take p self.old.view)) }
         ensures same { self.new ≡ self.old }
     {
-        let entries = self.history.entries(self.rt, &mut self.pass, 0, p)?;
-        standing_after(self.alloc, &entries)
+        self.history.joins_at(self.rt, &mut self.pass, p)
+    }
+
+    /// A copy of the join that was declared at a position, out of the history's entries. It takes the history's turn, and is
+    /// linear in the join.
+    fn declared(&mut self, at: u64) -> Result<Join, OutOfMemory>
+        requires { (j : PlainJoin) × IsDeclared self.old.view at j }
+        ensures declared { IfOk result (IsDeclared self.old.view at) }
+        ensures same { self.new ≡ self.old }
+    {
+        let mut entries = self.history.entries(self.rt, &mut self.pass, at - 1, at)?;
+        match entries.pop() {
+            Some(entry) => match entry.write {
+                Write::Declare(join) => Ok(join),
+                _ => unreachable!(),
+            },
+            None => unreachable!(),
+        }
     }
 
     /// Follows under a cell's number the ranges that were noted since so many were, and adds them to those that it follows.
@@ -129,8 +147,8 @@ impl<'a, N: Naming, W: Wait> SharedReader<'a, N, W> {
         if p == self.p {
             return Ok(between(self.joins, q, range));
         }
-        let standing = self.standing_at(p)?;
-        Ok(between(standing.joins(), q, range))
+        let joins = self.joins_at(p)?;
+        Ok(between(&joins, q, range))
     }
 
     /// Those of the base pairs after the first p entries that no output hides.
@@ -142,8 +160,8 @@ impl<'a, N: Naming, W: Wait> SharedReader<'a, N, W> {
         if p == self.p {
             return hide_computed(self.alloc, self.joins, pairs);
         }
-        let standing = self.standing_at(p)?;
-        hide_computed(self.alloc, standing.joins(), pairs)
+        let joins = self.joins_at(p)?;
+        hide_computed(self.alloc, &joins, pairs)
     }
 }
 
@@ -225,8 +243,8 @@ impl<'a, N: Naming, W: Wait> Stacked<N> for SharedReader<'a, N, W> {
         if p == self.p {
             return reached_in(self.alloc, self.joins, rank, range);
         }
-        let standing = self.standing_at(p)?;
-        reached_in(self.alloc, standing.joins(), rank, range)
+        let joins = self.joins_at(p)?;
+        reached_in(self.alloc, &joins, rank, range)
     }
 
     fn between(&mut self, q: u64, p: u64, range: &Range) -> Result<Between, OutOfMemory> {
@@ -234,23 +252,17 @@ impl<'a, N: Naming, W: Wait> Stacked<N> for SharedReader<'a, N, W> {
     }
 
     fn join_at(&mut self, at: u64) -> Result<Join, OutOfMemory> {
-        let mut entries = self.history.entries(self.rt, &mut self.pass, at - 1, at)?;
-        match entries.pop() {
-            Some(entry) => match entry.write {
-                Write::Declare(join) => Ok(join),
-                _ => unreachable!(),
-            },
-            None => unreachable!(),
+        match join_of(self.joins, at) {
+            Some(join) => join.copy(self.alloc),
+            None => self.declared(at),
         }
     }
 
     fn is_kept(&self, at: u64) -> bool {
-        for i in 0..self.joins.len() {
-            if self.joins.at(i) == at {
-                return self.joins.join(i).kind == Kind::Push;
-            }
+        match join_of(self.joins, at) {
+            Some(join) => join.kind == Kind::Push,
+            None => false,
         }
-        false
     }
 
     fn note_use(&mut self, used: Use) {

@@ -69,9 +69,9 @@ fn gather_answers<R: Reader, L: Ledger>(
 
 /// Asks the reader for what changed in the range of each need from q to p: the keys of all answers, ascending, each once,
 /// or none where some answer is that it is not known. That comes only where the range of some need is not bare at some
-/// position from q to p, and either a join is declared between, or the range meets the output of a join below the rank. At a
-/// key of a need's range that is not among the keys the same stands at all positions from q to p. Where the ranges of all
-/// needs are bare from q to p, the keys are those in them that the entries between put or remove.
+/// position from q to p, and either a join is declared or dropped between, or the range meets the output of a join below the
+/// rank. At a key of a need's range that is not among the keys the same stands at all positions from q to p. Where the ranges
+/// of all needs are bare from q to p, the keys are those in them that the entries between put or remove.
 ///
 /// It asks once for each need, and sorts what is answered. The steps are those of the reader: where the ranges are bare,
 /// one for each need and one for each changed key of its range.

@@ -5,4 +5,4 @@ use Rattle.base_reader.proofs.hiding.hide_computed.Given as goal
 
 -- the pairs so far that no output hides are left
 abbrev pub invariant-loop-pair : goal.invariant-loop-pair
-invariant-loop-pair l = l.left.items ≡ pairs_where (λ key. not (is_computed l.joins key)) l.yielded
+invariant-loop-pair l = l.left.items ≡ pairs_where (λ key. not (is_computed l.joins.standing key)) l.yielded

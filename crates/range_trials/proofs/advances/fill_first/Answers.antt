@@ -15,6 +15,7 @@ use Rattle.growing_history.proofs.EnteredLemmas.{rank_of_place, has_entered_take
 use Rattle.growing_history.proofs.KeyLemmas.{has_keys_below}
 use Rattle.range_evaluation.specs.Trees.{Need, tree}
 use Rattle.range_evaluation.specs.TreeLaws.{AreOutputSlots, SharedAreOutputSlots}
+use Rattle.join_set.specs.Sets.{Joins}
 use Rattle.kept_ranges.specs.Kept.{Kept, CameBy}
 use Rattle.kept_ranges.proofs.FillLemmas.{filled_is_right}
 use Rattle.source_changes.specs.Filling.{CanFill}
@@ -51,8 +52,8 @@ returns g c =
     let range = c.args.range.now in
     let entries = c.args.told.entries.items in
     let all : take p h ≡ entries = ap (take p) c.new-reader.ensures.list ∙ take_all p entries (omega (arith, c.length-position.ensures.length, c.requires.stands.same_length)) in
-    let stands = subst (λ (joins : List DeclaredJoin). HasRank joins j rank) (c.joins-joins.ensures.joins ∙ c.requires.stands.same_joins ∙ ap joins_of (sym all))
-    (rank_of_place c.joins-joins.result.now j 0 rank _ refl c.join-join.ensures c.rank-rank.ensures.exact) in
+    let stands = subst (λ (joins : List DeclaredJoin). HasRank joins j rank) (ap (λ (js : Joins). js.standing) c.joins-joins.ensures.joins ∙ c.requires.stands.joins.standing ∙ ap joins_of (sym all))
+    (rank_of_place c.joins-joins.result.now.standing j 0 rank _ refl c.join-join.ensures c.rank-rank.ensures.exact) in
     let binds = ap (λ (k : Join). bind_range k.output range) (sym c.join.view_is) ∙ sym c.bind_range.ensures.binds ∙ c.in-Some.is in
     let fills = tree_can_fill c.need_can_fill.ensures (take p h) j rank range c.in-Some.slots (has_entered_taken p h c.new-reader.ensures.entered) stands (ap is_join (sym c.join.view_is) ∙ c.join.invariant) c.lo-low.ensures.is_range binds in
     subst (λ (k : Join). AllByRecursion (CanFill k) c.in_ok-rows.rows.needs) (sym c.in_ok-join.ensures) (subst (AllByRecursion (CanFill j)) (sym c.in_ok-rows.ensures.needs) fills)

@@ -1,10 +1,13 @@
-use Rattle.std.proofs.Common.{◌-◌, Some, sym, ap, ◌∙◌}
-use Rattle.range_trials.proofs.TriedLemmas.{sized, tried_start}
+use Rattle.std.proofs.Common.{◌≡◌, ◌-◌, ℕ, Some, sym, ap, ◌∙◌, subst}
+use Rattle.join_set.specs.Sets.{Joins, AreJoins}
+use Rattle.range_trials.specs.Tried.{IsTried}
+use Rattle.range_trials.proofs.TriedLemmas.{tried_start}
 use Rattle.range_trials.proofs.trial.start.Goals as goal
 
 pub returns : goal.returns
 returns g c =
-    tried_start c.same_joins_since.ensures c.last_is_changed.ensures c.last_is_declared.ensures c.args.told.entries.items c.new-2.result c.joins-joins.result.now c.in_ok-join.join (c.len-last.result - 1) c.rank.result c.at.result c.length.result _ c.new.result
-    c.new-2.ensures.list c.new-2.ensures.entered (c.joins-joins.ensures.joins ∙ c.requires.stands.same_joins)
-    (c.length.ensures.length ∙ c.requires.stands.same_length) (let e = c.len-last.ensures.len in let f = c.is_empty.ensures in sized _ _ (sym e) (sym f ∙ c.if-is_empty.false))
-    (c.join.ensures ∙ ap (λ j. Some j) (sym c.in_ok-join.ensures)) c.rank.ensures.exact c.rank.ensures.shallow c.at.ensures c.new.ensures
+    let are = subst (λ (js : Joins). AreJoins 0 js c.args.told.entries.items) (sym c.joins-joins.ensures.joins) c.requires.stands.joins in
+    subst (λ (from : ℕ). IsTried c.new-2.result from c.length.result c.new.result) (sym c.changed_at.ensures.changed)
+    (tried_start c.same_joins_since.ensures c.args.told.entries.items c.new-2.result c.joins-joins.result.now c.in_ok-join.join (c.len-last.result - 1) c.rank.result c.length.result _ c.new.result
+    c.new-2.ensures.list c.new-2.ensures.entered are (c.length.ensures.length ∙ c.requires.stands.same_length)
+    (c.join.ensures ∙ ap (λ j. Some j) (sym c.in_ok-join.ensures)) c.rank.ensures.exact c.rank.ensures.shallow c.new.ensures)

@@ -6,7 +6,8 @@ use Rattle.key_ranges.specs.Ranges.{is_open}
 use Rattle.growing_history.proofs.PrefixLemmas.{take_prefix}
 use Rattle.join_eval.specs.declared.between.Between.TheVariants.{Steady, Other}
 use Rattle.join_eval.specs.Answers.{AnswersChanges, TellsBetween}
-use Rattle.join_eval.proofs.BareLemmas.{bare_over, between_over}
+use Rattle.growing_history.proofs.BareLemmas.{bare_over}
+use Rattle.join_eval.proofs.BetweenLemmas.{between_over}
 use Rattle.layering.specs.Reached.{reached}
 use Rattle.rank_layers.proofs.PartLemmas.{moves_from_call, moves_on}
 use Rattle.rank_layers.proofs.TellingLemmas.{adds_over}

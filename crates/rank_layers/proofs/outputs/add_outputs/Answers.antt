@@ -7,7 +7,8 @@ use Rattle.semantics.proofs.MergedLemmas.{ascending-merged}
 use Rattle.growing_history.proofs.PrefixLemmas.{take_prefix}
 use Rattle.layering.specs.Merging.{Ascends}
 use Rattle.layering.specs.Reached.{reached}
-use Rattle.rank_layers.proofs.PartLemmas.{moves_on, stands_over}
+use Rattle.cell_slots.proofs.DeclaredLemmas.{stands_over}
+use Rattle.rank_layers.proofs.PartLemmas.{moves_on}
 use Rattle.rank_layers.proofs.JoinLemmas.{part_ascends, listed_stands, with_parts_more, joins_spend_more, one_spends_over, merged_fewer}
 use Rattle.rank_layers.proofs.outputs.add_outputs.Goals as goal
 

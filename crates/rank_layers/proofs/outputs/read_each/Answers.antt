@@ -4,7 +4,8 @@ use Rattle.growing_history.proofs.PrefixLemmas.{prefix_length, take_prefix}
 use Rattle.semantics.specs.Texts.{pairs_within}
 use Rattle.semantics.specs.Outputs.{out}
 use Rattle.semantics.specs.States.{below}
-use Rattle.rank_layers.proofs.PartLemmas.{stands_over, moves_on, moves_not, flat_map_more}
+use Rattle.cell_slots.proofs.DeclaredLemmas.{stands_over}
+use Rattle.rank_layers.proofs.PartLemmas.{moves_on, moves_not, flat_map_more}
 use Rattle.rank_layers.proofs.outputs.read_each.Goals as goal
 
 pub loop-part-init : goal.loop-part-init

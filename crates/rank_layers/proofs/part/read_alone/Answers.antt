@@ -1,5 +1,10 @@
+use Rattle.cell_slots.proofs.DeclaredLemmas.{rank_declared}
 use Rattle.rank_layers.proofs.PartLemmas.{moves_below}
 use Rattle.rank_layers.proofs.part.read_alone.Goals as goal
+
+pub serve_alone-requires-clause-stands : goal.serve_alone-requires-clause-stands
+serve_alone-requires-clause-stands g c =
+    rank_declared (g.R.Reader.list c.args.reader.now) c.args.asked.p c.args.asked.at c.args.asked.rank c.requires.stands.0 c.in_ok-join.join c.requires.stands.1 c.in_ok-join.ensures
 
 pub returns-clause-moves : goal.returns-clause-moves
 returns-clause-moves g c =

@@ -4,7 +4,7 @@ use Rattle.semantics.specs.Histories.{IsPrefix}
 use Rattle.range_state.specs.Held.{forgotten}
 use Rattle.range_state.specs.Ready.{IsReady}
 use Rattle.cell_slots.specs.Slots.{Frame}
-use Rattle.rank_layers.proofs.PartLemmas.{moves_part, right_after, place_lent, output_of_part, within_itself, whole_from, keeps_from}
+use Rattle.rank_layers.proofs.PartLemmas.{moves_part, right_after, place_lent, output_of_part, within_itself, whole_from, keeps_from, rank_of_part}
 use Rattle.rank_layers.proofs.part.read_part.Goals as goal
 
 pub returns-in_default-2-clause-held : goal.returns-in_default-2-clause-held
@@ -12,6 +12,12 @@ returns-in_default-2-clause-held g c = λ id j cell held.
     let same : c.in-Some.id ≡ id = same_Some c.in-Some.id id (sym c.in-Some.is ∙ cell) in
     let found = c.in_ok-state.ensures.held (forgotten j c.args.asked.rank c.args.part.now.range) (ap (slice_get (g.R.Cells.holdings c.args.reader.now).slots) same ∙ held) refl (λ past. past) (within_itself c.args.part.now.range) in
     absurd (none-some (forgotten j c.args.asked.rank c.args.part.now.range) (sym c.in_default-2.is ∙ found))
+
+pub serve-served-requires-clause-stands : goal.serve-served-requires-clause-stands
+serve-served-requires-clause-stands g c =
+    let takes = MatchOption-at_some _ _ c.in-Some-2.state c.in-Some-2.is c.in_ok-state.ensures.taken in
+    rank_of_part (g.R.Reader.list c.args.reader.now) (g.R.Reader.list c.lend.new.self) (g.R.Reader.floor c.args.reader.now) (g.R.Cells.holdings c.args.reader.now) (g.R.Cells.holdings c.lend.new.self)
+    c.in-Some.id c.args.asked.at c.args.asked.rank c.args.asked.p c.args.part.now.range c.in-Some-2.state c.requires.stands.0 takes c.in_ok-state.ensures.list c.requires.stands.1
 
 pub give_back-requires-clause-lent : goal.give_back-requires-clause-lent
 give_back-requires-clause-lent g c =

@@ -3,7 +3,8 @@ use Rattle.semantics.specs.Histories.{joins_of}
 use Rattle.growing_history.proofs.PrefixLemmas.{prefix_length}
 use Rattle.layering.specs.Reached.{reached}
 use Rattle.rank_layers.specs.Telling.{TellsJoin}
-use Rattle.rank_layers.proofs.PartLemmas.{stands_over, moves_on, moves_not}
+use Rattle.cell_slots.proofs.DeclaredLemmas.{stands_over}
+use Rattle.rank_layers.proofs.PartLemmas.{moves_on, moves_not}
 use Rattle.rank_layers.proofs.JoinLemmas.{listed_stands}
 use Rattle.rank_layers.proofs.TellingLemmas.{added_none, added_more, added_all, lists_over}
 use Rattle.rank_layers.proofs.telling.add_changes.Goals as goal

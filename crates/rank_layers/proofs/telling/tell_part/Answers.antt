@@ -9,13 +9,19 @@ use Rattle.cell_slots.specs.declared.slot.Slot.{Slot}
 use Rattle.cell_slots.specs.declared.slot.Slot.TheVariants.{Lent, Held}
 use Rattle.cell_slots.specs.Slots.{Frame}
 use Rattle.rank_layers.proofs.FrameLemmas.{given_back}
-use Rattle.rank_layers.proofs.PartLemmas.{moves_part, right_after, place_lent}
+use Rattle.rank_layers.proofs.PartLemmas.{moves_part, right_after, place_lent, rank_of_part}
 use Rattle.rank_layers.proofs.TellingLemmas.{told_of_part}
 use Rattle.rank_layers.proofs.telling.tell_part.Goals as goal
 
 -- a slot holds one kept range
 held_once : (at : ℕ) (s t : KeptRange) → ◌≡◌ {A = Option Slot} (Some (Held at s)) (Some (Held at t)) → s ≡ t
 held_once at s t e = cc
+
+pub tell-told-requires-clause-stands : goal.tell-told-requires-clause-stands
+tell-told-requires-clause-stands g c =
+    let takes = MatchOption-at_some _ _ c.in-Some-2.state c.in-Some-2.is c.in_ok-state.ensures.taken in
+    rank_of_part (g.R.Reader.list c.args.reader.now) (g.R.Reader.list c.lend.new.self) (g.R.Reader.floor c.args.reader.now) (g.R.Cells.holdings c.args.reader.now) (g.R.Cells.holdings c.lend.new.self)
+    c.in-Some.id c.args.asked.at c.args.asked.rank c.args.asked.p c.args.part.now.range c.in-Some-2.state c.requires.stands.0 takes c.in_ok-state.ensures.list c.requires.stands.1
 
 pub give_back-requires-clause-lent : goal.give_back-requires-clause-lent
 give_back-requires-clause-lent g c =

@@ -3,7 +3,8 @@ use Rattle.std.proofs.lemmas.List.{take_all}
 use Rattle.growing_history.proofs.PrefixLemmas.{prefix_length}
 use Rattle.layering.specs.Parts.{JoinTo}
 use Rattle.rank_layers.specs.Telling.{ListsJoin, TellsJoin}
-use Rattle.rank_layers.proofs.PartLemmas.{stands_over, moves_on, moves_not}
+use Rattle.cell_slots.proofs.DeclaredLemmas.{stands_over}
+use Rattle.rank_layers.proofs.PartLemmas.{moves_on, moves_not}
 use Rattle.rank_layers.proofs.TellingLemmas.{lists_none, lists_over, lists_more}
 use Rattle.rank_layers.proofs.telling.tell_parts.Goals as goal
 

@@ -1,16 +1,18 @@
-use Rattle.std.proofs.Common.{◌≡◌, ◌≤◌, take, sym, ap, ◌∙◌, subst}
-use Rattle.semantics.specs.Histories.{joins_of}
-use Rattle.semantics.specs.Verdicts.{AllEntered}
-use Rattle.growing_history.proofs.EnteredLemmas.{entered_taken}
-use Rattle.layering.specs.Standing.{last_declared}
-use Rattle.base_reader.proofs.ReachingLemmas.{none_later}
+use Rattle.std.proofs.Common.{◌≤◌, length, take, ap, ◌∙◌, subst, arith}
+use Rattle.semantics.specs.Histories.{changed_at}
+use Rattle.join_set.specs.Sets.{Joins, AreJoins}
+use Rattle.base_reader.proofs.LaterLemmas.{joins_before}
 use Rattle.base_reader.proofs.reader.BaseReader.earlier.Goals as goal
 
-pub returns-then-last_declared-p : goal.returns-then-last_declared-p
-returns-then-last_declared-p c =
-    let joins_are : c.joins.result.now ≡ joins_of c.args.self.now = c.joins.ensures.joins ∙ c.self.invariant.summary.same_joins ∙ ap joins_of c.self.view_is in
-    none_later c.args.self.now c.args.p (subst (λ n. n ≤ c.args.p) (c.last_declared.ensures ∙ ap last_declared joins_are) c.if-last_declared-p.true)
+pub returns-then-changed_at-p : goal.returns-then-changed_at-p
+returns-then-changed_at-p c = λ joins are.
+    let last = c.changed_at.ensures.changed ∙ ap (λ (js : Joins). js.changed) c.joins.ensures.joins ∙ c.self.invariant.summary.joins.changed ∙ ap changed_at c.self.view_is in
+    joins_before 0 c.args.p joins c.args.self.now (subst (λ n. n ≤ c.args.p) last c.if-changed_at-p.true) are
 
-pub standing_after-requires : goal.standing_after-requires
-standing_after-requires c =
-    subst (λ es. AllEntered (take c.args.p es)) (sym c.deref.ensures.value) (entered_taken c.args.p c.self.inside.entries.items c.self.invariant.entered.entered)
+pub joins_at-requires : goal.joins_at-requires
+joins_at-requires c =
+    let long = c.self.invariant.summary.same_length ∙ ap length c.self.view_is in
+    omega (arith, long, c.requires)
+
+pub returns : goal.returns
+returns c = subst (λ h. AreJoins 0 c.in_ok-earlier.earlier (take c.args.p h)) c.self.view_is (c.in_ok-earlier.ensures c.self.inside.entries.items c.self.invariant.summary)

@@ -5,7 +5,7 @@ use Rattle.growing_history.specs.Changes.{changed_keys}
 use Rattle.growing_history.proofs.PrefixLemmas.{take_prefix}
 use Rattle.join_eval.specs.declared.between.Between.TheVariants.{Steady, Bare, Other}
 use Rattle.join_eval.specs.Answers.{TellsBetween}
-use Rattle.join_eval.proofs.BareLemmas.{between_over}
+use Rattle.join_eval.proofs.BetweenLemmas.{between_over}
 use Rattle.write_history.specs.Passes.{PassView}
 use Rattle.base_shards.specs.Changed.{changed_in_all}
 use Rattle.base_shards.proofs.ChangedLemmas.{one_range_alone}

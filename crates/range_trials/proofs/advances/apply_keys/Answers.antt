@@ -5,7 +5,7 @@ use Rattle.growing_history.proofs.ElementLemmas.{all_from_has, has_of_all}
 use Rattle.range_evaluation.specs.Trees.{Need}
 use Rattle.join_rows.specs.Kept.{KeptRows}
 use Rattle.source_changes.specs.Filling.{CanFill}
-use Rattle.range_trials.proofs.advances.advanced.Goals as goal
+use Rattle.range_trials.proofs.advances.apply_keys.Goals as goal
 
 -- what holds of each need holds of those that are left
 all_left : (P : Need → Type 0) (test : Need → Bool) (needs : List Need) → AllByRecursion P needs → AllByRecursion P (filter test needs)
@@ -13,5 +13,5 @@ all_left P test needs all = all_from_has P (filter test needs) (λ need has. has
 
 pub applications-requires-clause-fills : goal.applications-requires-clause-fills
 applications-requires-clause-fills g c =
-    let left = c.needs-3.ensures ∙ ap (λ (r : KeptRows). r.needs) c.drop_needs_by_any.ensures in
-    subst (AllByRecursion (CanFill c.args.kept.join)) (sym left) (all_left (CanFill c.args.kept.join) _ c.args.kept.rows.needs c.requires.fills)
+    let left = c.needs.ensures ∙ ap (λ (r : KeptRows). r.needs) c.drop_needs_by_any.ensures in
+    subst (AllByRecursion (CanFill c.args.kept.now.join)) (sym left) (all_left (CanFill c.args.kept.now.join) _ c.args.kept.now.rows.needs c.requires.fills)

@@ -1,7 +1,0 @@
-use Rattle.std.proofs.Common.{take}
-use Rattle.join_set.specs.Summaries.{StandsFor}
-use Rattle.base_reader.proofs.reaching.standing_after.Given as goal
-
--- what is kept stands for the entries so far
-abbrev pub invariant-loop-entry : goal.invariant-loop-entry
-invariant-loop-entry l = StandsFor l.standing (take l.entry-index l.entries)

@@ -2,7 +2,7 @@
 ghost use Rattle.std.specs.Prelude.{◌≡◌, ◌≤◌, length};
 ghost use Rattle.pequod_cache.specs.Sitting.{AreOf, AreWriters};
 
-use crate::asking::{Ask, JOINS};
+use crate::asking::{Ask, FIRST_JOINS, position_told};
 use base_shards::Naming;
 use pequod_cache::{LoneClient, Seats};
 use plain_client::PlainClient;
@@ -39,14 +39,19 @@ fn expect_alike<S: Service + Drop, R: Abort>(
 ) -> Result<(), Fail> {
     let mut generator = Lcg64Xsh32::seed_from_u64(number);
     let mut plain = PlainClient::new(alloc);
-    for place in 0..JOINS.len() + COUNT {
-        let ask = if place < JOINS.len() {
+    let mut told = 0;
+    for place in 0..FIRST_JOINS + COUNT {
+        let ask = if place < FIRST_JOINS {
             Ask::declare(place)
         } else {
-            Ask::draw(&mut generator)
+            Ask::draw(&mut generator, told)
         };
         let reply = line_of(alloc, &ask.put_to(rt, alloc, &mut service))?;
-        let wanted = line_of(alloc, &ask.put_to(rt, alloc, &mut plain))?;
+        let wanted = ask.put_to(rt, alloc, &mut plain);
+        if ask.is_declaration() {
+            told = position_told(&wanted).unwrap_or(told);
+        }
+        let wanted = line_of(alloc, &wanted)?;
         let is_alike = reply.as_slice() == wanted.as_slice();
         assert!(rt; is_alike, "drawn from {number}, request {place}");
     }

@@ -2,6 +2,7 @@
 ghost use Rattle.std.specs.Prelude.{◌<◌, length};
 
 use join_lang::parse;
+use join_types::Cause;
 use key_space::{Key, Range, Value};
 use rand_core::utils::NextWord;
 use rand_pcg::Lcg64Xsh32;
@@ -10,8 +11,9 @@ use session::Service;
 use std::alloc::Global;
 use std::process::Abort;
 
-/// Joins of ranks 0 to 3, each above those that it reads. The output of `page` is never kept.
-pub const JOINS: [&str; 7] = [
+/// Joins of ranks 0 to 3, each above those that it reads, and then other versions of them, with which some have other ranks, or
+/// would read one another in a circle. The output of `page` is never kept.
+pub const JOINS: [&str; 10] = [
     "t|<user>|<time>|<poster> = check s|<user>|<poster> copy p|<poster>|<time>",
     "karma|<poster> = sum v|<poster>|<user>",
     "votes|<poster> = count v|<poster>|<user>",
@@ -19,7 +21,13 @@ pub const JOINS: [&str; 7] = [
     "top|<user>|<poster> = check s|<user>|<poster> copy karma|<poster>",
     "page|<user>|<poster> = pull check top|<user>|<poster> copy votes|<poster>",
     "wall|<user>|<time>|<poster>|<other> = check page|<user>|<other> copy t|<user>|<time>|<poster>",
+    "karma|<poster> = copy votes|<poster>",
+    "votes|<poster> = copy karma|<poster>",
+    "t|<user>|<time>|<poster> = check v|<poster>|<user> copy p|<poster>|<time>",
 ];
+
+/// How many of the joins are declared first.
+pub const FIRST_JOINS: usize = 7;
 
 /// The tables that are written, and those of the outputs.
 pub const TABLES: [&str; 10] = [
@@ -40,19 +48,28 @@ const PEOPLE: [Person; 3] = [Person::Ann, Person::Bob, Person::Cat];
 /// How many times posts have. They are the values of votes too.
 const TIMES: u32 = 4;
 
+/// Of so many requests one declares or drops a join.
+const REQUESTS_FOR_A_CHANGE: u32 = 32;
+
 /// A kind of request.
 #[derive(Clone, Copy)]
 enum Act {
     /// The join at a place of `JOINS`.
     Declare(usize),
+    /// The join that was declared at a position.
+    Drop(u64),
     Subscribe,
     Unsubscribe,
     Post,
     Retract,
     Vote,
     Unvote,
-    /// A put at a key that is computed.
+    /// A put at a key that is computed while the join of timelines stands.
     Intrude,
+    /// A remove of such a key.
+    Withdraw,
+    /// A put at a key of `karma`.
+    Claim,
     Karma,
     Best,
     Timeline,
@@ -65,9 +82,8 @@ enum Act {
     Whole(usize),
 }
 
-/// The kinds as they are drawn, each as often as it stands here.
-const DRAWN: [Act; 32] = [
-    Act::Declare(3),
+/// The kinds as they are drawn, each as often as it stands here, beside declarations and drops.
+const DRAWN: [Act; 33] = [
     Act::Subscribe,
     Act::Unsubscribe,
     Act::Post,
@@ -76,6 +92,8 @@ const DRAWN: [Act; 32] = [
     Act::Vote,
     Act::Unvote,
     Act::Intrude,
+    Act::Withdraw,
+    Act::Claim,
     Act::Karma,
     Act::Karma,
     Act::Best,
@@ -128,6 +146,23 @@ fn pick<T: Copy>(generator: &mut Lcg64Xsh32, choices: &[T]) -> T
     choices[generator.next_word() as usize % choices.len()]
 }
 
+/// A declaration of one of the joins, or one time of four a drop of the join at this position.
+fn draw_change(generator: &mut Lcg64Xsh32, position: u64) -> Act {
+    match generator.next_word() % 4 {
+        0 => Act::Drop(position),
+        _ => Act::Declare(generator.next_word() as usize % JOINS.len()),
+    }
+}
+
+/// The position of the join that stands by what a declaration was answered: its own, or that of the join whose output its
+/// output overlaps.
+pub fn position_told(reply: &Reply) -> Option<u64> {
+    match reply {
+        Reply::Done(position) | Reply::Refused(_, Cause::Clash(position)) => Some(*position),
+        _ => None,
+    }
+}
+
 /// A key of these segments.
 fn key<R: Abort>(rt: &R, alloc: Global, segments: &[&str]) -> Key {
     let text = segments.join(alloc, "|").expect(rt, "memory");
@@ -156,6 +191,11 @@ impl Ask {
         Ask::of(Act::Declare(place))
     }
 
+    /// Whether it declares a join.
+    pub fn is_declaration(&self) -> bool {
+        matches!(self.act, Act::Declare(_))
+    }
+
     /// A request for all of the table at a place of `TABLES`.
     pub fn whole(place: usize) -> Ask {
         Ask::of(Act::Whole(place))
@@ -171,10 +211,15 @@ impl Ask {
         }
     }
 
-    /// A request that is drawn.
-    pub fn draw(generator: &mut Lcg64Xsh32) -> Ask {
+    /// A request that is drawn. A drop is of the join at this position.
+    pub fn draw(generator: &mut Lcg64Xsh32, position: u64) -> Ask {
+        let act = if generator.next_word() % REQUESTS_FOR_A_CHANGE == 0 {
+            draw_change(generator, position)
+        } else {
+            pick(generator, &DRAWN)
+        };
         Ask {
-            act: pick(generator, &DRAWN),
+            act,
             user: pick(generator, &PEOPLE),
             poster: pick(generator, &PEOPLE),
             time: 1 + generator.next_word() % TIMES,
@@ -195,6 +240,7 @@ impl Ask {
                 let text = JOINS.get(place).expect(rt, "a join");
                 Request::Declare(parse(alloc, text).expect(rt, "a join"))
             }
+            Act::Drop(position) => Request::Drop(position),
             Act::Subscribe => put(&["s", user, poster], "1"),
             Act::Unsubscribe => Request::Remove(key(rt, alloc, &["s", user, poster])),
             Act::Post => put(&["p", poster, time], user),
@@ -202,6 +248,8 @@ impl Ask {
             Act::Vote => put(&["v", poster, user], time),
             Act::Unvote => Request::Remove(key(rt, alloc, &["v", poster, user])),
             Act::Intrude => put(&["t", user, time, poster], "no"),
+            Act::Withdraw => Request::Remove(key(rt, alloc, &["t", user, time, poster])),
+            Act::Claim => put(&["karma", poster], time),
             Act::Karma => Request::Get(key(rt, alloc, &["karma", poster])),
             Act::Best => Request::Get(key(rt, alloc, &["best", poster])),
             Act::Timeline => Request::Scan(behind(rt, alloc, &["t", user])),

@@ -44,13 +44,13 @@ pub fn expect_ascending<R: Abort>(rt: &R, answers: &[Answered]) {
 }
 
 /// What stands after a beginning of the history: who judges its writes, and the writes that its state follows from, which are
-/// those of the joins and the last put at each key where a pair stands. Reads are answered by a client that is made from these
-/// once one is asked after a write, and keeps nothing.
+/// the last put at each key where a pair stands, hidden or not, and the declarations of the joins that stand, with their
+/// positions. Reads are answered by a client that is made from these once one is asked after a write, and keeps nothing.
 #[derive(Drop)]
 pub struct Afresh {
     alloc: Global,
     plain: PlainClient,
-    joins: Vec<Ask>,
+    joins: Vec<(u64, Ask)>,
     puts: Vec<(Key, Ask)>,
     reader: Option<PlainClient>,
 }
@@ -70,8 +70,9 @@ impl Afresh {
     /// A client of a history with the writes that the state follows from, and no others.
     fn make_reader<R: Abort>(&self, rt: &R) -> PlainClient {
         let mut reader = PlainClient::new(self.alloc);
-        let puts = self.puts.iter().map(|(_, ask)| ask);
-        for ask in self.joins.iter().chain(puts) {
+        let joins = self.joins.iter().map(|(_, ask)| ask);
+        // The puts come first: while a join stands nothing is put under its output.
+        for ask in self.puts.iter().map(|(_, ask)| ask).chain(joins) {
             let reply = ask.put_to(rt, self.alloc, &mut reader);
             assert!(rt; matches!(reply, Reply::Done(_)));
         }
@@ -110,8 +111,13 @@ impl Afresh {
         }
     }
 
-    /// The state is the one after a write, which no cause refuses.
-    fn enter<R: Abort>(&mut self, rt: &R, ask: Ask) {
+    /// Takes out the join that was declared at a position.
+    fn take_out_join(&mut self, position: u64) {
+        self.joins.retain(|(declared, _)| *declared != position);
+    }
+
+    /// The state is the one after a write at a position, which no cause refuses.
+    fn enter<R: Abort>(&mut self, rt: &R, ask: Ask, position: u64) {
         self.reader = None;
         match ask.request(rt, self.alloc) {
             Request::Put(key, _) => {
@@ -119,7 +125,8 @@ impl Afresh {
                 assert!(rt; self.puts.push((key, ask)).is_ok(), "memory");
             }
             Request::Remove(key) => self.take_out(&key),
-            Request::Declare(_) => assert!(rt; self.joins.push(ask).is_ok(), "memory"),
+            Request::Declare(_) => assert!(rt; self.joins.push((position, ask)).is_ok(), "memory"),
+            Request::Drop(declared) => self.take_out_join(declared),
             _ => panic!(rt; "it is no write"),
         }
     }
@@ -133,7 +140,7 @@ impl Afresh {
         let is_right = found.as_slice() == wanted.as_slice();
         assert!(rt; is_right, "position {position}");
         if answered.has_entered() {
-            self.enter(rt, answered.ask);
+            self.enter(rt, answered.ask, position);
         }
     }
 

@@ -53,7 +53,7 @@ const OF_A_LOOK: [Row; 5] = [
 ];
 
 /// Writes that are refused, by a client that has not seen why.
-const OF_REFUSALS: [Row; 6] = [
+const OF_REFUSALS: [Row; 8] = [
     (
         0,
         r#"["join","t|<a> = copy p|<a>|<b>"]"#,
@@ -64,10 +64,35 @@ const OF_REFUSALS: [Row; 6] = [
     (0, r#"["put","p|x","1"]"#, r#"["ok",2]"#),
     (
         1,
-        r#"["join","u|<a> = copy q|<a>"]"#,
-        r#"["error","late",2]"#,
+        r#"["join","t|<b> = copy q|<b>"]"#,
+        r#"["error","clash",2,1]"#,
     ),
     (1, r#"["get","t|x"]"#, r#"["value",2,"1"]"#),
+    (0, r#"["drop",1]"#, r#"["ok",3]"#),
+    (1, r#"["drop",1]"#, r#"["error","nojoin",3]"#),
+];
+
+/// Joins that one client declares and the other drops, with pairs that they hide meanwhile.
+const OF_DROPS: [Row; 11] = [
+    (0, r#"["put","b|1","base"]"#, r#"["ok",1]"#),
+    (0, r#"["put","a|2","A"]"#, r#"["ok",2]"#),
+    (
+        1,
+        r#"["scan","b|","b}"]"#,
+        r#"["pairs",2,[["b|1","base"]]]"#,
+    ),
+    (0, r#"["join","b|<x> = copy a|<x>"]"#, r#"["ok",3]"#),
+    (1, r#"["scan","b|","b}"]"#, r#"["pairs",3,[["b|2","A"]]]"#),
+    (1, r#"["put","b|1","x"]"#, r#"["error","computed",3,3]"#),
+    (1, r#"["drop",3]"#, r#"["ok",4]"#),
+    (
+        0,
+        r#"["scan","b|","b}"]"#,
+        r#"["pairs",4,[["b|1","base"]]]"#,
+    ),
+    (0, r#"["join","b|<x> = count a|<x>"]"#, r#"["ok",5]"#),
+    (1, r#"["scan","b|","b}"]"#, r#"["pairs",5,[["b|2","1"]]]"#),
+    (0, r#"["drop",3]"#, r#"["error","nojoin",5]"#),
 ];
 
 /// The seats of so many clients, and of four cells.
@@ -144,6 +169,13 @@ fn writes_are_refused_after_what_others_wrote(rt: HostRuntime) -> Result<(), Fai
     let alloc = rt.alloc();
     let seats = make_seats(alloc, 2)?;
     run::<Brand, _>(&rt, alloc, &OpenGate, seats, &OF_REFUSALS)
+}
+
+#[test]
+fn joins_are_declared_and_dropped_after_puts(rt: HostRuntime) -> Result<(), Fail> {
+    let alloc = rt.alloc();
+    let seats = make_seats(alloc, 2)?;
+    run::<Brand, _>(&rt, alloc, &OpenGate, seats, &OF_DROPS)
 }
 
 /// How many keys a thread puts.

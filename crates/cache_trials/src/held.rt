@@ -3,6 +3,7 @@ ghost use Rattle.std.specs.Prelude.{◌≡◌, length};
 ghost use Rattle.pequod_cache.specs.Sitting.{AreOf, AreWriters};
 
 use crate::clients::{make_seats, put_at};
+use crate::course::{Course, Stage, begin, come_to, wait_for};
 use base_shards::Naming;
 use join_lang::parse;
 use key_space::Range;
@@ -12,48 +13,10 @@ use request_codec::Reply;
 use std::alloc::Global;
 use std::marker::Brand;
 use std::process::Abort;
-use std::sync::{Arc, Mutex, Wait};
+use std::sync::{Arc, Wait};
 use std::test::Fail;
 use std::thread;
 use std::thread::Threads;
-
-/// How often a thread looks for a stage before it gives up.
-const LOOKS: u32 = 10_000_000;
-
-/// How far the two have come.
-#[derive(Clone, Copy, Debug, PartialEq, Eq, PartialOrd, Ord)]
-enum Stage {
-    Begun,
-    /// The scan of the one is at the gate.
-    Held,
-    /// The other has its answers.
-    Passed,
-}
-
-/// How far they have come, and whether a thread gave up.
-#[derive(Clone, Copy)]
-struct Progress {
-    stage: Stage,
-    gave_up: bool,
-}
-
-/// What the threads tell one another of it.
-type Course = Arc<Mutex<Progress>>;
-
-/// Tells the other that a stage has come.
-fn come_to<R: Wait>(rt: &R, course: &Course, stage: Stage) {
-    course.lock(rt).stage = stage;
-}
-
-/// Goes on when the stage has come.
-fn wait_for<R: Wait>(rt: &R, course: &Course, stage: Stage) {
-    for _ in 0..LOOKS {
-        if course.lock(rt).stage >= stage {
-            return;
-        }
-    }
-    course.lock(rt).gave_up = true;
-}
 
 /// A gate that holds the ranges of the table `t` until the other client has its answers.
 #[derive(Drop)]
@@ -171,11 +134,7 @@ fn hold_and_pass<N: Naming + Send + Sync, G: Gate + Sync, R: Threads + Wait + Ab
 #[test]
 fn a_held_read_holds_no_other_client(rt: HostRuntime) -> Result<(), Fail> {
     let alloc: Global = rt.alloc();
-    let begun = Progress {
-        stage: Stage::Begun,
-        gave_up: false,
-    };
-    let course = Arc::new(alloc, Mutex::new(begun))?;
+    let course = begin(alloc)?;
     let gate = Holding {
         rt: &rt,
         course: Arc::try_clone(&course)?,

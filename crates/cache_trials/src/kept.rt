@@ -49,15 +49,19 @@ impl Gate for Counter {
 
 /// A history, its passes that may write, and those for the parts of the base pairs and for the cells.
 #[derive(Drop)]
-struct Seats {
-    history: History,
-    writers: Vec<Pass>,
-    shards: Vec<Pass>,
-    cells: Vec<Pass>,
+pub struct Seats {
+    /// The history.
+    pub history: History,
+    /// Passes that may write.
+    pub writers: Vec<Pass>,
+    /// One for each part of the base pairs.
+    pub shards: Vec<Pass>,
+    /// One for each cell.
+    pub cells: Vec<Pass>,
 }
 
 /// A history for so many writers and so many cells.
-fn make_seats(alloc: Global, writers: u32, cells: u32) -> Result<Seats, OutOfMemory>
+pub fn make_seats(alloc: Global, writers: u32, cells: u32) -> Result<Seats, OutOfMemory>
     requires some { 0 < writers }
     requires few { writers + cells ≤ 65536 }
     ensures writers { IfOk result (λ seats. All (λ p. MayAppend seats.history p) seats.writers.items) }
@@ -79,7 +83,7 @@ fn make_seats(alloc: Global, writers: u32, cells: u32) -> Result<Seats, OutOfMem
 }
 
 /// Takes out the last pass.
-fn pop_pass(rt: &impl Abort, history: &History, passes: &mut Vec<Pass>) -> Pass
+pub fn pop_pass(rt: &impl Abort, history: &History, passes: &mut Vec<Pass>) -> Pass
     requires { All (λ p. MayAppend history.now p) passes.old.items }
     ensures pass { MayAppend history.now result }
     ensures each { All (λ p. MayAppend history.now p) passes.new.items }
@@ -89,14 +93,16 @@ fn pop_pass(rt: &impl Abort, history: &History, passes: &mut Vec<Pass>) -> Pass
 
 /// A history, and what is kept of it.
 #[derive(Drop)]
-struct Kept<N: Naming> {
-    history: Arc<History>,
-    cells: RangeCells<N>,
+pub struct Kept<N: Naming> {
+    /// The history.
+    pub history: Arc<History>,
+    /// What is kept.
+    pub cells: RangeCells<N>,
     ghost named: { arc_value history ≡ N.history },
 }
 
 /// Nothing is kept yet, and this much may be.
-fn keep<N: Naming>(
+pub fn keep<N: Naming>(
     alloc: Global,
     history: Arc<History>,
     shards: Vec<Pass>,
@@ -118,10 +124,13 @@ fn keep<N: Naming>(
     Ok(Kept { history, cells })
 }
 
-/// The write that a text is: the text of a join, `key=value` for a put, or a key for a remove.
+/// The write that a text is: the text of a join, `drop` and a position, `key=value` for a put, or a key for a remove.
 fn read_write(rt: &impl Abort, alloc: Global, text: &str) -> Write {
     if text.contains(" = ") {
         return Write::Declare(parse(alloc, text).expect(rt, "a join"));
+    }
+    if let Some(position) = text.strip_prefix("drop ") {
+        return Write::Drop(position.parse::<u64>().expect(rt, "a position"));
     }
     match text.split_once('=') {
         None => Write::Remove(Key::read(alloc, text).expect(rt, "a key")),
@@ -133,7 +142,7 @@ fn read_write(rt: &impl Abort, alloc: Global, text: &str) -> Write {
 }
 
 /// Appends the write that a text is, and says at which position it entered.
-fn write<R: Wait + Abort>(
+pub fn write<R: Wait + Abort>(
     rt: &R,
     alloc: Global,
     history: &History,
@@ -165,13 +174,15 @@ fn standing_after(rt: &impl Abort, alloc: Global, entries: &[Entry]) -> Standing
 
 /// What a read found, and how many steps it took.
 #[derive(Drop)]
-struct Seen {
-    pairs: Vec<Pair>,
-    steps: u64,
+pub struct Seen {
+    /// The pairs.
+    pub pairs: Vec<Pair>,
+    /// The steps.
+    pub steps: u64,
 }
 
 /// The pairs of the range after the first p entries.
-fn read_at<N: Naming, G: Gate, L: Ledger, R: Wait + Abort>(
+pub fn read_at<N: Naming, G: Gate, L: Ledger, R: Wait + Abort>(
     rt: &R,
     alloc: Global,
     kept: &Kept<N>,

@@ -110,8 +110,9 @@ read 4 n| n}
 ",
 };
 
-/// Another join is declared whose output the first one reads, so that the rank of the first one rises. It is given another cell
-/// then: the one that it had stays, is not advanced or let go, and serves reads before the change, until it is evicted.
+/// Another join is declared whose output the first one reads, so that the rank of the first one rises. The next read lets go of
+/// the cell that it had and gives it another. A read before the change then gives it one for the earlier rank again, which the
+/// next read after the change lets go.
 const RAISED: Row = Row {
     cells: 4,
     limit: 100,
@@ -122,16 +123,95 @@ write c|1=A
 read 3 b| b}
 read 3 b| b}
 read 1 b| b}
-evict 3
+read 1 b| b}
 read 3 b| b}
 read 1 b| b}
 ",
     wanted: "1:
 2: b|1=A
 0: b|1=A
+1:
 0:
 0: b|1=A
 1:
+",
+};
+
+/// The same with one cell: that of the earlier rank is let go, so that the join has it for its rank.
+const RAISED_WITH_ONE_CELL: Row = Row {
+    cells: 1,
+    limit: 100,
+    lines: "write a|<x> = copy b|<x>
+read 1 a| a}
+write b|<x> = copy c|<x>
+write c|1=A
+read 3 a| a}
+read 3 a| a}
+",
+    wanted: "1:
+2: a|1=A
+0: a|1=A
+",
+};
+
+/// The join whose output another reads is dropped, so that the rank of the other falls; it reads what was put there.
+const FALLEN: Row = Row {
+    cells: 2,
+    limit: 100,
+    lines: "write m|<x> = copy k|<x>
+write a|<x> = copy m|<x>
+write k|1=A
+read 3 a| a}
+write drop 1
+write m|2=B
+read 5 a| a}
+read 5 a| a}
+",
+    wanted: "2: a|1=A
+1: a|2=B
+0: a|2=B
+",
+};
+
+/// A join is dropped, and the cell that it had is another join's. A read before the drop then finds none free.
+const DROPPED: Row = Row {
+    cells: 1,
+    limit: 100,
+    lines: "write b|<x> = copy a|<x>
+write a|1=A
+read 2 b| b}
+write drop 1
+write d|<x> = copy a|<x>
+read 4 d| d}
+read 4 d| d}
+read 2 b| b}
+read 4 d| d}
+",
+    wanted: "1: b|1=A
+1: d|1=A
+0: d|1=A
+1: b|1=A
+0: d|1=A
+",
+};
+
+/// The same text declared again is another join, with a cell of its own.
+const DECLARED_AGAIN: Row = Row {
+    cells: 4,
+    limit: 100,
+    lines: "write b|<x> = copy a|<x>
+write a|1=A
+read 2 b| b}
+write drop 1
+read 3 b| b}
+write b|<x> = copy a|<x>
+read 4 b| b}
+read 4 b| b}
+",
+    wanted: "1: b|1=A
+0:
+1: b|1=A
+0: b|1=A
 ",
 };
 
@@ -230,8 +310,7 @@ idle
 ",
 };
 
-/// A cell for a rank that its join has no more is left where it stands by the turn that finds it marked. A read after the
-/// change gives the join another cell, and the one that it had still serves a read before it.
+/// A turn lets go of a cell for a rank that its join has no more, also of one that is marked.
 const TURNED_RAISED: Row = Row {
     cells: 4,
     limit: 100,
@@ -240,16 +319,30 @@ read 1 b| b}
 write a|<x>|<y> = copy c|<x>|<y>
 write s|1=1
 turn cells
-turn cells
 write c|1|2=A
 read 4 b| b}
 read 1 b| b}
 ",
     wanted: "1:
-brought 3 to 1
 idle
 2: b|1|2=A
-0:
+1:
+",
+};
+
+/// The same of the cell of a join that was dropped.
+const TURNED_DROPPED: Row = Row {
+    cells: 4,
+    limit: 100,
+    lines: "write b|<x> = copy a|<x>
+write a|1=A
+read 2 b| b}
+write drop 1
+write a|2=B
+turn cells
+",
+    wanted: "1: b|1=A
+idle
 ",
 };
 
@@ -313,17 +406,22 @@ least 7 4 t|ann| t|ann}
 };
 
 /// All of them.
-pub const ROWS: [Row; 14] = [
+pub const ROWS: [Row; 19] = [
     KEPT,
     TOO_HEAVY,
     PULLED,
     EARLIER,
     ONE_OVER_ANOTHER,
     RAISED,
+    RAISED_WITH_ONE_CELL,
+    FALLEN,
+    DROPPED,
+    DECLARED_AGAIN,
     ONE_CELL,
     TURNED,
     TURNED_OVER_ANOTHER,
     TURNED_RAISED,
+    TURNED_DROPPED,
     KEPT_COST,
     TOO_HEAVY_COST,
     TURNED_COST,

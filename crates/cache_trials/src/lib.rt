@@ -2,7 +2,7 @@
 // again, seen by gates that count and by the steps of reads: tests alone, with nothing for other crates.
 //
 // A client that is alone, of a cache or of a core with many cells or few, is asked what is drawn, and answers each request byte
-// for byte as a client does that keeps nothing.
+// for byte as a client does that keeps nothing. Among what is drawn are declarations and drops of joins.
 //
 // Four clients ask what is drawn, each on a thread of its own, of a cache that has few cells and may keep few rows. Afterwards
 // they meet and read all tables. The writes that were acknowledged, each at its position, are the history; each reply has to be
@@ -18,6 +18,10 @@ mod asking;
 mod checking;
 #[cfg(test)]
 mod clients;
+#[cfg(test)]
+mod course;
+#[cfg(test)]
+mod flips;
 #[cfg(test)]
 mod held;
 #[cfg(test)]

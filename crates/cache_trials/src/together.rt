@@ -2,7 +2,7 @@
 ghost use Rattle.std.specs.Prelude.{◌≡◌, ◌≤◌, length};
 ghost use Rattle.pequod_cache.specs.Sitting.{AreOf, AreWriters};
 
-use crate::asking::{Ask, JOINS, TABLES};
+use crate::asking::{Ask, FIRST_JOINS, TABLES, position_told};
 use crate::checking::{Afresh, Answered, expect_ascending};
 use base_shards::Naming;
 use pequod_cache::{Cache, ClientService, Seats};
@@ -21,24 +21,28 @@ use std::thread::Threads;
 /// How many clients there are.
 const CLIENTS: u32 = 4;
 
-/// A client with what it asked and was answered.
+/// A client with what it asked and was answered, and the position of a join that its last declaration was told.
 #[derive(Drop)]
 struct Talk<S> {
     client: S,
     answers: Vec<Answered>,
+    told: u64,
 }
 
 impl<S: Service> Talk<S> {
     /// The client is asked this.
     fn ask<R: Abort>(&mut self, rt: &R, alloc: Global, ask: Ask) {
         let reply = ask.put_to(rt, alloc, &mut self.client);
+        if ask.is_declaration() {
+            self.told = position_told(&reply).unwrap_or(self.told);
+        }
         let noted = self.answers.push(Answered { ask, reply });
         assert!(rt; noted.is_ok(), "memory");
     }
 
     /// The client is asked to declare the joins.
     fn declare_joins<R: Abort>(&mut self, rt: &R, alloc: Global) {
-        for place in 0..JOINS.len() {
+        for place in 0..FIRST_JOINS {
             self.ask(rt, alloc, Ask::declare(place));
         }
     }
@@ -48,7 +52,8 @@ impl<S: Service> Talk<S> {
         let mut talk = self;
         let mut generator = Lcg64Xsh32::seed_from_u64(number);
         for _ in 0..count {
-            talk.ask(rt, alloc, Ask::draw(&mut generator));
+            let ask = Ask::draw(&mut generator, talk.told);
+            talk.ask(rt, alloc, ask);
         }
         talk
     }
@@ -93,6 +98,7 @@ fn begin<'a, 'g, N: Naming, R: Wait + Abort>(
         talks.push(Talk {
             client: ClientService { rt, client },
             answers: Vec::new(alloc),
+            told: 0,
         })?;
     }
     let first = talks.first_mut().expect(rt, "a client");

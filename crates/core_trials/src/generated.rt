@@ -26,6 +26,8 @@ impl Dice {
 struct Menu {
     /// The events that come first: each declares a join.
     joins: &'static str,
+    /// Joins that are declared later: some of the first again, and others.
+    others: [&'static str; 4],
     writes: [&'static str; 16],
     /// The bounds of ranges, with a space between the two of each.
     ranges: [&'static str; 4],
@@ -35,6 +37,12 @@ struct Menu {
 /// A timeline beside stored pairs of its table.
 const TIMELINE: Menu = Menu {
     joins: "write t|<u>|<n>|<w> = check s|<u>|<w> copy p|<w>|<n>\n",
+    others: [
+        "t|<u>|<n>|<w> = check s|<u>|<w> copy p|<w>|<n>",
+        "t|<u>|<n>|<w> = pull check s|<w>|<u> copy p|<w>|<n>",
+        "s|<u>|<w> = copy p|<u>|<w>",
+        "t|<u>|<n> = copy p|<u>|<n>",
+    ],
     writes: [
         "s|ann|bob=1",
         "s|ann|bob",
@@ -69,6 +77,12 @@ const TIMELINE: Menu = Menu {
 /// Four joins one above the other, three of them in one table, with stored pairs between.
 const CHAIN: Menu = Menu {
     joins: "write r|0|<x> = copy i|<x>\nwrite r|1|<x> = check k|<x> copy r|0|<x>\nwrite r|2|<x> = copy r|1|<x>\nwrite n|<x> = count r|2|<x>\n",
+    others: [
+        "r|1|<x> = check k|<x> copy r|0|<x>",
+        "r|0|<x> = copy r|2|<x>",
+        "i|<x> = copy j|<x>",
+        "r|2|<x> = copy j|<x>",
+    ],
     writes: [
         "i|a=A", "i|a=B", "i|a", "i|b=C", "i|b", "i|c=D", "k|a=1", "k|a", "k|b=1", "k|b", "k|c=1",
         "r|3|a=S", "r|3|a", "r|1|a=no", "r|1=T", "j|a=U",
@@ -80,6 +94,12 @@ const CHAIN: Menu = Menu {
 /// Votes, their counts, pages that read these, and a sum beside them.
 const KARMA: Menu = Menu {
     joins: "write karma|<a> = count vote|<a>|<id>|<voter>\nwrite page|<a>|<id>|k = check art|<a>|<id> copy karma|<a>\nwrite page|<a>|<id>|s = sum n|<a>|<id>|<i>\n",
+    others: [
+        "karma|<a> = count vote|<a>|<id>|<voter>",
+        "karma|<a> = sum n|<a>|<id>|<i>",
+        "page|<a>|<id>|k = check art|<a>|<id> copy karma|<a>",
+        "art|<a>|<id> = count n|<a>|<id>|<i>",
+    ],
     writes: [
         "art|bob|1=T",
         "art|bob|1",
@@ -116,6 +136,18 @@ const KARMA: Menu = Menu {
     ],
 };
 
+/// A join that is declared, or a drop: of one of the first joins, or of what may stand at a later position.
+fn roll_change(alloc: Global, menu: &Menu, dice: &mut Dice) -> Result<String, Fail> {
+    let later = 5 + 3 * (dice.roll() % 16) + dice.roll() % 3;
+    let roll = dice.roll() % 16;
+    let text = match roll / 4 {
+        0 => format!(in alloc; "write drop {}\n", 1 + roll)?,
+        1 => format!(in alloc; "write drop {later}\n")?,
+        _ => format!(in alloc; "write {}\n", menu.others[(roll % 4) as usize])?,
+    };
+    Ok(text)
+}
+
 /// One event, or the events of a whole scan.
 fn roll_event(alloc: Global, menu: &Menu, dice: &mut Dice) -> Result<String, Fail> {
     let number = dice.roll() % 3;
@@ -130,6 +162,7 @@ fn roll_event(alloc: Global, menu: &Menu, dice: &mut Dice) -> Result<String, Fai
         11 => format!(in alloc; "advance {number} {}\n", 4 + 3 * (dice.roll() % 16))?,
         12 => format!(in alloc; "mend {number} {range}\n")?,
         13 => format!(in alloc; "evict {number}\n")?,
+        14 => roll_change(alloc, menu, dice)?,
         _ => match range.split_once(' ') {
             None => String::new(alloc),
             Some((_, last)) => {

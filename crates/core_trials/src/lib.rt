@@ -11,6 +11,8 @@ mod abandoned;
 #[cfg(test)]
 mod generated;
 #[cfg(test)]
+mod letting_go;
+#[cfg(test)]
 mod limited;
 #[cfg(test)]
 mod plain;
@@ -20,3 +22,5 @@ mod script;
 mod showing;
 #[cfg(test)]
 mod worked;
+#[cfg(test)]
+mod worked_rows;

@@ -37,6 +37,7 @@ fn request_of(write: Write) -> Request {
         Write::Put(key, value) => Request::Put(key, value),
         Write::Remove(key) => Request::Remove(key),
         Write::Declare(join) => Request::Declare(join),
+        Write::Drop(position) => Request::Drop(position),
     }
 }
 

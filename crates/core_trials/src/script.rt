@@ -7,10 +7,13 @@ use std::alloc::Global;
 use std::process::Abort;
 use std::test::Fail;
 
-/// The write that a text is: the text of a join, `key=value` for a put, or a key for a remove.
+/// The write that a text is: the text of a join, `drop` and a position, `key=value` for a put, or a key for a remove.
 fn read_write(rt: &impl Abort, alloc: Global, text: &str) -> Write {
     if text.contains(" = ") {
         return Write::Declare(parse(alloc, text).expect(rt, "a join"));
+    }
+    if let Some(position) = text.strip_prefix("drop ") {
+        return Write::Drop(position.parse::<u64>().expect(rt, "a position"));
     }
     match text.split_once('=') {
         None => Write::Remove(Key::read(alloc, text).expect(rt, "a key")),

@@ -4,18 +4,18 @@ use Rattle.std.specs.Prelude.{slice_get}
 use Rattle.std.proofs.lemmas.List.{length-append}
 use Rattle.std.proofs.lemmas.Option.{same_Some}
 use Rattle.atomic_table.specs.Seated.{TableId}
-use Rattle.semantics.specs.Histories.{DeclaredJoin}
 use Rattle.semantics.proofs.EnteredLemmas.{AllEntered-nil}
 use Rattle.write_history.specs.Passes.{PassView, GoesOn, new_pass}
 use Rattle.write_history.specs.Entries.{IsRecorded}
 use Rattle.base_shards.specs.Reading.{ReadsOn}
 use Rattle.base_shards.proofs.ReadingLemmas.{reads_on-refl}
+use Rattle.join_set.specs.Sets.{Joins}
 use Rattle.pequod_cache.specs.Clients.{KeepsJoins, IsClient, IsUpdater}
 use Rattle.pequod_cache.specs.Sitting.{AreWriters, IsFresh}
 use Rattle.pequod_cache.proofs.JoinsLemmas.{keeps_longer}
 
 -- with a pass that has gone on
-pub client_goes_on : (history : TableId) (pass : Option PassView) (old new : PassView) (joins : List DeclaredJoin) → IsClient history pass joins → pass ≡ Some old → GoesOn old new → IsClient history (Some new) joins
+pub client_goes_on : (history : TableId) (pass : Option PassView) (old new : PassView) (joins : Joins) → IsClient history pass joins → pass ≡ Some old → GoesOn old new → IsClient history (Some new) joins
 client_goes_on history pass old new joins client is goes =
     let same : client.has ≡ old = same_Some client.has old (sym client.is ∙ is) in
     record {
@@ -28,7 +28,7 @@ client_goes_on history pass old new joins client is goes =
     }
 
 -- with a pass that looked and then read on, and with joins that were brought there
-pub client_reads_on : (history : TableId) (pass : Option PassView) (old looked new : PassView) (before joins : List DeclaredJoin) → IsClient history pass before → pass ≡ Some old →
+pub client_reads_on : (history : TableId) (pass : Option PassView) (old looked new : PassView) (before joins : Joins) → IsClient history pass before → pass ≡ Some old →
     GoesOn old looked → KeepsJoins joins looked.view → ReadsOn looked new → IsClient history (Some new) joins
 client_reads_on history pass old looked new before joins client is goes kept on =
     let then = client_goes_on history pass old looked before client is goes in
@@ -42,12 +42,12 @@ client_reads_on history pass old looked new before joins client is goes kept on 
     }
 
 -- with a pass that looked alone
-pub client_stays : (history : TableId) (pass : Option PassView) (old looked : PassView) (before joins : List DeclaredJoin) → IsClient history pass before → pass ≡ Some old →
+pub client_stays : (history : TableId) (pass : Option PassView) (old looked : PassView) (before joins : Joins) → IsClient history pass before → pass ≡ Some old →
     GoesOn old looked → KeepsJoins joins looked.view → IsClient history (Some looked) joins
 client_stays history pass old looked before joins client is goes kept = client_reads_on history pass old looked looked before joins client is goes kept (reads_on-refl looked)
 
 -- an updater with a pass that looked and then read on, and with joins that were brought there
-pub updater_reads_on : (history : TableId) (pass : Option PassView) (old looked new : PassView) (before joins : List DeclaredJoin) → IsUpdater history pass before → pass ≡ Some old →
+pub updater_reads_on : (history : TableId) (pass : Option PassView) (old looked new : PassView) (before joins : Joins) → IsUpdater history pass before → pass ≡ Some old →
     GoesOn old looked → KeepsJoins joins looked.view → ReadsOn looked new → IsUpdater history (Some new) joins
 updater_reads_on history pass old looked new before joins updater is goes kept on = record {
   has = new;
@@ -58,7 +58,7 @@ updater_reads_on history pass old looked new before joins updater is goes kept o
 }
 
 -- with a pass that looked alone
-pub updater_stays : (history : TableId) (pass : Option PassView) (old looked : PassView) (before joins : List DeclaredJoin) → IsUpdater history pass before → pass ≡ Some old →
+pub updater_stays : (history : TableId) (pass : Option PassView) (old looked : PassView) (before joins : Joins) → IsUpdater history pass before → pass ≡ Some old →
     GoesOn old looked → KeepsJoins joins looked.view → IsUpdater history (Some looked) joins
 updater_stays history pass old looked before joins updater is goes kept = updater_reads_on history pass old looked looked before joins updater is goes kept (reads_on-refl looked)
 

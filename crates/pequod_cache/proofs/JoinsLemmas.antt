@@ -1,25 +1,25 @@
 -- The joins that a client keeps, and those that a look tells it of.
-use Rattle.std.proofs.Common.{◌≡◌, ℕ, ◌+◌, ◌<◌, ◌≤◌, Bool, true, false, if◌then◌else◌, List, [], ◌∷◌, length, refl, sym, ap, ◌∙◌, arith}
-use Rattle.semantics.specs.Histories.{History, DeclaredJoin, IsPrefix, is_of_joins, joins_of, changed_from, changed_at}
+use Rattle.std.proofs.Common.{◌≡◌, ℕ, ◌+◌, ◌<◌, ◌≤◌, Bool, true, false, if◌then◌else◌, [], ◌∷◌, length, refl, sym, subst, arith, le-leb}
+use Rattle.semantics.specs.Histories.{History, IsPrefix, is_of_joins, changed_from, changed_at}
 use Rattle.growing_history.proofs.PrefixLemmas.{take_prefix, prefix_length}
-use Rattle.layering.proofs.StandingLemmas.{same_joins_since, last_is_changed}
-use Rattle.join_set.specs.Sets.{last_position}
+use Rattle.join_set.specs.Sets.{Joins, no_joins, AreJoins}
+use Rattle.base_reader.proofs.LaterLemmas.{joins_before, joins_after_all}
 use Rattle.pequod_cache.specs.Clients.{KeepsJoins}
 
 -- no joins, by who knows of no declaration
-pub keeps_none : (view : History) → KeepsJoins [] view
-keeps_none view = record { within = omega arith; stand = refl }
+pub keeps_none : (view : History) → KeepsJoins no_joins view
+keeps_none view = record { within = omega arith; are = record { standing = refl; changed = refl; bare = λ q table from. le-leb 0 q (omega arith) } }
 
 -- a view that grows
-pub keeps_longer : (joins : List DeclaredJoin) (before after : History) → IsPrefix before after → KeepsJoins joins before → KeepsJoins joins after
+pub keeps_longer : (joins : Joins) (before after : History) → IsPrefix before after → KeepsJoins joins before → KeepsJoins joins after
 keeps_longer joins before after begins keeps =
     let longer = prefix_length before after begins in
     record {
       within = omega (arith, longer, keeps.within);
-      stand = keeps.stand ∙ ap joins_of (sym (take_prefix (last_position joins) before after keeps.within begins));
+      are = subst (AreJoins 0 joins) (sym (take_prefix joins.changed before after keeps.within begins)) keeps.are;
     }
 
--- the last declaration is one of the entries
+-- the last declaration or drop is one of the entries
 changed_before : (position last : ℕ) (h : History) → last < position → changed_from position last h < position + length h
 changed_before position last [] less = omega arith
 changed_before position last (e ∷ es) less = by (is_of_joins e.write) (λ now low. changed_before (position + 1) now es low)
@@ -31,16 +31,15 @@ changed_before position last (e ∷ es) less = by (is_of_joins e.write) (λ now 
 changed_within : (h : History) → changed_at h ≤ length h
 changed_within h = let less = changed_before 1 0 h (omega arith) in omega (arith, less)
 
--- all joins that stand are those up to the last declaration
-pub keeps_all : (joins : List DeclaredJoin) (view : History) → joins ≡ joins_of view → KeepsJoins joins view
-keeps_all joins view all =
-    let at : last_position joins ≡ changed_at view = ap last_position all ∙ last_is_changed view in
+-- the joins after all entries are those up to the last declaration or drop
+pub keeps_all : (joins : Joins) (view : History) → AreJoins 0 joins view → KeepsJoins joins view
+keeps_all joins view are =
     let within = changed_within view in
     record {
-      within = omega (arith, at, within);
-      stand = all ∙ sym (same_joins_since view (last_position joins) (omega (arith, at)));
+      within = omega (arith, are.changed, within);
+      are = joins_before 0 joins.changed joins view (omega (arith, are.changed)) are;
     }
 
--- where that is the last declaration of the view, they are all that stand
-pub all_kept : (joins : List DeclaredJoin) (view : History) → KeepsJoins joins view → changed_at view ≡ last_position joins → joins ≡ joins_of view
-all_kept joins view keeps same = keeps.stand ∙ same_joins_since view (last_position joins) (omega (arith, same))
+-- where that is the last of the view, they are the joins after all its entries
+pub all_kept : (joins : Joins) (view : History) → KeepsJoins joins view → changed_at view ≡ joins.changed → AreJoins 0 joins view
+all_kept joins view keeps same = joins_after_all 0 joins.changed joins view (omega (arith, same)) keeps.are

@@ -1,10 +1,10 @@
 -- A client as contracts see it, and what is true of it.
-use Rattle.std.specs.Prelude.{◌≡◌, ℕ, ◌<◌, ◌≤◌, List, length, take, Option, Some, None}
+use Rattle.std.specs.Prelude.{◌≡◌, ℕ, ◌<◌, ◌≤◌, length, take, Option, Some, None}
 use Rattle.atomic_table.specs.Seated.{TableId}
 use Rattle.semantics.specs.Texts.{Range, Table, pairs_within}
-use Rattle.semantics.specs.Histories.{History, DeclaredJoin, IsPrefix, joins_of}
+use Rattle.semantics.specs.Histories.{History, IsPrefix}
 use Rattle.semantics.specs.States.{state}
-use Rattle.join_set.specs.Sets.{last_position}
+use Rattle.join_set.specs.Sets.{Joins, AreJoins}
 use Rattle.write_history.specs.Entries.{IsRecorded}
 use Rattle.write_history.specs.Passes.{PassView, new_pass}
 
@@ -13,13 +13,13 @@ abbrev pub pass_of : TableId → Option PassView → PassView
 pass_of history (Some pass) = pass
 pass_of history None = new_pass history 0 0
 
--- the joins are those that stood when the last of them had been declared, which the pass has seen
-pub record KeepsJoins (joins : List DeclaredJoin) (view : History) : Type 0 where
-  pub within : last_position joins ≤ length view
-  pub stand : joins ≡ joins_of (take (last_position joins) view)
+-- the joins are those that stood when the last of them had been declared or dropped, which the pass has seen
+pub record KeepsJoins (joins : Joins) (view : History) : Type 0 where
+  pub within : joins.changed ≤ length view
+  pub are : AreJoins 0 joins (take joins.changed view)
 
--- the client has a pass of the history, which may write and may have seen what it has, and the joins up to a declaration in that
-pub record IsClient (history : TableId) (pass : Option PassView) (joins : List DeclaredJoin) : Type 0 where
+-- the client has a pass of the history, which may write and may have seen what it has, and the joins up to a declaration or drop in that
+pub record IsClient (history : TableId) (pass : Option PassView) (joins : Joins) : Type 0 where
   pub has : PassView
   pub is : pass ≡ Some has
   pub same_history : has.history ≡ history
@@ -27,8 +27,8 @@ pub record IsClient (history : TableId) (pass : Option PassView) (joins : List D
   pub recorded : IsRecorded has.writers has.view
   pub kept : KeepsJoins joins has.view
 
--- the updater has a pass of the history, which may have seen what it has, and the joins up to a declaration in that
-pub record IsUpdater (history : TableId) (pass : Option PassView) (joins : List DeclaredJoin) : Type 0 where
+-- the updater has a pass of the history, which may have seen what it has, and the joins up to a declaration or drop in that
+pub record IsUpdater (history : TableId) (pass : Option PassView) (joins : Joins) : Type 0 where
   pub has : PassView
   pub is : pass ≡ Some has
   pub same_history : has.history ≡ history

@@ -1,7 +1,7 @@
 // The cache that threads share.
-ghost use Rattle.std.specs.Prelude.{◌≡◌, ℕ, ◌<◌, ◌≤◌, length, slice_get, IfOk, OnOk, Some};
+ghost use Rattle.std.specs.Prelude.{◌≡◌, ℕ, ◌<◌, ◌≤◌, length, slice_get, IfOk, OnErr, OnOk, Some};
 ghost use Rattle.std.specs.Arc.{arc_value};
-ghost use Rattle.semantics.specs.Histories.{joins_of};
+ghost use Rattle.join_set.specs.Sets.{AreJoins};
 ghost use Rattle.write_history.specs.Passes.{GoesOn, new_pass, own};
 ghost use Rattle.pequod_cache.specs.Clients.{KeepsJoins};
 ghost use Rattle.pequod_cache.specs.Sitting.{AreOf, AreWriters, IsFresh};
@@ -121,9 +121,9 @@ impl<N: Naming> Cache<N> {
         Ok((clients, Updater::new(alloc, cache, seats.updater, gate)))
     }
 
-    /// Extends the view of the pass to all entries of the history, brings the joins there, and gives the number of entries. It
-    /// compares two numbers, and after a declaration copies the joins that stand, at most 64. While another thread has the history's
-    /// turn, this one sleeps.
+    /// Extends the view of the pass to all entries of the history, brings the joins there, and gives the number of entries.
+    /// It compares two numbers, and after a declaration or drop copies the joins, at the cost of `JoinSet::copy`. While another
+    /// thread has the history's turn, this one sleeps.
     ///
     /// On `OutOfMemory` the view is extended all the same, and the joins are as they were.
     pub(crate) fn look<R: Wait>(
@@ -138,7 +138,8 @@ impl<N: Naming> Cache<N> {
         ensures own { own pass.new ≡ own pass.old }
         ensures length { IfOk result (λ position. position ≡ length pass.new.view) }
         ensures kept { KeepsJoins joins.new pass.new.view }
-        ensures brought { OnOk result (joins.new ≡ joins_of pass.new.view) }
+        ensures brought { OnOk result (AreJoins 0 joins.new pass.new.view) }
+        ensures unchanged { OnErr result (joins.new ≡ joins.old) }
     {
         let looked = self.history.look_joins(rt, pass, joins.changed_at())?;
         let Looked {

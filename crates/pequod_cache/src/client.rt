@@ -1,6 +1,6 @@
 // A client of the cache.
 ghost use Rattle.std.specs.Prelude.{◌≡◌, ◌≢◌, ◌<◌, ◌∷◌, [], IfOk};
-ghost use Rattle.semantics.specs.Histories.{put, remove, declare};
+ghost use Rattle.semantics.specs.Histories.{put, remove, declare, drop_join};
 ghost use Rattle.semantics.specs.Answers.{get, scan};
 ghost use Rattle.protocol.specs.Requests.{write, read};
 ghost use Rattle.protocol.specs.Told.{Told};
@@ -35,8 +35,8 @@ pub struct Found {
     pub pairs: Vec<Pair>,
 }
 
-/// One client of a cache: a pass of the write history, and the joins up to a declaration that it has seen. Contracts see it as
-/// its pass. Clients on different threads use one cache.
+/// One client of a cache: a pass of the write history, and the joins up to a declaration or drop that it has seen. Contracts
+/// see it as its pass. Clients on different threads use one cache.
 #[derive(Drop)]
 pub struct Client<'g, N: Naming, G> {
     alloc: Global,
@@ -83,8 +83,8 @@ impl<'g, N: Naming, G> Client<'g, N, G> {
 
 impl<'g, N: Naming, G: Gate> Client<'g, N, G> {
     /// Appends the write to the history, or says why it may not enter: `Done` with its position, `Refused` with the number of
-    /// entries after which this is the cause, or `Memory`, and then nothing entered. While another thread has the history's turn,
-    /// this one sleeps.
+    /// entries after which this is the cause, or `Memory`, and then nothing entered. While another thread has the history's
+    /// turn, this one sleeps.
     pub fn write<R: Wait>(&mut self, rt: &R, change: Write) -> Reply
         ensures told { Told self.old.view self.new.view self.old.number (write (plain_write change) ∷ []) (plain_reply result ∷ []) }
         ensures goes_on { GoesOn self.old self.new }
@@ -123,9 +123,18 @@ impl<'g, N: Naming, G: Gate> Client<'g, N, G> {
         self.write(rt, Write::Declare(join))
     }
 
-    /// The pairs of the range in the state after all entries that the history has now: it looks first, brings its joins there, and
-    /// reads there. For the joins it compares two numbers; after a declaration it copies those that stand once, at most 64. While
-    /// another thread has what it needs, this one sleeps.
+    /// Drops the join that was declared at the position. It answers as `write` does.
+    pub fn drop_join<R: Wait>(&mut self, rt: &R, position: u64) -> Reply
+        ensures told { Told self.old.view self.new.view self.old.number (write (drop_join position) ∷ []) (plain_reply result ∷ []) }
+        ensures goes_on { GoesOn self.old self.new }
+    {
+        self.write(rt, Write::Drop(position))
+    }
+
+    /// The pairs of the range in the state after all entries that the history has now: it looks first, brings its joins
+    /// there, and reads there. For the joins it compares two numbers; after a declaration or drop it copies them once, and the
+    /// cells of joins that stand no more, or have another rank, are evicted first. While another thread has what it needs,
+    /// this one sleeps.
     ///
     /// It may report that it found no memory.
     pub fn read<R: Wait>(&mut self, rt: &R, range: &Range) -> Result<Found, OutOfMemory>
@@ -217,6 +226,7 @@ impl<'g, N: Naming, G: Gate> Client<'g, N, G> {
             Request::Put(key, value) => self.put(rt, key, value),
             Request::Remove(key) => self.remove(rt, key),
             Request::Declare(join) => self.declare(rt, join),
+            Request::Drop(position) => self.drop_join(rt, position),
             Request::Get(key) => self.get(rt, &key),
             Request::Scan(range) => self.scan(rt, &range),
             Request::Quit => unreachable!(),

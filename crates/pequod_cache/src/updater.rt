@@ -17,8 +17,8 @@ use steps::Steps;
 use write_history::Pass;
 
 /// The updater of a cache: it brings kept ranges forward when pairs that they read were written, so that a read finds them where
-/// it reads. It writes nothing. It has a pass of the write history, and the joins up to a declaration that that has seen;
-/// contracts see it as its pass. It runs beside the clients, on a thread of its own.
+/// it reads. It writes nothing. It has a pass of the write history, and the joins up to a declaration or drop that that has
+/// seen; contracts see it as its pass. It runs beside the clients, on a thread of its own.
 #[derive(Drop)]
 pub struct Updater<'g, N: Naming, G> {
     cache: Arc<Cache<N>>,
@@ -61,7 +61,8 @@ impl<'g, N: Naming, G> Updater<'g, N, G> {
 }
 
 impl<'g, N: Naming, G: Gate> Updater<'g, N, G> {
-    /// Takes one turn: it looks, brings its joins there, and brings a marked cell forward, as `RangeCells::turn` does. While another thread has what it needs, this one sleeps.
+    /// Takes one turn: it looks, brings its joins there, and brings a marked cell forward, as `RangeCells::turn` does. While
+    /// another thread has what it needs, this one sleeps.
     ///
     /// `Idle` comes only where no cell was found marked for what was written before the look.
     pub fn turn<R: Wait>(&mut self, rt: &R) -> Turn

@@ -2,7 +2,7 @@
 ghost use Rattle.std.specs.Prelude.{◌≡◌, ◌≤◌, All, length, take, IfOk};
 ghost use Rattle.std.specs.Arc.{arc_value};
 ghost use Rattle.semantics.specs.Texts.{pairs_within};
-ghost use Rattle.semantics.specs.Histories.{joins_of};
+ghost use Rattle.join_set.specs.Sets.{AreJoins};
 ghost use Rattle.semantics.specs.States.{state};
 ghost use Rattle.write_history.specs.Entries.{IsRecorded};
 ghost use Rattle.base_shards.specs.Reading.{ReadsOn};
@@ -79,6 +79,9 @@ impl<N: Naming> RangeCells<N> {
     /// What cells keep is read, brought forward or mended; what they lack is evaluated and, for a push join, kept while a cell is
     /// free. Of the cells of a join those are used that are for the rank that it has after p entries. Then the least recently
     /// used cells are evicted, until what is kept is within the limit.
+    ///
+    /// Where a join was declared or dropped after the joins of all reads and turns before, the cells are evicted first whose
+    /// joins do not stand any more or have another rank.
     pub fn read<W: Wait, G: Gate, L: Ledger>(
         &self,
         rt: &W,
@@ -92,11 +95,12 @@ impl<N: Naming> RangeCells<N> {
         requires same_history { pass.history ≡ N.history }
         requires recorded { IsRecorded pass.writers pass.view }
         requires within { p ≤ length pass.view }
-        requires joins { joins.now ≡ joins_of (take p pass.view) }
+        requires joins { AreJoins 0 joins.now (take p pass.view) }
         ensures exact { IfOk result.found (λ pairs. pairs.items ≡ pairs_within range.now (state (take p pass.view))) }
         ensures reads_on { ReadsOn pass result.pass }
         ensures counted { steps.old ≤ steps.new }
     {
+        self.cells.follow(rt, &self.shards, joins);
         let room = Room {
             alloc: self.alloc,
             rt,

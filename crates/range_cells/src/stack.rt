@@ -4,7 +4,8 @@ ghost use Rattle.semantics.specs.Texts.{pairs_within};
 ghost use Rattle.semantics.specs.States.{state};
 ghost use Rattle.base_shards.specs.Reading.{ReadsOn};
 ghost use Rattle.join_eval.specs.Moves.{Moves};
-ghost use Rattle.shared_cells.specs.Bringing.{BringsCell, IsRankOf};
+ghost use Rattle.cell_slots.specs.Slots.{IsRankAt};
+ghost use Rattle.shared_cells.specs.Bringing.{BringsCell};
 
 use base_shards::Naming;
 use join_eval::Reader;
@@ -119,7 +120,7 @@ fn bring_by<N: Naming, R: Stacked<N>, L: Ledger>(
     steps: &mut Steps<L>,
 ) -> Result<(), OutOfMemory>
     requires within { p ≤ length (R.list reader.old) }
-    requires rank { IsRankOf (R.list reader.old) p cell.old.at rank }
+    requires rank { IsRankAt (R.list reader.old) p cell.old.at rank }
     requires ranked { IfSome rank (λ r. r ≤ R.top) }
     ensures brings { BringsCell p rank result cell.old cell.new }
     ensures met { cell.new.pass.view ≡ R.list reader.new }
@@ -143,7 +144,7 @@ fn bring_top<'a, N: Naming, W: Wait, G: Gate, R: Stacked<N>, L: Ledger>(
 ) -> Result<(), OutOfMemory>
     requires top { R.top ≡ 6 }
     requires within { p ≤ length (R.list two.old.inner.inner) }
-    requires rank { IsRankOf (R.list two.old.inner.inner) p cell.old.at rank }
+    requires rank { IsRankAt (R.list two.old.inner.inner) p cell.old.at rank }
     requires ranked { IfSome rank (λ r. r ≤ 7) }
     ensures brings { BringsCell p rank result cell.old cell.new }
     ensures met { cell.new.pass.view ≡ R.list two.new.inner.inner }
@@ -164,7 +165,7 @@ fn bring_upper<'a, N: Naming, W: Wait, G: Gate, R: Stacked<N>, L: Ledger>(
 ) -> Result<(), OutOfMemory>
     requires top { R.top ≡ 4 }
     requires within { p ≤ length (R.list four.old.inner.inner.inner.inner) }
-    requires rank { IsRankOf (R.list four.old.inner.inner.inner.inner) p cell.old.at rank }
+    requires rank { IsRankAt (R.list four.old.inner.inner.inner.inner) p cell.old.at rank }
     requires ranked { IfSome rank (λ r. r ≤ 7) }
     ensures brings { BringsCell p rank result cell.old cell.new }
     ensures met { cell.new.pass.view ≡ R.list four.new.inner.inner.inner.inner }
@@ -185,7 +186,7 @@ fn bring_middle<'a, N: Naming, W: Wait, G: Gate, R: Stacked<N>, L: Ledger>(
 ) -> Result<(), OutOfMemory>
     requires top { R.top ≡ 2 }
     requires within { p ≤ length (R.list six.old.inner.inner.inner.inner.inner.inner) }
-    requires rank { IsRankOf (R.list six.old.inner.inner.inner.inner.inner.inner) p cell.old.at rank }
+    requires rank { IsRankAt (R.list six.old.inner.inner.inner.inner.inner.inner) p cell.old.at rank }
     requires ranked { IfSome rank (λ r. r ≤ 7) }
     ensures brings { BringsCell p rank result cell.old cell.new }
     ensures met { cell.new.pass.view ≡ R.list six.new.inner.inner.inner.inner.inner.inner }
@@ -206,7 +207,7 @@ fn bring_lower<'a, N: Naming, W: Wait, G: Gate, R: Stacked<N>, L: Ledger>(
 ) -> Result<(), OutOfMemory>
     requires top { R.top ≡ 0 }
     requires within { p ≤ length (R.list tower.old.inner.inner.inner.inner.inner.inner.inner.inner) }
-    requires rank { IsRankOf (R.list tower.old.inner.inner.inner.inner.inner.inner.inner.inner) p cell.old.at rank }
+    requires rank { IsRankAt (R.list tower.old.inner.inner.inner.inner.inner.inner.inner.inner) p cell.old.at rank }
     requires ranked { IfSome rank (λ r. r ≤ 7) }
     ensures brings { BringsCell p rank result cell.old cell.new }
     ensures met { cell.new.pass.view ≡ R.list tower.new.inner.inner.inner.inner.inner.inner.inner.inner }
@@ -260,8 +261,9 @@ impl<'a, N: Naming, W: Wait, G: Gate> Stack<'a, N, W, G> {
     }
 
     /// Brings what a cell with a number keeps to where the first p entries that the pass has seen stand, where it stands below.
-    /// The rank is the one that its join has then; where none is given, or another than the cell's, what it keeps stays as it
-    /// is. The cell follows the ranges of base pairs that are read for it; its pass and this one see what either has seen.
+    /// The rank is the one that its join has then, and none where the join does not stand; where it is not the cell's, what it
+    /// keeps stays as it is. The cell follows the ranges of base pairs that are read for it; its pass and this one see what
+    /// either has seen.
     pub fn bring<L: Ledger>(
         &mut self,
         cell: &mut Cell<N>,
@@ -271,7 +273,7 @@ impl<'a, N: Naming, W: Wait, G: Gate> Stack<'a, N, W, G> {
         steps: &mut Steps<L>,
     ) -> Result<(), OutOfMemory>
         requires within { p ≤ length self.old.view }
-        requires rank { IsRankOf self.old.view p cell.old.at rank }
+        requires rank { IsRankAt self.old.view p cell.old.at rank }
         requires ranked { IfSome rank (λ r. r ≤ 7) }
         ensures brings { BringsCell p rank result cell.old cell.new }
         ensures met { cell.new.pass.view ≡ self.new.view }

@@ -1,14 +1,14 @@
 // Bringing kept ranges forward, one at a time.
-ghost use Rattle.std.specs.Prelude.{◌≡◌, ◌≤◌, length, take, IfSome, Some};
-ghost use Rattle.semantics.specs.Histories.{joins_of};
+ghost use Rattle.std.specs.Prelude.{◌≡◌, ◌≤◌, length, take, Some};
+ghost use Rattle.join_set.specs.Sets.{AreJoins};
 ghost use Rattle.write_history.specs.Entries.{IsRecorded};
 ghost use Rattle.base_shards.specs.Reading.{ReadsOn};
-ghost use Rattle.base_reader.specs.Reaching.{IsRankIn};
-ghost use Rattle.shared_cells.specs.Bringing.{IsRankOf};
+ghost use Rattle.cell_slots.specs.Slots.{IsRankAt};
 ghost use Rattle.range_cells.specs.Turns.{IsWithinView};
 
 use crate::range_cells::RangeCells;
 use crate::stack::Stack;
+use base_reader::reaching::rank_of;
 use base_shards::{Naming, SHARDS};
 use join_set::JoinSet;
 use out_of_memory::OutOfMemory;
@@ -47,24 +47,6 @@ pub struct Turned {
     pub turn: Turn,
 }
 
-/// The rank of the join that was declared at a position, where it is among the first p entries and the join stands. Linear in
-/// the joins.
-fn rank_at(joins: &JoinSet, at: u64, p: u64) -> Option<u8>
-    ensures rank { IfSome result (λ rank. IsRankIn joins.now at (Some rank)) }
-    ensures declared { IfSome result (λ _. at ≤ p) }
-    ensures shallow { IfSome result (λ rank. rank ≤ 7) }
-{
-    if p < at {
-        return None;
-    }
-    for i in 0..joins.len() {
-        if joins.at(i) == at {
-            return Some(joins.rank(i));
-        }
-    }
-    None
-}
-
 impl<N: Naming> RangeCells<N> {
     /// Brings each part of the base pairs to where the first p entries stand, so that cells are marked for them.
     ///
@@ -80,8 +62,8 @@ impl<N: Naming> RangeCells<N> {
         Ok(())
     }
 
-    /// Brings a cell to where the first p entries stand, says where it stands then, and which cells of lower ranks were used for
-    /// it, in order. A cell for another rank than its join has after p entries keeps what it keeps.
+    /// Brings a cell to where the first p entries stand, says where it stands then, and which cells of lower ranks were used
+    /// for it, in order. A cell for another rank than its join has after p entries keeps what it keeps.
     fn bring_cell<W: Wait, G: Gate, L: Ledger>(
         &self,
         rt: &W,
@@ -96,8 +78,8 @@ impl<N: Naming> RangeCells<N> {
         requires same_history { pass.history ≡ N.history }
         requires recorded { IsRecorded pass.writers pass.view }
         requires within { p ≤ length pass.view }
-        requires joins { joins.now ≡ joins_of (take p pass.view) }
-        ensures left { (IsRankOf pass.view p cell.old.at (Some cell.old.rank) → ⊥) → cell.new.held ≡ cell.old.held }
+        requires joins { AreJoins 0 joins.now (take p pass.view) }
+        ensures left { (IsRankAt pass.view p cell.old.at (Some cell.old.rank) → ⊥) → cell.new.held ≡ cell.old.held }
         ensures within { IsWithinView result.0.turn result.0.pass.view }
         ensures reads_on { ReadsOn pass result.0.pass }
         ensures counted { steps.old ≤ steps.new }
@@ -108,7 +90,7 @@ impl<N: Naming> RangeCells<N> {
             gate,
             cells: &self.cells,
         };
-        let rank = rank_at(joins, cell.at(), p);
+        let rank = rank_of(joins, cell.at());
         let lowest = SharedReader::new(self.alloc, rt, &self.history, &self.shards, joins, p, pass);
         let mut stack = Stack::new(&room, lowest);
         let brought = stack.bring(cell, id, p, rank, steps);
@@ -126,8 +108,8 @@ impl<N: Naming> RangeCells<N> {
         }
     }
 
-    /// Brings what lies behind a cell's lock to where the first p entries stand, says where it stands then, and which cells of lower
-    /// ranks were used for it, in order. While another thread has the cell, this one sleeps.
+    /// Brings what lies behind a cell's lock to where the first p entries stand, says where it stands then, and which cells
+    /// of lower ranks were used for it, in order. While another thread has the cell, this one sleeps.
     fn bring_locked<W: Wait, G: Gate, L: Ledger>(
         &self,
         rt: &W,
@@ -142,7 +124,7 @@ impl<N: Naming> RangeCells<N> {
         requires same_history { pass.history ≡ N.history }
         requires recorded { IsRecorded pass.writers pass.view }
         requires within { p ≤ length pass.view }
-        requires joins { joins.now ≡ joins_of (take p pass.view) }
+        requires joins { AreJoins 0 joins.now (take p pass.view) }
         ensures within { IsWithinView result.0.turn result.0.pass.view }
         ensures reads_on { ReadsOn pass result.0.pass }
         ensures counted { steps.old ≤ steps.new }
@@ -158,8 +140,8 @@ impl<N: Naming> RangeCells<N> {
         }
     }
 
-    /// Brings the cell with a number to where the first p entries stand, if there is one, says where it stands then, and tells the
-    /// book of the cells of lower ranks that were used for it.
+    /// Brings the cell with a number to where the first p entries stand, if there is one, says where it stands then, and
+    /// tells the book of the cells of lower ranks that were used for it.
     fn bring_marked<W: Wait, G: Gate, L: Ledger>(
         &self,
         rt: &W,
@@ -173,7 +155,7 @@ impl<N: Naming> RangeCells<N> {
         requires same_history { pass.history ≡ N.history }
         requires recorded { IsRecorded pass.writers pass.view }
         requires within { p ≤ length pass.view }
-        requires joins { joins.now ≡ joins_of (take p pass.view) }
+        requires joins { AreJoins 0 joins.now (take p pass.view) }
         ensures within { IsWithinView result.turn result.pass.view }
         ensures reads_on { ReadsOn pass result.pass }
         ensures counted { steps.old ≤ steps.new }
@@ -194,15 +176,16 @@ impl<N: Naming> RangeCells<N> {
         turned
     }
 
-    /// Brings a marked cell forward: each part of the base pairs is brought to the end of what the pass has seen, that is, to where
-    /// the first p entries stand, which marks each cell that follows a range with a key that they put or remove; then, of the first
-    /// part that has a marked cell, the one that was marked there first is advanced, if it stands below. These are the joins that
-    /// stand then.
+    /// Brings a marked cell forward: each part of the base pairs is brought to the end of what the pass has seen, that is, to
+    /// where the first p entries stand, which marks each cell that follows a range with a key that they put or remove; then,
+    /// of the first part that has a marked cell, the one that was marked there first is advanced, if it stands below. These
+    /// are the joins that stand then.
     ///
     /// What is pending in the cell then stays so, what is forgotten stays so, and a cell for another rank than its join has
-    /// keeps what it keeps. Before a range of a lower rank is filled or mended for it, the gate is passed. While another thread
-    /// has a part or a cell that this one needs, this one sleeps. That the cell was brought forward is no use of it; of the cells
-    /// of lower ranks that were read for it the book is told as after a read, and the least recently used are evicted.
+    /// keeps what it keeps. Before a range of a lower rank is filled or mended for it, the gate is passed. While another
+    /// thread has a part or a cell that this one needs, this one sleeps. That the cell was brought forward is no use of it;
+    /// of the cells of lower ranks that were read for it the book is told as after a read, and the least recently used are
+    /// evicted. First of all the cells are evicted whose joins do not stand any more or have another rank, as by a read.
     ///
     /// `Idle` comes only where no part had a marked cell when its lock was taken.
     pub fn turn<W: Wait, G: Gate, L: Ledger>(
@@ -217,11 +200,12 @@ impl<N: Naming> RangeCells<N> {
         requires same_history { pass.history ≡ N.history }
         requires recorded { IsRecorded pass.writers pass.view }
         requires whole { p ≡ length pass.view }
-        requires joins { joins.now ≡ joins_of (take p pass.view) }
+        requires joins { AreJoins 0 joins.now (take p pass.view) }
         ensures within { IsWithinView result.turn result.pass.view }
         ensures reads_on { ReadsOn pass result.pass }
         ensures counted { steps.old ≤ steps.new }
     {
+        self.cells.follow(rt, &self.shards, joins);
         let mut pass = pass;
         if self.bring_parts(rt, &mut pass, p).is_err() {
             return Turned {

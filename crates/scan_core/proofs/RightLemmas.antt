@@ -24,10 +24,10 @@ use Rattle.range_state.specs.Held.{forgotten}
 use Rattle.cell_slots.specs.declared.slot.Slot.{Slot}
 use Rattle.cell_slots.specs.declared.slot.Slot.TheVariants.{Free, Lent, Held}
 use Rattle.cell_slots.specs.Slots.{Holdings, place_of, IsDeclared, IsReached, IsReadySlot, IsRightFor, IsSoundSlot}
+use Rattle.cell_slots.proofs.DeclaredLemmas.{declared_over_longer, declared_once, has_rank}
 use Rattle.cell_table.specs.Stores.{AreOfTable}
 use Rattle.cell_table.specs.Moves.{Evicts, ReservesParts}
 use Rattle.cell_table.proofs.SlotLemmas.{get-set_other, keeper}
-use Rattle.rank_layers.proofs.PartLemmas.{declared_over_longer, declared_once}
 use Rattle.scan_core.specs.Rights.{IsRightPlace, AreRight}
 
 -- ---- the table of an output
@@ -188,4 +188,4 @@ ready_rank h slots id at p rank range s entered right reached ready =
     let is : IsRightFor h at s = right.held id (Held at s) ready.held in
     let sound : IsSoundAt s h p = subst (λ o. IfSome o (IsSoundAt s h)) ready.ready.stands is.sound in
     let join : s.join ≡ reached.join = declared_once h at s.join reached.join is.declared reached.stands.declared in
-    one_rank (take p h) reached.join s.rank rank entered (subst (λ j. HasRank (joins_of (take p h)) j s.rank) join sound.stands) reached.stands.ranked
+    one_rank (take p h) reached.join s.rank rank entered (subst (λ j. HasRank (joins_of (take p h)) j s.rank) join sound.stands) (has_rank h p at rank reached.join reached.stands)

@@ -22,7 +22,7 @@ use Rattle.cell_slots.specs.declared.slot.Slot.{Slot}
 use Rattle.cell_slots.specs.declared.slot.Slot.TheVariants.{Held}
 use Rattle.cell_slots.specs.Slots.{Holdings, IsDeclared, StandsAs, HasFree, MeetsNone, HoldsReady, HoldsJust, IsRightFor}
 use Rattle.cell_slots.specs.Spending.{base_count, row_count, ReachesOnly, Spends}
-use Rattle.rank_layers.proofs.PartLemmas.{declared_once}
+use Rattle.cell_slots.proofs.DeclaredLemmas.{declared_once, has_rank}
 use Rattle.scan_core.specs.Rights.{AreRight, Contents}
 use Rattle.scan_core.specs.Cells.{KeepsLast}
 use Rattle.scan_core.specs.Worlds.{ReachesPush}
@@ -85,7 +85,7 @@ pub kept_after : (h : History) (p : ℕ) (range : Range) (place : ℕ) (s : Decl
 kept_after h p range place s before mid after limit added entered unused same_history same_limit spends right keeps reach not_empty stands free apart few =
     let joins = joins_of (take p h) in
     let rank = slice_index (ranks_of joins) place in
-    let none : rank ≡ 0 = one_rank (take p h) s.join rank 0 (has_entered_taken p h entered) (record { place = place; standing = s; stands = reach.one.stands; is = refl; ranked = refl }) stands.ranked in
+    let none : rank ≡ 0 = one_rank (take p h) s.join rank 0 (has_entered_taken p h entered) (record { place = place; standing = s; stands = reach.one.stands; is = refl; ranked = refl }) (has_rank h p s.position 0 s.join stands) in
     let k = spends.kept rank s (reaches_only h p range place s entered reach) not_empty (record { pushed = reach.pushed; free = free; apart = apart }) in
     let used : mid.cells.used ≡ k.id ∷ [] = k.alone none ∙ ap (λ used. used ++ k.id ∷ []) unused in
     let w = k.is in
@@ -93,7 +93,7 @@ kept_after h p range place s before mid after limit added entered unused same_hi
     let here : IsRightFor h s.position w.state = subst (λ l. IsRightFor l s.position w.state) same_history is in
     let sound : IsSoundAt w.state h p = subst (λ o. IfSome o (IsSoundAt w.state h)) w.stands here.sound in
     let join : w.state.join ≡ s.join = declared_once h s.position w.state.join s.join here.declared stands.declared in
-    let zero_rank : w.state.rank ≡ 0 = one_rank (take p h) s.join w.state.rank 0 (has_entered_taken p h entered) (subst (λ j. HasRank joins j w.state.rank) join sound.stands) stands.ranked in
+    let zero_rank : w.state.rank ≡ 0 = one_rank (take p h) s.join w.state.rank 0 (has_entered_taken p h entered) (subst (λ j. HasRank joins j w.state.rank) join sound.stands) (has_rank h p s.position 0 s.join stands) in
     let rows = rows_few w.state.join w.state.range (below (take p h) w.state.rank) w.state.kept (declared_is_join h s.position w.state.join entered here.declared) sound.right w.clear in
     let same_rows : length (pairs_within w.state.range (out w.state.join (below (take p h) w.state.rank))) ≡ row_count h p range 0 s.join =
     (λ i. length (pairs_within (w.just i) (out (join i) (below (take p h) (zero_rank i))))) in

@@ -1,5 +1,5 @@
 -- What the core as one value keeps.
-use Rattle.std.proofs.Common.{◌≡◌, ◌⊎◌, ◌<◌, ◌≤◌, ℕ, List, length, take, replicate, slice_get, slice_set, Option, Some, None, IsSomeAnd, inl, inr, sym, ◌∙◌, subst, ⊎_elim, arith}
+use Rattle.std.proofs.Common.{◌≡◌, ◌⊎◌, ◌<◌, ◌≤◌, ℕ, List, length, take, replicate, slice_get, slice_set, Option, Some, None, IsSomeAnd, inl, inr, sym, ◌∙◌, subst, ⊎_elim}
 use Rattle.std.proofs.lemmas.Bool.{cases_eq}
 use Rattle.semantics.specs.Texts.{Range}
 use Rattle.semantics.specs.Histories.{joins_of}
@@ -7,9 +7,9 @@ use Rattle.growing_history.specs.Entered.{HasRank}
 use Rattle.kept_ranges.specs.Sound.{KeptRange}
 use Rattle.cell_slots.specs.declared.slot.Slot.{Slot}
 use Rattle.cell_slots.specs.declared.slot.Slot.TheVariants.{Free, Lent, Held}
-use Rattle.cell_slots.specs.Slots.{IsRightFor}
+use Rattle.cell_slots.specs.Slots.{IsRankAt, IsRightFor}
+use Rattle.cell_slots.proofs.DeclaredLemmas.{has_rank, stands_ranked}
 use Rattle.cell_table.proofs.SlotLemmas.{get-set_other}
-use Rattle.base_reader.specs.Reaching.{IsRankAt}
 use Rattle.scan_core.specs.Cells.{HoldsAt}
 use Rattle.scan_core.specs.Worlds.{CoreWorld, NoneLent, IsRankTo}
 use Rattle.scan_core.proofs.RightLemmas.{free_there, set_here}
@@ -41,10 +41,11 @@ none_lent_freed slots id none other at range is = by (cases_eq other id)
 -- the rank of what a cell holds, by the rank of its join
 pub rank_to_from : (before : CoreWorld) (id to at : ℕ) (s : KeptRange) (found : Option ℕ) → HoldsAt before.cells.slots id at s → IsRightFor before.world.history at s → (IsSomeAnd s.position (λ q. to < q) → ⊥) → to ≤ length before.world.history →
     IsRankAt before.world.history to at found → IsRankTo before id to found
-rank_to_from before id to at s None held right upto inside later = λ may.
+rank_to_from before id to at s None held right upto inside none = λ may.
     let same = held_same at may.at s may.kept (sym held ∙ may.held) in
-    absurd (omega (arith, later, same, may.stands))
-rank_to_from before id to at s (Some rank) held right upto inside stands = (
-  record { at = at; kept = s; held = held; upto = upto; within = inside; stands = stands.0 },
-  λ other t there. subst (λ (x : KeptRange). HasRank (joins_of (take to before.world.history)) x.join rank) (state_same at other s t (sym held ∙ there)) (stands.1 s.join right.declared),
+    none may.stands.1.place (record { position = may.at; join = may.stands.0 }) may.stands.1.stands (sym same)
+rank_to_from before id to at s (Some rank) held right upto inside found = (
+  record { at = at; kept = s; held = held; upto = upto; within = inside; rank = rank; stands = found },
+  λ other t there. subst (λ (x : KeptRange). HasRank (joins_of (take to before.world.history)) x.join rank) (state_same at other s t (sym held ∙ there))
+      (has_rank before.world.history to at rank s.join (stands_ranked before.world.history to at rank s.join right.declared found)),
 )

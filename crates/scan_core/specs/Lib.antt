@@ -4,6 +4,7 @@ pub mod Rights
 pub mod Reading
 pub mod CoreLaws
 pub mod Cells
+pub mod LettingGo
 pub mod Towers
 pub mod Bringing
 pub mod Going

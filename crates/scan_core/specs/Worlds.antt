@@ -15,7 +15,7 @@ use Rattle.core_events.specs.Plain.{World, Scan, scan_of, goes_on, freed, step}
 use Rattle.core_events.specs.PlainLaws.{AnswersAs, LookAlike}
 use Rattle.cell_slots.specs.declared.slot.Slot.{Slot}
 use Rattle.cell_slots.specs.declared.slot.Slot.TheVariants.{Free, Lent}
-use Rattle.cell_slots.specs.Slots.{Holdings, StandsAs, HasFree, MeetsNone, HoldsReady, HoldsJust}
+use Rattle.cell_slots.specs.Slots.{Holdings, IsRankAt, StandsAs, HasFree, MeetsNone, HoldsReady, HoldsJust}
 use Rattle.cell_slots.specs.Spending.{base_count, row_count}
 use Rattle.scan_core.specs.Cells.{HoldsAt, IsHeldAt, HoldsNothing}
 use Rattle.scan_core.specs.Progress.{next_range}
@@ -38,14 +38,15 @@ pub record StepsAs (event : Event) (before after : World) (done : Done) : Type 0
 
 -- ---- events of cells
 
--- a cell may be advanced to a position: it holds a kept range that does not stand past it, it lies within the history, and the range's join stands there
+-- a cell may be advanced to a position: it holds a kept range that does not stand past it, it lies within the history, and the range's join stands there with some rank
 pub record MayAdvance (before : CoreWorld) (id to : ℕ) : Type 0 where
   pub at : ℕ
   pub kept : KeptRange
   pub held : HoldsAt before.cells.slots id at kept
   pub upto : IsSomeAnd kept.position (λ q. to < q) → ⊥
   pub within : to ≤ length before.world.history
-  pub stands : at ≤ to
+  pub rank : ℕ
+  pub stands : IsRankAt before.world.history to at (Some rank)
 
 -- it held a kept range, and holds one of the same declaration and range, which stands at the position
 pub record IsBroughtIn (before after : List Slot) (id to : ℕ) : Type 0 where

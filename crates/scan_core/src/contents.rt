@@ -1,19 +1,19 @@
 // The lowest reader over cells.
-ghost use Rattle.std.specs.Prelude.{◌≡◌, ℕ, ◌∷◌, ◌++◌, ◌<◌, ◌≤◌, ◌^◌, [], length, replicate, true, slice_get, IfOk, OnErr, OnOk, None, option_map, option_copied, refl};
+ghost use Rattle.std.specs.Prelude.{◌≡◌, ◌∷◌, ◌++◌, ◌<◌, ◌≤◌, ◌^◌, [], length, replicate, true, slice_get, IfOk, OnErr, OnOk, None, option_map, option_copied, refl};
 ghost use Rattle.std.proofs.Common.{◌∙◌, rules};
 ghost use Rattle.semantics.specs.Texts.{is_range};
-ghost use Rattle.semantics.specs.Joins.{Join as PlainJoin, is_join};
+ghost use Rattle.semantics.specs.Joins.{is_join};
 ghost use Rattle.semantics.specs.Verdicts.{verdict};
 ghost use Rattle.growing_history.specs.Entered.{HasEntered};
 ghost use Rattle.join_types.specs.Causes.{plain_cause};
 ghost use Rattle.join_types.specs.Writes.{plain_write};
 ghost use Rattle.cell_slots.specs.declared.slot.Slot.TheVariants.{Free};
-ghost use Rattle.cell_slots.specs.Slots.{IsDeclared, with_slot};
-ghost use Rattle.base_reader.specs.Reaching.{IsRankAt};
+ghost use Rattle.cell_slots.specs.Slots.{IsRankAt, with_slot};
 ghost use Rattle.cell_table.specs.Moves.{Evicts, IsHeld};
 ghost use Rattle.scan_core.specs.Cells.{IsTaken, KeepsLast};
 ghost use Rattle.scan_core.specs.Rights.{AreRight};
 ghost use Rattle.scan_core.specs.CoreLaws.{bottom_frame, bottom_spends};
+ghost use Rattle.scan_core.specs.LettingGo.{LetsGo};
 ghost use Rattle.scan_core.specs.Reading.{SpendsBase};
 
 use base_reader::BaseReader;
@@ -29,11 +29,16 @@ use std::marker::Model;
 use std::sync::ledger::Ledger;
 use steps::Steps;
 
+/// No core has more cells.
+const MOST_CELLS: u32 = 65536;
+
 /// A history in memory and the cells over it. It reads at rank 0, and lends what the cells hold to the layers above.
 #[derive(Drop)]
 pub struct Core {
     base: BaseReader,
     cells: CellTable,
+    /// The last declaration or drop after which the cells let go of what they held for former joins and former ranks.
+    swept: u64,
 }
 
 impl Model for Core {
@@ -61,6 +66,7 @@ impl Core {
         Ok(Core {
             base: BaseReader::new(alloc),
             cells,
+            swept: 0,
         })
     }
 
@@ -102,10 +108,10 @@ impl Core {
         self.base.enter(entry)
     }
 
-    /// The rank that the join declared at a position has after the first p entries. None exactly where it is declared later.
+    /// The rank that the join declared at a position has after the first p entries. None exactly where it does not stand then: it
+    /// is declared later, or is dropped by then.
     pub fn rank_at(&self, at: u64, p: u64) -> Result<Option<u8>, OutOfMemory>
-        requires within { p ≤ length self.now.history }
-        requires declared { (j : PlainJoin) × IsDeclared self.now.history at j }
+        requires { p ≤ length self.now.history }
         ensures { IfOk result (IsRankAt self.now.history p at) }
     {
         self.base.rank_at(at, p)
@@ -159,6 +165,59 @@ impl Core {
         ensures history { self.new.history ≡ self.old.history }
     {
         self.cells.settle()
+    }
+
+    /// Frees the cells of former joins and former ranks before a read after the first p entries: those that hold a kept range
+    /// whose join does not stand there with the range's rank. What a cell holds with another rank than its join has would be
+    /// made anew only where its own is the lesser, and would otherwise keep its range from being kept.
+    ///
+    /// That is done where a join was declared or dropped since it was last done, and none after these entries: for a read at
+    /// an earlier position no cell of a join that stands later is freed. It looks at each cell then, and for one that holds a
+    /// kept range at each join. Otherwise it compares two numbers.
+    pub fn let_go(&mut self, p: u64) -> Result<(), OutOfMemory>
+        requires { p ≤ length self.old.history }
+        ensures goes { LetsGo self.old.history p self.old.cells self.new.cells }
+        ensures history { self.new.history ≡ self.old.history }
+    {
+        let changed = self.base.changed_at();
+        if changed == self.swept || p < changed {
+            return Ok(());
+        }
+        self.let_go_of_former(p)?;
+        self.swept = changed;
+        Ok(())
+    }
+
+    /// Frees each cell that holds a kept range whose join does not stand after the first p entries with the range's rank.
+    fn let_go_of_former(&mut self, p: u64) -> Result<(), OutOfMemory>
+        requires { p ≤ length self.old.history }
+        ensures goes { LetsGo self.old.history p self.old.cells self.new.cells }
+        ensures history { self.new.history ≡ self.old.history }
+    {
+        for id in 0..MOST_CELLS {
+            if self.slot(id).is_none() {
+                break;
+            }
+            self.let_go_of(id, p)?;
+        }
+        Ok(())
+    }
+
+    /// Frees a cell, if it is such a one.
+    fn let_go_of(&mut self, id: u32, p: u64) -> Result<(), OutOfMemory>
+        requires { p ≤ length self.old.history }
+        ensures goes { LetsGo self.old.history p self.old.cells self.new.cells }
+        ensures history { self.new.history ≡ self.old.history }
+    {
+        self.look();
+        let Some(Slot::Held(at, state)) = self.slot(id) else {
+            return Ok(());
+        };
+        if self.rank_at(*at, p)? == Some(state.rank()) {
+            return Ok(());
+        }
+        self.evict(id);
+        Ok(())
     }
 }
 

@@ -44,8 +44,9 @@ fn read_all<L: Ledger>(
     found
 }
 
-/// The pairs of a range after the first p entries. The book is told of the cells that were used, and frees those that have to
-/// go. The history stays.
+/// The pairs of a range after the first p entries. Before the first such read after a declaration or a drop the cells of former
+/// joins and former ranks are freed. The book is told of the cells that were used, and frees those that have to go. The history
+/// stays.
 pub fn read_piece<L: Ledger>(
     reader: &mut Stack,
     p: u64,
@@ -61,6 +62,8 @@ pub fn read_piece<L: Ledger>(
     ensures room { reader.new.cells.setting.room ≡ reader.old.cells.setting.room }
 {
     let _low = range.lo();
+    reader.look();
+    reader.let_go(p)?;
     reader.clear_used();
     let found = read_all(reader, p, range, steps);
     let settled = reader.settle();

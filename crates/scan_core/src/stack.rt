@@ -1,18 +1,17 @@
 // The reader of all ranks over the core.
-ghost use Rattle.std.specs.Prelude.{◌≡◌, ℕ, ◌∷◌, ◌++◌, ◌<◌, ◌≤◌, ◌^◌, [], length, slice_get, IfOk, OnErr, OnOk, Some, None, option_map, option_copied, refl};
-ghost use Rattle.std.proofs.Common.{◌∙◌, rules};
-ghost use Rattle.semantics.specs.Joins.{Join as PlainJoin};
+ghost use Rattle.std.specs.Prelude.{◌≡◌, ◌∷◌, ◌++◌, ◌<◌, ◌≤◌, ◌^◌, [], length, slice_get, IfOk, OnErr, OnOk, Some, None, option_map, option_copied};
+ghost use Rattle.std.proofs.Common.{rules};
 ghost use Rattle.semantics.specs.Verdicts.{verdict};
 ghost use Rattle.growing_history.specs.Entered.{HasEntered};
 ghost use Rattle.join_types.specs.Causes.{plain_cause};
 ghost use Rattle.join_types.specs.Writes.{plain_write};
 ghost use Rattle.cell_slots.specs.declared.slot.Slot.TheVariants.{Free, Held, Lent};
-ghost use Rattle.cell_slots.specs.Slots.{Frame, IsDeclared, IsRightFor, with_slot};
+ghost use Rattle.cell_slots.specs.Slots.{Frame, IsRankAt, IsRightFor, with_slot};
 ghost use Rattle.cell_slots.specs.FrameLaws.{frame_refl, frame_trans};
 ghost use Rattle.cell_slots.specs.Spending.{Spends};
-ghost use Rattle.base_reader.specs.Reaching.{IsRankAt};
 ghost use Rattle.cell_table.specs.Moves.{Evicts, IsHeld};
 ghost use Rattle.scan_core.specs.Cells.{IsTaken, KeepsLast};
+ghost use Rattle.scan_core.specs.LettingGo.{LetsGo};
 ghost use Rattle.scan_core.specs.Rights.{AreRight};
 
 use crate::contents::Core;
@@ -102,10 +101,10 @@ impl Stack {
         self.core().judge(write)
     }
 
-    /// The rank that the join declared at a position has after the first p entries. None exactly where it is declared later.
+    /// The rank that the join declared at a position has after the first p entries. None exactly where it does not stand then: it
+    /// is declared later, or is dropped by then.
     pub fn rank_at(&self, at: u64, p: u64) -> Result<Option<u8>, OutOfMemory>
-        requires within { p ≤ length self.now.history }
-        requires declared { (j : PlainJoin) × IsDeclared self.now.history at j }
+        requires { p ≤ length self.now.history }
         ensures { IfOk result (IsRankAt self.now.history p at) }
     {
         self.core().rank_at(at, p)
@@ -196,6 +195,25 @@ impl Stack {
             .inner
             .inner
             .evict(id);
+    }
+
+    /// Frees the cells of former joins and former ranks before a read after the first p entries, where a join was declared or
+    /// dropped since that was last done, and none after these entries.
+    pub fn let_go(&mut self, p: u64) -> Result<(), OutOfMemory>
+        requires { p ≤ length self.old.history }
+        ensures goes { LetsGo self.old.history p self.old.cells self.new.cells }
+        ensures history { self.new.history ≡ self.old.history }
+    {
+        self.tower
+            .inner
+            .inner
+            .inner
+            .inner
+            .inner
+            .inner
+            .inner
+            .inner
+            .let_go(p)
     }
 
     /// Forgets which cells were used, so that the book is not told of them.

@@ -109,7 +109,9 @@ impl World {
         Ok(Done::Begun(position))
     }
 
-    /// A scan is answered up to a bound that goes on from its place. The cells that were used are told to the book afterwards.
+    /// A scan is answered up to a bound that goes on from its place. Before the first piece whose scan began after a join was
+    /// declared or dropped, the cells are freed that hold a range of a join which stands no more, or has another rank. The cells
+    /// that were used are told to the book afterwards.
     fn piece<L: Ledger>(
         &mut self,
         scan: u32,

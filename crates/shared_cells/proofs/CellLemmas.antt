@@ -1,5 +1,5 @@
 -- What a cell keeps, over longer histories, and as the join's that is asked for.
-use Rattle.std.proofs.Common.{◌≡◌, ℕ, zero, suc, ◌-◌, ◌<◌, ◌≤◌, List, [], ◌∷◌, ◌++◌, length, take, slice_get, Option, IfSome, Some, None, refl, sym, ap, ◌∙◌, subst, arith}
+use Rattle.std.proofs.Common.{◌≡◌, ℕ, ◌-◌, ◌<◌, ◌≤◌, length, take, Option, IfSome, Some, None, refl, sym, ◌∙◌, subst, arith}
 use Rattle.std.specs.Option.{IsSomeAnd}
 use Rattle.atomic_table.specs.Seated.{TableId}
 use Rattle.semantics.specs.Texts.{Table, Range, value_at, pairs_within}
@@ -20,10 +20,10 @@ use Rattle.range_state.specs.Held.{forgotten}
 use Rattle.range_state.specs.Ready.{IsReady}
 use Rattle.range_serving.specs.Serving.{IsBroughtTo, IsPast, output_within}
 use Rattle.range_serving.specs.Telling.{TellsOutput}
-use Rattle.cell_slots.specs.Slots.{IsDeclared, IsRightFor, StandsAs}
+use Rattle.cell_slots.specs.Slots.{IsDeclared, IsRightFor, StandsAs, IsRankIn, IsRankAt}
+use Rattle.cell_slots.proofs.DeclaredLemmas.{declared_over_longer, declared_once, has_rank, stands_ranked, stands_over}
 use Rattle.rank_layers.specs.Telling.{TellsJoin}
-use Rattle.rank_layers.proofs.PartLemmas.{declared_over_longer, declared_once, stands_over}
-use Rattle.shared_cells.specs.Bringing.{BringsTo, IsRankOf}
+use Rattle.shared_cells.specs.Bringing.{BringsTo}
 use Rattle.shared_cells.specs.Cells.{CellView, IsRightIn, IsCell, HasSamePlace, IsCellFor, IsLentFor, IsOutput, CanServe, IsReadyCell}
 
 -- ---- over longer histories
@@ -79,7 +79,7 @@ pub rank_of_lent : (cell : CellView) (h more : History) (at rank p : ℕ) (part 
     HasRank (joins_of (take p more)) s.join s.rank
 rank_of_lent cell h more at rank p part s j within prefix met lent stands =
     subst (λ (r : ℕ). HasRank (joins_of (take p more)) s.join r) (sym (ranked_of_lent cell at rank p part s lent))
-    (subst (λ (k : Join). HasRank (joins_of (take p more)) k rank) (sym (same_join cell h more at rank p part s j prefix met lent stands)) (stands_over h more p at rank j within prefix stands).ranked)
+    (subst (λ (k : Join). HasRank (joins_of (take p more)) k rank) (sym (same_join cell h more at rank p part s j prefix met lent stands)) (has_rank more p at rank j (stands_over h more p at rank j within prefix stands)))
 
 -- it has the whole part
 whole_of_lent : (cell : CellView) (at rank p : ℕ) (part : Range) (s : KeptRange) → IsLentFor cell at rank p part s → IsWithin part s.range
@@ -116,37 +116,22 @@ within_by (Some q) s h sound = sound.place
 pub stands_within : (s : KeptRange) (h : History) → IsSound s h → IfSome s.position (λ q. q ≤ length h)
 stands_within s h sound = within_by s.position s h sound
 
--- an entry of a history stands in its beginning, where that is long enough
-get-shorter : {A : Type 0} (xs ys : List A) (i : ℕ) (x : A) → i < length xs → slice_get (xs ++ ys) i ≡ Some x → slice_get xs i ≡ Some x
-get-shorter [] ys i x less is = absurd (omega arith)
-get-shorter (y ∷ xs) ys zero x less is = is
-get-shorter (y ∷ xs) ys (suc i) x less is = get-shorter xs ys i x (omega arith) is
-
--- a join that was declared by a position is declared in the beginning up to there
-declared_before : (h more : History) (at : ℕ) (j : Join) → IsPrefix h more → at ≤ length h → IsDeclared more at j → IsDeclared h at j
-declared_before h more at j prefix upto d = record {
-  counted = d.counted;
-  entry = d.entry;
-  stands = get-shorter h prefix.0 (at - 1) d.entry (omega (arith, d.counted)) (ap (λ (l : History). slice_get l (at - 1)) (sym prefix.1) ∙ d.stands);
-  declares = d.declares;
-}
-
 -- what a cell holds is right for what its pass has seen, by whatever name that goes
 pub right_here : (cell : CellView) (h : History) (at : ℕ) (s : KeptRange) → cell.pass.view ≡ h → cell.at ≡ at → IsRightIn cell.at cell.rank cell.range cell.pass s → IsRightFor h at s
 right_here cell h at s met place right =
     subst (λ (l : History). IsRightFor l at s) met (subst (λ (a : ℕ). IsRightFor cell.pass.view a s) place right.right)
 
 -- the rank that the join has after p entries, it has there in longer histories
-pub rank_over_longer : (h more : History) (p at rank : ℕ) → p ≤ length h → IsPrefix h more → IsRankOf h p at (Some rank) → IsRankOf more p at (Some rank)
-rank_over_longer h more p at rank within prefix is =
-    (is.0, λ j declared. subst (λ (l : History). HasRank (joins_of l) j rank) (sym (take_prefix p h more within prefix)) (is.1 j (declared_before h more at j prefix (omega (arith, is.0)) declared)))
+rank_over_longer : (h more : History) (p at rank : ℕ) → p ≤ length h → IsPrefix h more → IsRankAt h p at (Some rank) → IsRankAt more p at (Some rank)
+rank_over_longer h more p at rank within prefix is = subst (λ (l : History). IsRankIn (joins_of l) at (Some rank)) (sym (take_prefix p h more within prefix)) is
 
 -- what a cell holds stands after p entries with the cell's rank, where that is the one that its join has there
-pub rank_of_kept : (cell : CellView) (h more : History) (p : ℕ) (rank : Option ℕ) (s : KeptRange) → p ≤ length h → IsPrefix h more → cell.pass.view ≡ more → rank ≡ Some cell.rank → IsRankOf h p cell.at rank → IsRightIn cell.at cell.rank cell.range cell.pass s →
+pub rank_of_kept : (cell : CellView) (h more : History) (p : ℕ) (rank : Option ℕ) (s : KeptRange) → p ≤ length h → IsPrefix h more → cell.pass.view ≡ more → rank ≡ Some cell.rank → IsRankAt h p cell.at rank → IsRightIn cell.at cell.rank cell.range cell.pass s →
     HasRank (joins_of (take p more)) s.join s.rank
 rank_of_kept cell h more p rank s within prefix met same is right =
-    let there = rank_over_longer h more p cell.at cell.rank within prefix (subst (IsRankOf h p cell.at) same is) in
-    subst (λ (r : ℕ). HasRank (joins_of (take p more)) s.join r) (sym right.ranked) (there.1 s.join (right_here cell more cell.at s met refl right).declared)
+    let there = rank_over_longer h more p cell.at cell.rank within prefix (subst (IsRankAt h p cell.at) same is) in
+    let stands = stands_ranked more p cell.at cell.rank s.join (right_here cell more cell.at s met refl right).declared there in
+    subst (HasRank (joins_of (take p more)) s.join) (sym right.ranked) (has_rank more p cell.at cell.rank s.join stands)
 
 -- nothing is brought where nothing is kept
 pub brings_nothing : (p : ℕ) (held left : Option KeptRange) → held ≡ None → left ≡ None → BringsTo p held left

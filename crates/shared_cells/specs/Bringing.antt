@@ -1,17 +1,9 @@
 -- What it is to bring what a cell keeps to a position.
-use Rattle.std.specs.Prelude.{◌≡◌, ℕ, ◌≤◌, take, Option, IfSome, Some, None, Result, OnOk}
+use Rattle.std.specs.Prelude.{◌≡◌, ℕ, Option, Some, None, Result, OnOk}
 use Rattle.std.specs.Option.{IsSomeAnd}
-use Rattle.semantics.specs.Joins.{Join}
-use Rattle.semantics.specs.Histories.{History, joins_of}
-use Rattle.growing_history.specs.Entered.{HasRank}
 use Rattle.kept_ranges.specs.Sound.{KeptRange}
 use Rattle.range_serving.specs.Serving.{IsBroughtTo}
-use Rattle.cell_slots.specs.Slots.{IsDeclared}
 use Rattle.shared_cells.specs.Cells.{CellView}
-
--- the rank, where one is given, is the one that the join which was declared at a position has after the first p entries, and it is declared by then
-abbrev pub IsRankOf : History → ℕ → ℕ → Option ℕ → Type 0
-IsRankOf h p at rank = IfSome rank (λ r. (at ≤ p) × ((j : Join) → IsDeclared h at j → HasRank (joins_of (take p h)) j r))
 
 -- what is kept, if something is, was brought to a position
 abbrev pub BringsTo : ℕ → Option KeptRange → Option KeptRange → Type 0

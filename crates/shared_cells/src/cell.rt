@@ -12,9 +12,9 @@ ghost use Rattle.kept_ranges.specs.Sound.{IsSound, KeptRange};
 ghost use Rattle.range_state.specs.Ready.{HasSameSubject, IsReady};
 ghost use Rattle.range_state.specs.Since.{AnswersSince};
 ghost use Rattle.range_serving.specs.Serving.{IsBroughtTo, IsPast, StandsFrom, output_within};
-ghost use Rattle.cell_slots.specs.Slots.{IsDeclared, IsRightFor, StandsAs};
+ghost use Rattle.cell_slots.specs.Slots.{IsDeclared, IsRankAt, IsRightFor, StandsAs};
 ghost use Rattle.rank_layers.specs.Telling.{TellsJoin};
-ghost use Rattle.shared_cells.specs.Bringing.{BringsCell, IsRankOf};
+ghost use Rattle.shared_cells.specs.Bringing.{BringsCell};
 ghost use Rattle.shared_cells.specs.Cells.{CanBeLent, CanServe, HasSamePlace, IsLentFor, IsOutput, IsReadyCell, IsRightIn};
 
 use crate::ranked_join::RankedJoin;
@@ -436,8 +436,8 @@ impl<N: Naming> Cell<N> {
 
     /// Brings what is kept to where the first p entries stand, where it stands below: it is advanced. What is pending then
     /// stays so, what is forgotten stays so, and what stands past p stays there. The rank is the one that the join has after p
-    /// entries; where none is given, or another than the cell's, what is kept stays as it is and no step is taken, so that
-    /// nothing changes but what the cell's pass has seen. It and the reader see what either has seen.
+    /// entries, and none where it does not stand then; where it is not the cell's, what is kept stays as it is and no step is
+    /// taken, so that nothing changes but what the cell's pass has seen. It and the reader see what either has seen.
     ///
     /// On `OutOfMemory` what is kept stands where it stood, or at p, or nothing is kept.
     pub fn bring<R: Stacked<N>, L: Ledger>(
@@ -448,7 +448,7 @@ impl<N: Naming> Cell<N> {
         steps: &mut Steps<L>,
     ) -> Result<(), OutOfMemory>
         requires within { p ≤ length (R.list reader.old) }
-        requires rank { IsRankOf (R.list reader.old) p self.old.at rank }
+        requires rank { IsRankAt (R.list reader.old) p self.old.at rank }
         requires ranked { IfSome rank (λ r. r ≤ R.top) }
         ensures brings { BringsCell p rank result self.old self.new }
         ensures idle { (rank ≡ Some self.old.rank → ⊥) → steps.new ≡ steps.old }

@@ -7,9 +7,11 @@ ghost use Rattle.range_set.specs.Joined.{JoinTo as JoinPieces};
 ghost use Rattle.range_set.specs.Pieces.{range_of, ranges_of};
 
 use crate::cell::Cell;
+use crate::followed::Followed;
 use crate::idle::IdlePass;
 use crate::ranked_join::RankedJoin;
 use base_shards::Naming;
+use join_set::JoinSet;
 use key_space::Range;
 use out_of_memory::OutOfMemory;
 use range_set::{Piece, RangeSet};
@@ -51,11 +53,15 @@ enum Spot<N: Naming> {
 }
 
 /// The ranges that have a cell, by their join with its rank, and what stands at each cell's number. A join whose rank changed
-/// has other cells than before.
+/// has other cells than before. It follows the joins, to know whose cells nobody reads any more. A read at an earlier position
+/// may still give cells to other joins, and there are strays then.
 #[derive(Drop)]
 pub struct Directory<N: Naming> {
     alloc: Global,
+    followed: Followed,
+    has_strays: bool,
     listings: BTreeMap<RankedJoin, Listing>,
+    cells: u32,
     spots: Vec<Spot<N>>,
     free: Option<u32>,
 }
@@ -119,6 +125,7 @@ impl<N: Naming> Directory<N> {
         requires few { length passes.items ≤ 65536 }
         requires same_history { All (λ pass. pass.history ≡ N.history) passes.items }
     {
+        let cells = passes.len() as u32;
         let mut spots = Vec::with_capacity(alloc, passes.len())?;
         let mut free = None;
         for pass in passes {
@@ -128,7 +135,10 @@ impl<N: Naming> Directory<N> {
         }
         Ok(Directory {
             alloc,
+            followed: Followed::new(alloc),
+            has_strays: false,
             listings: BTreeMap::new(alloc),
+            cells,
             spots,
             free,
         })
@@ -146,6 +156,43 @@ impl<N: Naming> Directory<N> {
                 none.cover(range)
             }
         }
+    }
+
+    /// Whether a cell may be of a join that is not among these, or has another rank there, and these are no earlier ones than
+    /// those that are followed. It compares two numbers.
+    fn is_behind(&self, joins: &JoinSet) -> bool {
+        let changed = joins.changed_at();
+        let followed = self.followed.changed_at();
+        followed < changed || (followed == changed && self.has_strays)
+    }
+
+    /// Follows the joins of a set, where they are later than those that are followed, or there are strays, and gives the numbers
+    /// of the cells that are of none of them with its rank. No range of these has a cell any more.
+    ///
+    /// It compares two numbers, and only where it follows the joins searches for each cell. On `OutOfMemory` nothing changes.
+    pub fn follow(&mut self, joins: &JoinSet) -> Result<Vec<u32>, OutOfMemory> {
+        if !self.is_behind(joins) {
+            return Ok(Vec::new(self.alloc));
+        }
+        let followed = Followed::of(self.alloc, joins)?;
+        let left = self.left_by(&followed)?;
+        self.listings.retain(|join, _| followed.has(*join));
+        self.followed = followed;
+        self.has_strays = false;
+        Ok(left)
+    }
+
+    /// The numbers of the cells whose joins are not followed with their ranks.
+    fn left_by(&self, followed: &Followed) -> Result<Vec<u32>, OutOfMemory> {
+        let mut left = Vec::new(self.alloc);
+        for id in 0..self.cells {
+            if let Some(Spot::Taken(join, _, _)) = self.spots.get(id as usize)
+                && !followed.has(*join)
+            {
+                left.push(id)?;
+            }
+        }
+        Ok(left)
     }
 
     /// The range in parts, in order, each with the cell that has it for the join and its rank, where one does. To be kept, each
@@ -226,6 +273,9 @@ impl<N: Naming> Directory<N> {
         if !self.put_cell(id, join, place, own, shared) {
             self.unlist(join, range);
             return Ok(None);
+        }
+        if !self.followed.has(join) {
+            self.has_strays = true;
         }
         self.cell(id)
     }

@@ -9,6 +9,7 @@
 mod book;
 pub mod cell;
 mod directory;
+mod followed;
 mod idle;
 pub mod ranked_join;
 pub mod store;

@@ -6,6 +6,7 @@ use crate::book::CellBook;
 use crate::directory::{Directory, Part, SharedCell};
 use crate::ranked_join::RankedJoin;
 use base_shards::{BaseShards, Naming};
+use join_set::JoinSet;
 use key_space::Range;
 use out_of_memory::OutOfMemory;
 use shared_reader::Use;
@@ -14,13 +15,13 @@ use std::sync::{Mutex, Wait};
 use write_history::Pass;
 
 /// Cells that keep ranges of the outputs of joins, which threads share. A join is named by the position of its declaration,
-/// and with it its rank, which later declarations may change.
+/// and with it its rank, which later declarations and drops may change.
 ///
 /// A cell is made for one range of one join while it has one rank, and is for no other range, join or rank as long as there
 /// is the cell: who has looked it up and waits for its lock finds this range or none. So the order of locks, that of the ranks
 /// from the greatest down, is one order for good: were a cell also used while its join has another rank, two threads that read
 /// where the ranks of two joins stand the other way round could wait for each other. A join whose rank changed is given other
-/// cells; those that it had stay for reads before the change, until they are evicted.
+/// cells. Those that it had, and those of a join that was dropped, are evicted once the cells follow the change.
 ///
 /// The directory and the book are locked alone, one after the other.
 #[derive(Drop)]
@@ -71,6 +72,26 @@ impl<N: Naming> SharedCells<N> {
         match self.directory.lock(rt).cell(id)? {
             Some((_, cell)) => Ok(Some(cell)),
             None => Ok(None),
+        }
+    }
+
+    /// Follows the joins: where they are no earlier ones than those that were followed last, the cells of a join that stands no
+    /// more, or has another rank, are evicted. No lock of a cell or of a part may be held, as with `evict`. While another
+    /// thread has the directory, the book, such a cell or a part, this one sleeps.
+    ///
+    /// It compares two numbers. Where a join was declared or dropped since, or a read at an earlier position was given a cell
+    /// after that, it searches for each cell; where there is no memory for that, the next call does it.
+    pub fn follow<W: Wait>(&self, rt: &W, shards: &BaseShards<N>, joins: &JoinSet) {
+        let left = self.directory.lock(rt).follow(joins);
+        if let Ok(left) = left {
+            self.evict_all(rt, shards, left.as_slice());
+        }
+    }
+
+    /// Evicts the cells with these numbers, of which the book is told.
+    fn evict_all<W: Wait>(&self, rt: &W, shards: &BaseShards<N>, ids: &[u32]) {
+        for id in ids {
+            self.evict(rt, shards, *id);
         }
     }
 

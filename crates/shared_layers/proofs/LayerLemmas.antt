@@ -18,8 +18,8 @@ use Rattle.layering.proofs.PartLemmas.{parts_make_range}
 use Rattle.join_eval.specs.Moves.{Moves}
 use Rattle.cell_slots.specs.declared.slot.Part.{Part}
 use Rattle.cell_slots.specs.Slots.{IsDeclared, StandsAs}
+use Rattle.cell_slots.proofs.DeclaredLemmas.{declared_over_longer, declared_once, rank_declared, stands_over}
 use Rattle.rank_layers.specs.Telling.{ListsJoin}
-use Rattle.rank_layers.proofs.PartLemmas.{declared_once, stands_over}
 use Rattle.rank_layers.proofs.AboveLemmas.{bare_reached}
 use Rattle.rank_layers.proofs.TellingLemmas.{lists_more}
 use Rattle.shared_cells.specs.Cells.{IsOutput}
@@ -40,7 +40,7 @@ moves_around list floor went inner a b moves = record { kept = moves.kept; enter
 -- the join that was declared at a position has its rank over a longer history
 pub ranked_over : (h more : History) (p at rank : ℕ) (j k : Join) → p ≤ length h → IsPrefix h more → StandsAs h p at rank j → IsDeclared h at k → HasRank (joins_of (take p more)) k rank
 ranked_over h more p at rank j k less prefix stands declared =
-    subst (λ x. HasRank (joins_of (take p more)) x rank) (declared_once h at j k stands.declared declared) (stands_over h more p at rank j less prefix stands).ranked
+    rank_declared more p at rank j k (stands_over h more p at rank j less prefix stands) (declared_over_longer h more at k prefix declared)
 
 -- what the join that was declared at a position gives over a longer history
 pub output_alone : (h more : History) (p at rank : ℕ) (range part : Range) (k : Join) (pairs : Table) → p ≤ length h → IsPrefix h more → IsDeclared h at k → range ≡ part →

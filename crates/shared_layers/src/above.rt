@@ -64,10 +64,10 @@ pub fn pairs_above<N: Naming, W: Wait, G: Gate, R: Stacked<N>, L: Ledger>(
 /// top rank: what the reader says of the ranks below, and what the cells keep of the outputs of the joins of this rank that
 /// the range reaches.
 ///
-/// Where a join is declared between, they are the reader's keys if the range is bare throughout, and otherwise it is not
-/// known which. Nor is it where the reader does not know it of the ranks below, where no cell has
-/// some part of the range for such a join, and where what the cell keeps does not know it: it keeps nothing, its notes start
-/// later, or slots meet the part that are pending or were noted since.
+/// Where a join is declared or dropped between, they are the reader's keys if the range is bare throughout, and otherwise
+/// it is not known which. Nor is it where the reader does not know it of the ranks below, where no cell has some part of
+/// the range for such a join, and where what the cell keeps does not know it: it keeps nothing, its notes start later, or
+/// slots meet the part that are pending or were noted since.
 pub fn changed_above<N: Naming, W: Wait, G: Gate, R: Stacked<N>, L: Ledger>(
     room: &Room<'_, N, W, G>,
     rank: u8,

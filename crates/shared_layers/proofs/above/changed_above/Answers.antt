@@ -7,7 +7,8 @@ use Rattle.growing_history.proofs.PrefixLemmas.{prefix_length, prefix_trans, tak
 use Rattle.layering.specs.Reached.{reached}
 use Rattle.join_eval.specs.declared.between.Between.TheVariants.{Steady, Other}
 use Rattle.join_eval.specs.Answers.{AnswersChanges, TellsBetween}
-use Rattle.join_eval.proofs.BareLemmas.{bare_over, between_over}
+use Rattle.growing_history.proofs.BareLemmas.{bare_over}
+use Rattle.join_eval.proofs.BetweenLemmas.{between_over}
 use Rattle.join_eval.proofs.MovesLemmas.{moves_trans}
 use Rattle.rank_layers.proofs.TellingLemmas.{adds_over}
 use Rattle.rank_layers.proofs.AboveLemmas.{answers_with, entered_before, lists_above, lists_bare, never_bare, no_positions, some_positions}

@@ -8,7 +8,7 @@ use Rattle.growing_history.proofs.PrefixLemmas.{prefix_length}
 use Rattle.layering.specs.Merging.{Ascends}
 use Rattle.layering.specs.Reached.{reached}
 use Rattle.join_eval.proofs.MovesLemmas.{moves_trans}
-use Rattle.rank_layers.proofs.PartLemmas.{stands_over}
+use Rattle.cell_slots.proofs.DeclaredLemmas.{stands_over}
 use Rattle.rank_layers.proofs.JoinLemmas.{part_ascends, listed_stands, with_parts_more, merged_fewer}
 use Rattle.shared_layers.proofs.LayerLemmas.{output_over}
 use Rattle.shared_layers.proofs.outputs.add_outputs.Goals as goal

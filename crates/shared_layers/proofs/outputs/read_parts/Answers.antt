@@ -5,7 +5,8 @@ use Rattle.semantics.specs.Texts.{pairs_within}
 use Rattle.semantics.specs.Outputs.{out}
 use Rattle.semantics.specs.States.{below}
 use Rattle.join_eval.proofs.MovesLemmas.{moves_refl, moves_trans}
-use Rattle.rank_layers.proofs.PartLemmas.{stands_over, flat_map_more}
+use Rattle.cell_slots.proofs.DeclaredLemmas.{stands_over}
+use Rattle.rank_layers.proofs.PartLemmas.{flat_map_more}
 use Rattle.shared_layers.proofs.LayerLemmas.{output_over}
 use Rattle.shared_layers.proofs.outputs.read_parts.Goals as goal
 

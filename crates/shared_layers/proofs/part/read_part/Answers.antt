@@ -2,7 +2,7 @@ use Rattle.std.proofs.Common.{arith}
 use Rattle.std.proofs.lemmas.Result.{IfOk-weaker}
 use Rattle.growing_history.proofs.PrefixLemmas.{prefix_length}
 use Rattle.join_eval.proofs.MovesLemmas.{moves_trans}
-use Rattle.rank_layers.proofs.PartLemmas.{stands_over}
+use Rattle.cell_slots.proofs.DeclaredLemmas.{stands_over}
 use Rattle.shared_layers.proofs.LayerLemmas.{output_over}
 use Rattle.shared_layers.proofs.part.read_part.Goals as goal
 

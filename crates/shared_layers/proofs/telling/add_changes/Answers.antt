@@ -4,7 +4,7 @@ use Rattle.growing_history.proofs.PrefixLemmas.{prefix_length}
 use Rattle.layering.specs.Reached.{reached}
 use Rattle.join_eval.proofs.MovesLemmas.{moves_refl, moves_trans}
 use Rattle.rank_layers.specs.Telling.{TellsJoin}
-use Rattle.rank_layers.proofs.PartLemmas.{stands_over}
+use Rattle.cell_slots.proofs.DeclaredLemmas.{stands_over}
 use Rattle.rank_layers.proofs.JoinLemmas.{listed_stands}
 use Rattle.rank_layers.proofs.TellingLemmas.{added_none, added_more, added_all, lists_over}
 use Rattle.shared_layers.proofs.telling.add_changes.Goals as goal

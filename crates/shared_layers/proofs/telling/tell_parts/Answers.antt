@@ -4,7 +4,7 @@ use Rattle.growing_history.proofs.PrefixLemmas.{prefix_length}
 use Rattle.layering.specs.Parts.{JoinTo}
 use Rattle.join_eval.proofs.MovesLemmas.{moves_refl, moves_trans}
 use Rattle.rank_layers.specs.Telling.{ListsJoin, TellsJoin}
-use Rattle.rank_layers.proofs.PartLemmas.{stands_over}
+use Rattle.cell_slots.proofs.DeclaredLemmas.{stands_over}
 use Rattle.rank_layers.proofs.TellingLemmas.{lists_none, lists_over}
 use Rattle.shared_layers.proofs.LayerLemmas.{lists_one_more}
 use Rattle.shared_layers.proofs.telling.tell_parts.Goals as goal

@@ -1,5 +1,6 @@
-use Rattle.std.proofs.Common.{◌≡◌, List, Option, IfSome, IfNone, ◌∙◌, subst}
-use Rattle.semantics.specs.Histories.{DeclaredJoin, joins_of, changed_at}
+use Rattle.std.proofs.Common.{◌≡◌, Option, IfSome, IfNone, ◌∙◌, subst}
+use Rattle.semantics.specs.Histories.{changed_at}
+use Rattle.join_set.specs.Sets.{Joins, AreJoins}
 use Rattle.pequod_cache.proofs.JoinsLemmas.{keeps_longer, keeps_all, all_kept}
 use Rattle.pequod_cache.proofs.cache.Cache.look.Goals as goal
 
@@ -15,15 +16,15 @@ pub returns-in_default-clause-brought : goal.returns-in_default-clause-brought
 returns-in_default-clause-brought g c =
     let view = c.look_joins.new.pass.view in
     let kept = keeps_longer c.args.joins.now c.args.pass.now.view view c.look_joins.ensures.goes_on.begins c.requires.kept in
-    let same = subst (λ (told : Option (List DeclaredJoin)). IfNone told (changed_at view ≡ c.changed_at.result)) c.in_default.is c.in_ok-looked.ensures.same in
-    all_kept c.args.joins.now view kept (same ∙ c.changed_at.ensures)
+    let same = subst (λ (told : Option Joins). IfNone told (changed_at view ≡ c.changed_at.result)) c.in_default.is c.in_ok-looked.ensures.told.same in
+    all_kept c.args.joins.now view kept (same ∙ c.changed_at.ensures.changed)
 
 pub returns-clause-kept : goal.returns-clause-kept
 returns-clause-kept g c =
     let view = c.look_joins.new.pass.view in
-    keeps_all c.in-Some.found view (subst (λ (told : Option (List DeclaredJoin)). IfSome told (λ joins. joins ≡ joins_of view)) c.in-Some.is c.in_ok-looked.ensures.joins)
+    keeps_all c.in-Some.found view (subst (λ (told : Option Joins). IfSome told (λ joins. AreJoins 0 joins view)) c.in-Some.is c.in_ok-looked.ensures.told.joins)
 
 pub returns-clause-brought : goal.returns-clause-brought
 returns-clause-brought g c =
     let view = c.look_joins.new.pass.view in
-    subst (λ (told : Option (List DeclaredJoin)). IfSome told (λ joins. joins ≡ joins_of view)) c.in-Some.is c.in_ok-looked.ensures.joins
+    subst (λ (told : Option Joins). IfSome told (λ joins. AreJoins 0 joins view)) c.in-Some.is c.in_ok-looked.ensures.told.joins

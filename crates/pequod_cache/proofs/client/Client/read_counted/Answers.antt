@@ -1,6 +1,6 @@
-use Rattle.std.proofs.Common.{◌≡◌, Some, sym, ap, ◌∙◌, arith}
+use Rattle.std.proofs.Common.{◌≡◌, Some, sym, subst, arith}
 use Rattle.std.proofs.lemmas.List.{take_all}
-use Rattle.semantics.specs.Histories.{joins_of}
+use Rattle.join_set.specs.Sets.{AreJoins}
 use Rattle.pequod_cache.proofs.ClientLemmas.{client_reads_on, client_stays}
 use Rattle.pequod_cache.proofs.client.Client.read_counted.Goals as goal
 
@@ -13,7 +13,7 @@ invariant_of-self g c =
 pub read-reading-requires-clause-joins : goal.read-reading-requires-clause-joins
 read-reading-requires-clause-joins g c =
     let all = c.in-Ok.ensures.length in
-    c.in-Ok.ensures.brought ∙ ap joins_of (sym (take_all c.in-Ok.position c.look-looked.new.pass.view (omega (arith, all))))
+    subst (AreJoins 0 c.look-looked.new.joins) (sym (take_all c.in-Ok.position c.look-looked.new.pass.view (omega (arith, all)))) c.in-Ok.ensures.brought
 
 pub invariant_of-self-in_err-found : goal.invariant_of-self-in_err-found
 invariant_of-self-in_err-found g c =

@@ -1,16 +1,16 @@
 use Rattle.std.proofs.Common.{◌≤◌, length, IfSome, sym, ap, ◌∙◌, subst}
 use Rattle.write_history.specs.Passes.{PassView}
 use Rattle.semantics.specs.Histories.{History}
-use Rattle.shared_cells.specs.Bringing.{IsRankOf}
+use Rattle.cell_slots.specs.Slots.{IsRankAt}
 use Rattle.range_cells.proofs.TurnLemmas.{other_rank, rank_among}
 use Rattle.range_cells.proofs.range_cells.RangeCells.bring_cell.Goals as goal
 
 pub bring-brought-requires-clause-rank : goal.bring-brought-requires-clause-rank
 bring-brought-requires-clause-rank g c =
     let same = c.new-stack.ensures ∙ c.new-lowest.ensures in
-    let rank = rank_among c.args.pass.view c.args.p c.at.result c.args.joins.now c.rank_at-rank.result c.requires.joins c.rank_at-rank.ensures.rank c.rank_at-rank.ensures.declared in
-    subst (λ (p : PassView). IsRankOf p.view c.args.p c.args.cell.now.at c.rank_at-rank.result) (sym same)
-    (subst (λ n. IsRankOf c.args.pass.view c.args.p n c.rank_at-rank.result) c.at.ensures rank)
+    let rank = rank_among c.args.pass.view c.args.p c.at.result c.args.joins.now c.rank_of-rank.result c.requires.joins c.rank_of-rank.ensures.rank in
+    subst (λ (p : PassView). IsRankAt p.view c.args.p c.args.cell.now.at c.rank_of-rank.result) (sym same)
+    (subst (λ n. IsRankAt c.args.pass.view c.args.p n c.rank_of-rank.result) c.at.ensures rank)
 
 pub returns-in-Ok-clause-within : goal.returns-in-Ok-clause-within
 returns-in-Ok-clause-within g c =
@@ -19,12 +19,12 @@ returns-in-Ok-clause-within g c =
 
 pub returns-in-Ok-clause-left : goal.returns-in-Ok-clause-left
 returns-in-Ok-clause-left g c = λ other.
-    let rank = rank_among c.args.pass.view c.args.p c.at.result c.args.joins.now c.rank_at-rank.result c.requires.joins c.rank_at-rank.ensures.rank c.rank_at-rank.ensures.declared in
+    let rank = rank_among c.args.pass.view c.args.p c.at.result c.args.joins.now c.rank_of-rank.result c.requires.joins c.rank_of-rank.ensures.rank in
     c.bring-brought.ensures.brings.left
-    (other_rank c.args.pass.view c.args.p c.args.cell.now.at c.args.cell.now.rank c.rank_at-rank.result (subst (λ n. IsRankOf c.args.pass.view c.args.p n c.rank_at-rank.result) c.at.ensures rank) other)
+    (other_rank c.args.pass.view c.args.p c.args.cell.now.at c.args.cell.now.rank c.rank_of-rank.result (subst (λ n. IsRankAt c.args.pass.view c.args.p n c.rank_of-rank.result) c.at.ensures rank) other)
 
 pub returns-in-Err-clause-left : goal.returns-in-Err-clause-left
 returns-in-Err-clause-left g c = λ other.
-    let rank = rank_among c.args.pass.view c.args.p c.at.result c.args.joins.now c.rank_at-rank.result c.requires.joins c.rank_at-rank.ensures.rank c.rank_at-rank.ensures.declared in
+    let rank = rank_among c.args.pass.view c.args.p c.at.result c.args.joins.now c.rank_of-rank.result c.requires.joins c.rank_of-rank.ensures.rank in
     c.bring-brought.ensures.brings.left
-    (other_rank c.args.pass.view c.args.p c.args.cell.now.at c.args.cell.now.rank c.rank_at-rank.result (subst (λ n. IsRankOf c.args.pass.view c.args.p n c.rank_at-rank.result) c.at.ensures rank) other)
+    (other_rank c.args.pass.view c.args.p c.args.cell.now.at c.args.cell.now.rank c.rank_of-rank.result (subst (λ n. IsRankAt c.args.pass.view c.args.p n c.rank_of-rank.result) c.at.ensures rank) other)

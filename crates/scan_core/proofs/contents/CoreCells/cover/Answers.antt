@@ -9,7 +9,7 @@ use Rattle.growing_history.proofs.EnteredLemmas.{has_entered_taken}
 use Rattle.kept_ranges.specs.Sound.{KeptRange}
 use Rattle.cell_slots.specs.Slots.{Frame, IsReached, IsReadySlot, place_of, StandsAs}
 use Rattle.cell_slots.specs.Spending.{CoversReady, MayKeep, Reserves}
-use Rattle.rank_layers.proofs.PartLemmas.{declared_once}
+use Rattle.cell_slots.proofs.DeclaredLemmas.{declared_once}
 use Rattle.scan_core.specs.Rights.{Contents, contents_of}
 use Rattle.scan_core.proofs.LendingLemmas.{ready_over, reserves_over, frame_over}
 use Rattle.scan_core.proofs.RightLemmas.{places_of_table, reached_table, ready_rank, right_reserved}

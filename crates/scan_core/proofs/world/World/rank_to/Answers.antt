@@ -8,12 +8,6 @@ use Rattle.scan_core.proofs.StepLemmas.{world_of}
 use Rattle.scan_core.proofs.WorldLemmas.{rank_to_from}
 use Rattle.scan_core.proofs.world.World.rank_to.Goals as goal
 
-pub rank_at-requires-clause-declared : goal.rank_at-requires-clause-declared
-rank_at-requires-clause-declared c =
-    let held : slice_get c.self.inside.reader.cells.slots c.args.cell ≡ Some (Held c.in-Some-Held.at c.in-Some-Held.state) = sym c.slot.ensures ∙ ap option_copied c.in-Some-Held.is ∙ ap Some c.in-Some-Held.field-0-is in
-    let right : IsRightFor c.self.inside.reader.history c.in-Some-Held.at c.in-Some-Held.state = c.look.ensures.right.held c.args.cell (Held c.in-Some-Held.at c.in-Some-Held.state) held in
-    (c.in-Some-Held.state.join, right.declared)
-
 pub returns : goal.returns
 returns c =
     let held : slice_get c.self.inside.reader.cells.slots c.args.cell ≡ Some (Held c.in-Some-Held.at c.in-Some-Held.state) = sym c.slot.ensures ∙ ap option_copied c.in-Some-Held.is ∙ ap Some c.in-Some-Held.field-0-is in

@@ -4,7 +4,7 @@ use Rattle.std.proofs.lemmas.Result.{on_ok_weaker}
 use Rattle.join_eval.proofs.MovesLemmas.{moves_trans}
 use Rattle.rank_layers.proofs.PartLemmas.{right_after}
 use Rattle.write_history.specs.Passes.{PassView}
-use Rattle.shared_cells.specs.Bringing.{IsRankOf}
+use Rattle.cell_slots.specs.Slots.{IsRankAt}
 use Rattle.shared_cells.proofs.CellLemmas.{brings, brings_nothing, rank_of_kept, right_here}
 use Rattle.shared_cells.proofs.cell.Cell.bring.Goals as goal
 
@@ -26,7 +26,7 @@ catch_up-advanced-requires-clause-stands g c =
     let place = c.take_held.ensures.same_place.at ∙ c.meet.ensures.same_place.at in
     rank_of_kept c.take_held.new.self (list c.args.reader.now) (list c.meet.new.reader) c.args.p c.args.rank c.in-Some.state c.requires.within c.meet.ensures.moves.kept
     (ap (λ (p : PassView). p.view) c.take_held.ensures.pass ∙ c.meet.ensures.met) (c.if-not-is_for.ensures.yes refl ∙ ap (λ (n : ℕ). Some n) (sym c.take_held.ensures.same_place.rank))
-    (subst (λ (n : ℕ). IsRankOf (list c.args.reader.now) c.args.p n c.args.rank) (sym place) c.requires.rank) c.in-Some.ensures.right
+    (subst (λ (n : ℕ). IsRankAt (list c.args.reader.now) c.args.p n c.args.rank) (sym place) c.requires.rank) c.in-Some.ensures.right
 
 pub catch_up-advanced-requires-clause-ranked : goal.catch_up-advanced-requires-clause-ranked
 catch_up-advanced-requires-clause-ranked g c =

@@ -3,7 +3,7 @@ use Rattle.std.proofs.lemmas.Bool.{false≢true}
 use Rattle.std.proofs.lemmas.Option.{none-some}
 use Rattle.join_eval.proofs.MovesLemmas.{moves_trans}
 use Rattle.cell_slots.specs.Slots.{IsDeclared}
-use Rattle.rank_layers.proofs.PartLemmas.{declared_over_longer}
+use Rattle.cell_slots.proofs.DeclaredLemmas.{declared_over_longer}
 use Rattle.shared_cells.proofs.CellLemmas.{lent_of_kept, lent_of_new, ready_serves, same_place_back, serves_same}
 use Rattle.shared_cells.proofs.cell.Cell.lend.Goals as goal
 

@@ -1,0 +1,15 @@
+use Rattle.std.proofs.Common.{refl, sym, subst}
+use Rattle.join_set.specs.Sets.{Joins}
+use Rattle.pequod_cache.specs.Clients.{KeepsJoins}
+use Rattle.pequod_cache.proofs.JoinsLemmas.{keeps_none}
+use Rattle.pequod_cache.proofs.client.Client.new.Goals as goal
+
+pub invariant_of-result : goal.invariant_of-result
+invariant_of-result g c = record {
+  has = c.args.pass;
+  is = refl;
+  same_history = c.requires.same_history;
+  writer = c.requires.writer;
+  recorded = c.requires.recorded;
+  kept = subst (λ (joins : Joins). KeepsJoins joins c.args.pass.view) (sym c.new.ensures) (keeps_none c.args.pass.view);
+}

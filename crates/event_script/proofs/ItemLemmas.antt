@@ -1,19 +1,19 @@
 -- The items of a line by their number.
-use Rattle.std.proofs.Common.{◌≡◌, ◌<◌, ◌≤◌, ◌||◌, false, [], ◌∷◌, List, length, get_or, refl, sym, ap, arith}
+use Rattle.std.proofs.Common.{◌≡◌, ◌<◌, ◌≤◌, false, [], ◌∷◌, List, length, get_or, refl, sym, ap, arith}
 use Rattle.std.specs.Prelude.{Err, codes}
 use Rattle.serde_json.specs.View.{view, items_view}
 use Rattle.serde_json.specs.declared.value.Value.{Value}
 use Rattle.semantics.specs.Texts.{Text}
 use Rattle.protocol.specs.Requests.{form}
 use Rattle.core_events.specs.Scripts.{event_of_word}
-use Rattle.event_script.specs.Lines.{is_word, are_write}
+use Rattle.event_script.specs.Lines.{is_word, has_one_behind, are_write}
 
 -- two items are a write by the first
 pub two_are_write : (vs : List Value) (w : Value) → 2 ≤ length vs → length vs < 3 → w ≡ get_or vs 0 w →
-    are_write (items_view vs) ≡ (is_word (codes "remove") (view w) || is_word (codes "join") (view w))
+    are_write (items_view vs) ≡ has_one_behind (view w)
 two_are_write [] w h k e = absurd (omega arith)
 two_are_write (v ∷ []) w h k e = absurd (omega arith)
-two_are_write (v ∷ u ∷ []) w h k e = ap (λ x. is_word (codes "remove") (view x) || is_word (codes "join") (view x)) (sym e)
+two_are_write (v ∷ u ∷ []) w h k e = ap (λ x. has_one_behind (view x)) (sym e)
 two_are_write (v ∷ u ∷ t ∷ vs) w h k e = absurd (omega arith)
 
 -- three items are a write by the first

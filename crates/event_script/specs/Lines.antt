@@ -3,19 +3,23 @@ use Rattle.std.specs.Prelude.{◌||◌, codes, Bool, false, option_map, option_a
 use Rattle.std.specs.Option.{option_map_or}
 use Rattle.serde_json.specs.Data.{Data, null, boolean, number, string, array, object, Items, no_items, item}
 use Rattle.semantics.specs.Texts.{Text, same}
-use Rattle.protocol.specs.Requests.{LineFault, text_of, texts_of}
+use Rattle.protocol.specs.Requests.{LineFault, position_of, text_of, form_of}
 use Rattle.core_events.specs.Events.{Event, advance}
-use Rattle.core_events.specs.Scripts.{number_of, position_of, or_form, append_texts, piece_event}
+use Rattle.core_events.specs.Scripts.{number_of, or_form, append_texts, piece_event}
 
 -- whether a JSON value is this text
 abbrev pub is_word : Text → Data → Bool
 is_word text d = option_map_or (λ t. same t text) (text_of d) false
 
--- whether items have the number and the word of a put, a remove or a join
+-- whether a JSON value is the word of a remove, a join or a drop, which have one item behind it
+abbrev pub has_one_behind : Data → Bool
+has_one_behind word = is_word (codes "remove") word || is_word (codes "join") word || is_word (codes "drop") word
+
+-- whether items have the number and the word of a put, a remove, a join or a drop
 abbrev pub are_write : Items → Bool
 are_write no_items = false
 are_write (item word no_items) = false
-are_write (item word (item a no_items)) = is_word (codes "remove") word || is_word (codes "join") word
+are_write (item word (item a no_items)) = has_one_behind word
 are_write (item word (item a (item b no_items))) = is_word (codes "put") word
 are_write (item word (item a (item b (item c others)))) = false
 
@@ -30,7 +34,7 @@ is_write (object ms) = false
 
 -- the event by which a client appends a write
 abbrev pub append_event : Data → Data → Result Event LineFault
-append_event a b = or_form (option_and_then (λ client. option_map (append_texts client) (texts_of b)) (number_of a))
+append_event a b = or_form (option_and_then (λ client. option_map (append_texts client) (form_of b)) (number_of a))
 
 -- the event by which a scan is answered up to a text
 abbrev pub piece_of : Data → Data → Result Event LineFault

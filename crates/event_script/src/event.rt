@@ -5,13 +5,13 @@ ghost use Rattle.protocol.specs.Requests.{json_of, request_of_value};
 ghost use Rattle.core_events.specs.Scripts.{append_written, begin_event, piece_event, mend_event, ranged, event_of_one, event_of_two, event_of_three, event_of_word, event_of_items, event_of_value, event_of_json, event_of};
 ghost use Rattle.core_events.specs.PlainEvents.{plain_event};
 ghost use Rattle.event_script.specs.Plain.{IsFaultOf};
-ghost use Rattle.event_script.specs.Lines.{are_write, is_write, append_event, piece_of, advance_of};
+ghost use Rattle.event_script.specs.Lines.{has_one_behind, are_write, is_write, append_event, piece_of, advance_of};
 
-use crate::items::{is_word, number_of, position_of, text_of};
+use crate::items::{is_word, number_of};
 use core_events::{Event, ScanBound};
 use join_types::Write;
 use key_space::Range;
-use request_codec::{LineFault, Request, read_value};
+use request_codec::{LineFault, Request, position_of, read_value, text_of};
 use serde_json::Value;
 use std::alloc::Global;
 
@@ -24,25 +24,33 @@ fn read_written(alloc: Global, client: u32, request: &Value) -> Result<Event, Li
         Request::Put(key, value) => Write::Put(key, value),
         Request::Remove(key) => Write::Remove(key),
         Request::Declare(join) => Write::Declare(join),
+        Request::Drop(position) => Write::Drop(position),
         Request::Get(_) | Request::Scan(_) | Request::Quit => return Err(LineFault::Form),
     };
     Ok(Event::Append { client, write })
 }
 
-/// Whether items have the number and the word of a put, a remove or a join.
+/// Whether the value is the word of a remove, a join or a drop, which have one item behind it.
+fn has_one_behind(word: &Value) -> bool
+    ensures { result ≡ has_one_behind (view word.now) }
+{
+    is_word(word, "remove") || is_word(word, "join") || is_word(word, "drop")
+}
+
+/// Whether items have the number and the word of a put, a remove, a join or a drop.
 fn are_write(items: &[Value]) -> bool
     ensures { result ≡ are_write (items_view items.now) }
 {
     match items {
         [] => false,
         [_] => false,
-        [word, _] => is_word(word, "remove") || is_word(word, "join"),
+        [word, _] => has_one_behind(word),
         [word, _, _] => is_word(word, "put"),
         _ => false,
     }
 }
 
-/// Whether the value is an array with the number of items and the word of a put, a remove or a join.
+/// Whether the value is an array with the number of items and the word of a put, a remove, a join or a drop.
 fn is_write(value: &Value) -> bool
     ensures { result ≡ is_write (view value.now) }
 {

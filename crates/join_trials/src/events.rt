@@ -79,7 +79,7 @@ fn read_done(alloc: Global, field: &str) -> Option<Done> {
     let pairs = read_pairs(alloc, pairs)?;
     match word {
         "entered" => Some(Done::Entered(position)),
-        "late" => Some(Done::Refused(position, Cause::Late)),
+        "nojoin" => Some(Done::Refused(position, Cause::NoJoin)),
         "begun" => Some(Done::Begun(position)),
         "answered" => Some(Done::Answered),
         "brought" => Some(Done::Brought),

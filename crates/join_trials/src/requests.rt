@@ -34,6 +34,10 @@ fn tell_request(request: &Request, answer: &mut Answer) {
             answer.say("join of");
             answer.tell(&join.sources.len());
         }
+        Request::Drop(position) => {
+            answer.say("drop");
+            answer.tell(position);
+        }
         Request::Quit => answer.say("quit"),
     }
 }

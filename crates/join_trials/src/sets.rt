@@ -1,8 +1,8 @@
 // The verdicts of writes after others, and sets of joins that may stand.
 //
-// Writes are offered in order, and each that nothing refuses enters. A join is refused by the first that holds of: a put or
-// remove has entered, the rule on slots, the rule on sources, a clash of outputs, a cycle, a rank above 7, and 64 joins that
-// stand; a put or remove where its key is computed.
+// Writes are offered in order, and each that nothing refuses enters. A join is refused by the first that holds of: the rule on
+// slots, the rule on sources, a clash of outputs, a cycle, a rank above 7, and 64 joins that stand; a put or remove where its key
+// is computed; a drop where no join stands that was declared at its position.
 use crate::answer::Answer;
 use crate::words::{read_numbers, read_write, tell_cause};
 use join_lang::{parse, print};
@@ -36,17 +36,48 @@ pub fn tell_joins(alloc: Global, joins: &JoinSet, answer: &mut Answer) -> Option
     Some(())
 }
 
-/// Takes one step: a write is offered, `length` asks for the number of entries, `count` for the number of joins, and `joins` for
-/// each of them.
+/// Tells the joins that stood after so many entries.
+fn tell_earlier(
+    alloc: Global,
+    standing: &Standing,
+    entries: &str,
+    answer: &mut Answer,
+) -> Option<()> {
+    let entries = entries.parse::<u64>().ok()?;
+    if entries > standing.length() {
+        return None;
+    }
+    let joins = standing.joins_at(entries).ok()?;
+    tell_joins(alloc, &joins, answer)
+}
+
+/// Tells whether a table is bare from a position on, which stand beside each other: `POSITION TABLE`.
+fn tell_bare(joins: &JoinSet, asked: &str, answer: &mut Answer) -> Option<()> {
+    let (position, table) = asked.split_once(' ')?;
+    let position = position.parse::<u64>().ok()?;
+    answer.tell(&joins.bare_since(position, table));
+    Some(())
+}
+
+/// Takes one step: a write is offered, `length` asks for the number of entries, `count` for the number of joins, `changed` for
+/// the last declaration or drop, `bare POSITION TABLE` whether the table is bare from there on, `joins` for each join, and
+/// `joins NUMBER` for those after so many entries.
 fn take_step(
     alloc: Global,
     standing: &mut Standing,
     step: &str,
     answer: &mut Answer,
 ) -> Option<()> {
+    if let Some(asked) = step.strip_prefix("bare ") {
+        return tell_bare(standing.joins(), asked, answer);
+    }
+    if let Some(entries) = step.strip_prefix("joins ") {
+        return tell_earlier(alloc, standing, entries, answer);
+    }
     match step {
         "length" => answer.tell(&standing.length()),
         "count" => answer.tell(&standing.joins().len()),
+        "changed" => answer.tell(&standing.joins().changed_at()),
         "joins" => return tell_joins(alloc, standing.joins(), answer),
         _ => {
             let write = read_write(alloc, step)?;
@@ -103,6 +134,39 @@ fn grow(alloc: Global, fields: &mut Fields<'_>, answer: &mut Answer) -> Option<(
     tell_joins(alloc, &copy, answer)
 }
 
+/// Returns the set of the first join at the position 4 and the second at 5, from which the one at a position is taken out at 6.
+/// It tells whether that is refused.
+fn shrink_set(
+    alloc: Global,
+    first: Join,
+    second: Join,
+    position: u64,
+    answer: &mut Answer,
+) -> Result<JoinSet, AddFault> {
+    let mut set = JoinSet::new(alloc);
+    set.add(4, first)?;
+    set.add(5, second)?;
+    match set.remove(6, position) {
+        Ok(()) => answer.say("not refused"),
+        Err(fault) => answer.tell(&fault),
+    }
+    Ok(set)
+}
+
+/// Takes a join out of a set of two, and tells the last change, whether a table is bare from the positions 5 and 6 on, and the
+/// joins that are left.
+fn shrink(alloc: Global, fields: &mut Fields<'_>, answer: &mut Answer) -> Option<()> {
+    let first = parse(alloc, fields.next()).ok()?;
+    let second = parse(alloc, fields.next()).ok()?;
+    let position = fields.next().parse::<u64>().ok()?;
+    let table = fields.next();
+    let set = shrink_set(alloc, first, second, position, answer).ok()?;
+    answer.tell(&set.changed_at());
+    answer.tell(&set.bare_since(5, table));
+    answer.tell(&set.bare_since(6, table));
+    tell_joins(alloc, &set, answer)
+}
+
 /// Tells the fault of a name and of numbers.
 fn tell_fault(alloc: Global, fields: &mut Fields<'_>, answer: &mut Answer) -> Option<()> {
     let name = fields.next();
@@ -126,6 +190,7 @@ pub fn run(alloc: Global, kind: &str, fields: &mut Fields<'_>, answer: &mut Answ
     match kind {
         "writes" => take_steps(alloc, fields, answer),
         "grow" => grow(alloc, fields, answer),
+        "shrink" => shrink(alloc, fields, answer),
         "fault" => tell_fault(alloc, fields, answer),
         _ => None,
     }

@@ -47,11 +47,14 @@ pub fn read_pairs(alloc: Global, field: &str) -> Option<Vec<Pair>> {
     Some(pairs)
 }
 
-/// Returns the write that a field is: `put KEY=VALUE`, `remove KEY` or the text of a join.
+/// Returns the write that a field is: `put KEY=VALUE`, `remove KEY`, `drop POSITION` or the text of a join.
 pub fn read_write(alloc: Global, field: &str) -> Option<Write> {
     if let Some(pair) = field.strip_prefix("put ") {
         let pair = read_pair(alloc, pair)?;
         return Some(Write::Put(pair.key, pair.value));
+    }
+    if let Some(position) = field.strip_prefix("drop ") {
+        return Some(Write::Drop(position.parse::<u64>().ok()?));
     }
     match field.strip_prefix("remove ") {
         Some(key) => Some(Write::Remove(Key::read(alloc, key).ok()?)),
@@ -75,6 +78,10 @@ pub fn tell_write(alloc: Global, write: &Write, answer: &mut Answer) -> Option<(
             let text = print(alloc, join).ok()?;
             answer.say(text.as_str());
         }
+        Write::Drop(position) => {
+            answer.say("drop");
+            answer.tell(position);
+        }
     }
     Some(())
 }
@@ -85,8 +92,8 @@ pub fn read_cause(alloc: Global, name: &str, numbers: &str) -> Option<Cause> {
     let first = numbers.first().copied().unwrap_or(0);
     match name {
         "computed" => Some(Cause::Computed(first)),
-        "late" => Some(Cause::Late),
         "full" => Some(Cause::Full),
+        "nojoin" => Some(Cause::NoJoin),
         "slots" => Some(Cause::Slots),
         "sources" => Some(Cause::Sources),
         "clash" => Some(Cause::Clash(first)),
@@ -104,8 +111,8 @@ pub fn tell_cause(cause: &Cause, answer: &mut Answer) {
             answer.say("computed");
             answer.tell(position);
         }
-        Cause::Late => answer.say("late"),
         Cause::Full => answer.say("full"),
+        Cause::NoJoin => answer.say("nojoin"),
         Cause::Slots => answer.say("slots"),
         Cause::Sources => answer.say("sources"),
         Cause::Clash(position) => {

@@ -34,7 +34,7 @@ pub struct Serving<'a> {
 
 /// Copies of the joins of a set, in order.
 fn copies(alloc: Global, set: &JoinSet) -> Result<Vec<Join>, OutOfMemory>
-    ensures { IfOk result (λ joins. joins.items ≡ map (λ s. s.join) set.now) }
+    ensures { IfOk result (λ joins. joins.items ≡ map (λ s. s.join) set.now.standing) }
 {
     let mut joins = Vec::with_capacity(alloc, set.len())?;
     for i in 0..set.len() {

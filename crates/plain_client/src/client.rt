@@ -105,6 +105,7 @@ impl PlainClient {
             Request::Put(key, value) => self.write(Write::Put(key, value)),
             Request::Remove(key) => self.write(Write::Remove(key)),
             Request::Declare(join) => self.write(Write::Declare(join)),
+            Request::Drop(position) => self.write(Write::Drop(position)),
             Request::Get(key) => self.get(&key),
             Request::Scan(range) => self.scan(&range),
             Request::Quit => unreachable!(),

@@ -1,75 +1,86 @@
 -- The request that the items of an array are, by their number and the texts at their places.
-use Rattle.std.proofs.Common.{◌≡◌, ℕ, ◌<◌, zero, suc, List, [], ◌∷◌, length, Option, Some, None, option_map, option_and_then, Err, refl, ap, arith}
-use Rattle.std.specs.Prelude.{slice_get}
-use Rattle.serde_json.specs.Data.{Data, null, boolean, number, string, array, object}
-use Rattle.serde_json.specs.View.{items_of}
-use Rattle.serde_json.specs.Find.{as_str}
+use Rattle.std.proofs.Common.{◌≡◌, ℕ, ◌≤◌, List, [], ◌∷◌, length, Option, Some, None, option_map, option_and_then, Err, refl, arith}
+use Rattle.serde_json.specs.Data.{Data, Items, item, no_items}
+use Rattle.serde_json.specs.View.{view, items_view}
+use Rattle.serde_json.specs.declared.value.Value.{Value}
 use Rattle.semantics.specs.Texts.{Text}
-use Rattle.protocol.specs.Requests.{form, text_of, texts_of_items, request_of_form}
+use Rattle.protocol.specs.Requests.{form, text_of, position_of, with_text, last_item, texts_and_position, request_of_form}
+use Rattle.request_codec.specs.Items.{request_of_items, request_of_numbered}
 
--- the text at a place, where it is one
-abbrev pub text_in : List Data → ℕ → Option Text
-text_in ds place = option_and_then text_of (slice_get ds place)
+-- a position alone is no form
+position_alone : (o : Option ℕ) → request_of_form (last_item None o) ≡ Err form
+position_alone None = refl
+position_alone (Some n) = refl
 
--- the two names of a value's text
-pub as_str-text_of : (d : Data) → as_str d ≡ text_of d
-as_str-text_of null = refl
-as_str-text_of (boolean b) = refl
-as_str-text_of (number n) = refl
-as_str-text_of (string s) = refl
-as_str-text_of (array ds) = refl
-as_str-text_of (object ms) = refl
+-- an item that is no text is no form
+pub no_word : (d : Data) → text_of d ≡ None → request_of_items (item d no_items) ≡ Err form
+no_word d h = rw h (position_alone (position_of d))
 
--- the texts of one item
-pub one_text : (ds : List Data) (t : Text) → length ds ≡ 1 → text_in ds 0 ≡ Some t → texts_of_items (items_of ds) ≡ Some (t ∷ [])
-one_text [] t size h = absurd (omega arith)
-one_text (d ∷ []) t size h = rw h refl
-one_text (d ∷ e ∷ ds) t size h = absurd (omega arith)
+-- a text and what is none behind it are what the text and the position are, if it is one
+pub numbered_last : (d e : Data) (t : Text) → text_of d ≡ Some t → text_of e ≡ None → request_of_items (item d (item e no_items)) ≡ request_of_numbered t (position_of e)
+numbered_last d e t h k = rw (h, k) refl
 
--- the texts of two items
-pub two_texts : (ds : List Data) (t u : Text) → length ds ≡ 2 → text_in ds 0 ≡ Some t → text_in ds 1 ≡ Some u → texts_of_items (items_of ds) ≡ Some (t ∷ u ∷ [])
-two_texts [] t u size h k = absurd (omega arith)
-two_texts (d ∷ []) t u size h k = absurd (omega arith)
-two_texts (d ∷ e ∷ []) t u size h k = rw (h, k) refl
-two_texts (d ∷ e ∷ f ∷ ds) t u size h k = absurd (omega arith)
+-- a position behind two texts is no form
+position_third : (t u : Text) (o : Option ℕ) → request_of_form (option_map (with_text t) (option_map (with_text u) (last_item None o))) ≡ Err form
+position_third t u None = refl
+position_third t u (Some n) = refl
 
--- the texts of three items
-pub three_texts : (ds : List Data) (t u v : Text) → length ds ≡ 3 → text_in ds 0 ≡ Some t → text_in ds 1 ≡ Some u → text_in ds 2 ≡ Some v → texts_of_items (items_of ds) ≡ Some (t ∷ u ∷ v ∷ [])
-three_texts [] t u v size h k l = absurd (omega arith)
-three_texts (d ∷ []) t u v size h k l = absurd (omega arith)
-three_texts (d ∷ e ∷ []) t u v size h k l = absurd (omega arith)
-three_texts (d ∷ e ∷ f ∷ []) t u v size h k l = rw (h, k, l) refl
-three_texts (d ∷ e ∷ f ∷ g ∷ ds) t u v size h k l = absurd (omega arith)
+-- three items of which the last is no text are no form
+pub no_third : (d e f : Data) (t u : Text) → text_of d ≡ Some t → text_of e ≡ Some u → text_of f ≡ None → request_of_items (item d (item e (item f no_items))) ≡ Err form
+no_third d e f t u h k l = rw (h, k, l) (position_third t u (position_of f))
 
--- where one behind is no text, the list is none
-none_behind : (o : Option Text) (rest : Option (List Text)) → rest ≡ None → option_and_then (λ t. option_map (λ ts. t ∷ ts) rest) o ≡ None
-none_behind None rest e = refl
-none_behind (Some t) rest e = rw e refl
+-- ---- four items or more
 
--- where one at a place is no text, the list is none
-none_at : (ds : List Data) (place : ℕ) → place < length ds → text_in ds place ≡ None → texts_of_items (items_of ds) ≡ None
-none_at [] place within h = absurd (omega arith)
-none_at (d ∷ ds) zero within h = rw h refl
-none_at (d ∷ ds) (suc place) within h = none_behind (text_of d) _ (none_at ds place (omega arith) h)
+-- what four items or more can be: no texts, four texts or more, or three or more with a position behind them
+pub record HoldsOfFour (P : Option (List Text × Option ℕ) → Type 0) : Type 0 where
+  pub none : P None
+  pub texts : (t u v w : Text) (ts : List Text) → P (Some (t ∷ u ∷ v ∷ w ∷ ts, None))
+  pub position : (t u v : Text) (ts : List Text) (n : ℕ) → P (Some (t ∷ u ∷ v ∷ ts, Some n))
 
--- where an item is no text, the value is no form
-pub form_none : (ds : List Data) (place : ℕ) → place < length ds → text_in ds place ≡ None → request_of_form (texts_of_items (items_of ds)) ≡ Err form
-form_none ds place within h = ap request_of_form (none_at ds place within h)
+-- three texts before what others are
+abbrev behind_three : Text → Text → Text → Option (List Text × Option ℕ) → Option (List Text × Option ℕ)
+behind_three t u v others = option_map (with_text t) (option_map (with_text u) (option_map (with_text v) others))
 
--- four texts or more are no form
-form_of_four : (a b c d : Option Text) (rest : Option (List Text)) →
-    request_of_form (option_and_then (λ t. option_map (λ ts. t ∷ ts) (option_and_then (λ t. option_map (λ ts. t ∷ ts) (option_and_then (λ t. option_map (λ ts. t ∷ ts) (option_and_then (λ t. option_map (λ ts. t ∷ ts) rest) d)) c)) b)) a) ≡ Err form
-form_of_four None b c d rest = refl
-form_of_four (Some t) None c d rest = refl
-form_of_four (Some t) (Some u) None d rest = refl
-form_of_four (Some t) (Some u) (Some v) None rest = refl
-form_of_four (Some t) (Some u) (Some v) (Some w) None = refl
-form_of_four (Some t) (Some u) (Some v) (Some w) (Some rest) = refl
+-- a last item behind three texts
+three_and_last : (P : Option (List Text × Option ℕ) → Type 0) → HoldsOfFour P → (t u v : Text) (text : Option Text) (position : Option ℕ) →
+    P (behind_three t u v (last_item text position))
+three_and_last P h t u v (Some w) position = h.texts t u v w []
+three_and_last P h t u v None (Some n) = h.position t u v [] n
+three_and_last P h t u v None None = h.none
 
--- another number of items than one, two or three is no form
-pub form_other : (ds : List Data) → (length ds ≡ 1 → ⊥) → (length ds ≡ 2 → ⊥) → (length ds ≡ 3 → ⊥) → request_of_form (texts_of_items (items_of ds)) ≡ Err form
-form_other [] one two three = refl
-form_other (d ∷ []) one two three = absurd (one (omega arith))
-form_other (d ∷ e ∷ []) one two three = absurd (two (omega arith))
-form_other (d ∷ e ∷ f ∷ []) one two three = absurd (three (omega arith))
-form_other (d ∷ e ∷ f ∷ g ∷ ds) one two three = form_of_four (text_of d) (text_of e) (text_of f) (text_of g) (texts_of_items (items_of ds))
+-- a text and others behind three texts
+three_and_more : (P : Option (List Text × Option ℕ) → Type 0) → HoldsOfFour P → (t u v : Text) (text : Option Text) (others : Option (List Text × Option ℕ)) →
+    P (behind_three t u v (option_and_then (λ w. option_map (with_text w) others) text))
+three_and_more P h t u v None others = h.none
+three_and_more P h t u v (Some w) None = h.none
+three_and_more P h t u v (Some w) (Some (ts, None)) = h.texts t u v w ts
+three_and_more P h t u v (Some w) (Some (ts, Some n)) = h.position t u v (w ∷ ts) n
+
+-- items behind three texts
+three_and_items : (P : Option (List Text × Option ℕ) → Type 0) → HoldsOfFour P → (t u v : Text) (d : Data) (ds : Items) →
+    P (behind_three t u v (texts_and_position (item d ds)))
+three_and_items P h t u v d no_items = three_and_last P h t u v (text_of d) (position_of d)
+three_and_items P h t u v d (item e ds) = three_and_more P h t u v (text_of d) (texts_and_position (item e ds))
+
+-- items behind three that may be texts
+behind_items : (P : Option (List Text × Option ℕ) → Type 0) → HoldsOfFour P → (a b c : Option Text) (d : Data) (ds : Items) →
+    P (option_and_then (λ t. option_map (with_text t) (option_and_then (λ t. option_map (with_text t) (option_and_then (λ t. option_map (with_text t) (texts_and_position (item d ds))) c)) b)) a)
+behind_items P h None b c d ds = h.none
+behind_items P h (Some t) None c d ds = h.none
+behind_items P h (Some t) (Some u) None d ds = h.none
+behind_items P h (Some t) (Some u) (Some v) d ds = three_and_items P h t u v d ds
+
+pub four_or_more : (P : Option (List Text × Option ℕ) → Type 0) → HoldsOfFour P → (a b c d : Data) (ds : Items) →
+    P (texts_and_position (item a (item b (item c (item d ds)))))
+four_or_more P h a b c d ds = behind_items P h (text_of a) (text_of b) (text_of c) d ds
+
+-- they are no form
+abbrev are_no_form : HoldsOfFour (λ items. request_of_form items ≡ Err form)
+are_no_form = record { none = refl; texts = λ t u v w ts. refl; position = λ t u v ts n. refl }
+
+pub four_items : (vs : List Value) → 4 ≤ length vs → request_of_items (items_view vs) ≡ Err form
+four_items [] h = absurd (omega arith)
+four_items (v ∷ []) h = absurd (omega arith)
+four_items (v ∷ u ∷ []) h = absurd (omega arith)
+four_items (v ∷ u ∷ t ∷ []) h = absurd (omega arith)
+four_items (v ∷ u ∷ t ∷ s ∷ vs) h = four_or_more (λ items. request_of_form items ≡ Err form) are_no_form (view v) (view u) (view t) (view s) (items_view vs)

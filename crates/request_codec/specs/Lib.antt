@@ -2,3 +2,4 @@ pub mod Plain
 pub mod LineFaults
 pub mod Feeding
 pub mod Tokens
+pub mod Items

@@ -6,7 +6,7 @@ use Rattle.protocol.specs.Requests as plain
 use Rattle.protocol.specs.Replies as replies
 use Rattle.join_types.specs.Causes.{plain_cause}
 use Rattle.request_codec.specs.declared.request.Request.{Request}
-use Rattle.request_codec.specs.declared.request.Request.TheVariants.{Put, Remove, Get, Scan, Declare, Quit}
+use Rattle.request_codec.specs.declared.request.Request.TheVariants.{Put, Remove, Get, Scan, Declare, Drop, Quit}
 use Rattle.request_codec.specs.declared.request.LineFault.{LineFault}
 use Rattle.request_codec.specs.declared.request.LineFault.TheVariants.{Json, Form, Key, Value, Range, Syntax, OutOfMemory}
 use Rattle.request_codec.specs.declared.reply.Reply.{Reply}
@@ -19,6 +19,7 @@ plain_request (Remove key) = plain.write (writes.remove key)
 plain_request (Get key) = plain.read (answers.get key)
 plain_request (Scan range) = plain.read (answers.scan range)
 plain_request (Declare join) = plain.write (writes.declare join)
+plain_request (Drop position) = plain.write (writes.drop_join position)
 plain_request Quit = plain.quit
 
 -- what a fault says of the line, which is nothing where memory ran out

@@ -5,6 +5,7 @@
 #![tactic(auto)]
 
 pub mod fixed;
+pub mod items;
 pub mod line_laws;
 pub mod lines;
 pub mod reading;
@@ -14,6 +15,7 @@ pub mod rows;
 pub mod writing;
 
 pub use fixed::{LONG_LINE, MEMORY_LINE, OkLine, long_line, memory_line, write_ok};
+pub use items::{position_of, text_of};
 pub use lines::{Fed, LINE_END, Lines, find_line_end};
 pub use reading::{read, read_value};
 pub use reply::Reply;

@@ -1,10 +1,13 @@
 // Requests from lines.
-ghost use Rattle.std.specs.Prelude.{◌≡◌, IfOk, IfErr, Some, Ok, length, map, slice_get, option_map, option_and_then};
+ghost use Rattle.std.specs.Prelude.{◌≡◌, IfOk, IfErr, Some, Ok};
+ghost use Rattle.serde_json.specs.Data.{item, no_items};
 ghost use Rattle.serde_json.specs.View.{view, items_view};
-ghost use Rattle.protocol.specs.Requests.{json_of, text_of, texts_of_items, put_request, remove_request, get_request, scan_request, join_or_syntax, request_of_one, request_of_two, request_of_three, request_of_form, request_of_value, request_of_json, request_of};
+ghost use Rattle.protocol.specs.Requests.{json_of, position_of, put_request, remove_request, get_request, scan_request, join_or_syntax, request_of_one, request_of_two, request_of_three, request_of_value, request_of_json, request_of};
 ghost use Rattle.protocol.specs.JoinText.{read_join};
+ghost use Rattle.request_codec.specs.Items.{request_of_items, request_of_numbered};
 ghost use Rattle.request_codec.specs.Plain.{plain_request, IsFaultOf};
 
+use crate::items::{position_of, text_of};
 use crate::request::{LineFault, Request};
 use join_lang::parse;
 use key_space::{Key, Range, Value};
@@ -99,56 +102,63 @@ fn read_three(alloc: Global, word: &str, first: &str, second: &str) -> Result<Re
     }
 }
 
-/// The text of the item at a place, where there is one and it is a text.
-fn text_at(items: &[Json], place: usize) -> Option<&str>
-    ensures { option_map (λ text. text.now) result ≡ option_and_then text_of (slice_get (map view items.now) place) }
+/// The request of a word and the position behind it.
+fn read_numbered(word: &str, last: &Json) -> Result<Request, LineFault>
+    ensures request { IfOk result (λ request. request_of_numbered word.now (position_of (view last.now)) ≡ Ok (plain_request request)) }
+    ensures fault { IfErr result (IsFaultOf (request_of_numbered word.now (position_of (view last.now)))) }
 {
-    match items.get(place) {
-        Some(item) => item.as_str(),
-        None => None,
+    let Some(position) = position_of(last) else {
+        return Err(LineFault::Form);
+    };
+    if word == "drop" {
+        Ok(Request::Drop(position))
+    } else {
+        Err(LineFault::Form)
     }
 }
 
 /// The request that one item is.
-fn read_word(items: &[Json]) -> Result<Request, LineFault>
-    requires { length items.now ≡ 1 }
-    ensures request { IfOk result (λ request. request_of_form (texts_of_items (items_view items.now)) ≡ Ok (plain_request request)) }
-    ensures fault { IfErr result (IsFaultOf (request_of_form (texts_of_items (items_view items.now)))) }
+fn read_word(word: &Json) -> Result<Request, LineFault>
+    ensures request { IfOk result (λ request. request_of_items (item (view word.now) no_items) ≡ Ok (plain_request request)) }
+    ensures fault { IfErr result (IsFaultOf (request_of_items (item (view word.now) no_items))) }
 {
-    let Some(word) = text_at(items, 0) else {
+    let Some(word) = text_of(word) else {
         return Err(LineFault::Form);
     };
     read_one(word)
 }
 
-/// The request that two items are.
-fn read_word_and_text(alloc: Global, items: &[Json]) -> Result<Request, LineFault>
-    requires { length items.now ≡ 2 }
-    ensures request { IfOk result (λ request. request_of_form (texts_of_items (items_view items.now)) ≡ Ok (plain_request request)) }
-    ensures fault { IfErr result (IsFaultOf (request_of_form (texts_of_items (items_view items.now)))) }
+/// The request that two items are: a word, and a text or a position. Linear in the text.
+fn read_word_and_last(alloc: Global, word: &Json, last: &Json) -> Result<Request, LineFault>
+    ensures request { IfOk result (λ request. request_of_items (item (view word.now) (item (view last.now) no_items)) ≡ Ok (plain_request request)) }
+    ensures fault { IfErr result (IsFaultOf (request_of_items (item (view word.now) (item (view last.now) no_items)))) }
 {
-    let Some(word) = text_at(items, 0) else {
+    let Some(word) = text_of(word) else {
         return Err(LineFault::Form);
     };
-    let Some(text) = text_at(items, 1) else {
-        return Err(LineFault::Form);
-    };
-    read_two(alloc, word, text)
+    match text_of(last) {
+        Some(text) => read_two(alloc, word, text),
+        None => read_numbered(word, last),
+    }
 }
 
-/// The request that three items are.
-fn read_word_and_texts(alloc: Global, items: &[Json]) -> Result<Request, LineFault>
-    requires { length items.now ≡ 3 }
-    ensures request { IfOk result (λ request. request_of_form (texts_of_items (items_view items.now)) ≡ Ok (plain_request request)) }
-    ensures fault { IfErr result (IsFaultOf (request_of_form (texts_of_items (items_view items.now)))) }
+/// The request that three items are. Linear in their texts.
+fn read_word_and_texts(
+    alloc: Global,
+    word: &Json,
+    first: &Json,
+    second: &Json,
+) -> Result<Request, LineFault>
+    ensures request { IfOk result (λ request. request_of_items (item (view word.now) (item (view first.now) (item (view second.now) no_items))) ≡ Ok (plain_request request)) }
+    ensures fault { IfErr result (IsFaultOf (request_of_items (item (view word.now) (item (view first.now) (item (view second.now) no_items))))) }
 {
-    let Some(word) = text_at(items, 0) else {
+    let Some(word) = text_of(word) else {
         return Err(LineFault::Form);
     };
-    let Some(first) = text_at(items, 1) else {
+    let Some(first) = text_of(first) else {
         return Err(LineFault::Form);
     };
-    let Some(second) = text_at(items, 2) else {
+    let Some(second) = text_of(second) else {
         return Err(LineFault::Form);
     };
     read_three(alloc, word, first, second)
@@ -156,18 +166,15 @@ fn read_word_and_texts(alloc: Global, items: &[Json]) -> Result<Request, LineFau
 
 /// The request that the items of an array are.
 fn read_items(alloc: Global, items: &[Json]) -> Result<Request, LineFault>
-    ensures request { IfOk result (λ request. request_of_form (texts_of_items (items_view items.now)) ≡ Ok (plain_request request)) }
-    ensures fault { IfErr result (IsFaultOf (request_of_form (texts_of_items (items_view items.now)))) }
+    ensures request { IfOk result (λ request. request_of_items (items_view items.now) ≡ Ok (plain_request request)) }
+    ensures fault { IfErr result (IsFaultOf (request_of_items (items_view items.now))) }
 {
-    let count = items.len();
-    if count == 1 {
-        read_word(items)
-    } else if count == 2 {
-        read_word_and_text(alloc, items)
-    } else if count == 3 {
-        read_word_and_texts(alloc, items)
-    } else {
-        Err(LineFault::Form)
+    match items {
+        [] => Err(LineFault::Form),
+        [word] => read_word(word),
+        [word, last] => read_word_and_last(alloc, word, last),
+        [word, first, second] => read_word_and_texts(alloc, word, first, second),
+        _ => Err(LineFault::Form),
     }
 }
 

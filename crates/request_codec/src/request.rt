@@ -18,6 +18,8 @@ pub enum Request {
     Scan(Range),
     /// The join stands from now on.
     Declare(Join),
+    /// The join that was declared at the position stands no more.
+    Drop(u64),
     /// The session ends.
     Quit,
 }

@@ -106,8 +106,8 @@ pub fn cause_name(cause: &Cause) -> &'static str
 {
     match cause {
         Cause::Computed(_) => "computed",
-        Cause::Late => "late",
         Cause::Full => "full",
+        Cause::NoJoin => "nojoin",
         Cause::Slots => "slots",
         Cause::Sources => "sources",
         Cause::Clash(_) => "clash",
@@ -125,9 +125,8 @@ fn write_cause(writer: &mut Writer, position: u64, cause: &Cause) -> Result<(), 
     match cause {
         Cause::Computed(other) | Cause::Clash(other) => writer.u64(*other),
         Cause::Cycle(positions) => write_numbers(writer, positions.as_slice()),
-        Cause::Late | Cause::Full | Cause::Slots | Cause::Sources | Cause::Deep | Cause::Many => {
-            Ok(())
-        }
+        Cause::Full | Cause::NoJoin | Cause::Slots | Cause::Sources | Cause::Deep | Cause::Many =>
+            Ok(()),
     }
 }
 

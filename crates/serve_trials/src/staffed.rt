@@ -1,6 +1,7 @@
 // What is written to links that two workers serve, or one alone, and how serving ends, with ample memory.
 ghost use Rattle.std.specs.Prelude.{◌≡◌, ◌≤◌, IfOk, length};
 ghost use Rattle.pequod_cache.specs.Sitting.{AreOf, AreWriters, IsFresh};
+ghost use Rattle.join_types.specs.declared.write.Write.TheVariants.{Declare};
 ghost use Rattle.server.specs.Staffs.{AreDeclarable};
 
 use crate::copying::{Copying, Taken, expect_taken, link_of};
@@ -19,6 +20,18 @@ use std::sync::Wait;
 use std::test::Fail;
 use std::thread::Threads;
 
+/// The join that the write declares.
+fn join_of(rt: &impl Abort, write: Write) -> Join
+    ensures { write ≡ Declare result }
+{
+    match write {
+        Write::Declare(join) => join,
+        Write::Put(_key, _value) => panic!(rt; "it declares a join"),
+        Write::Remove(_key) => panic!(rt; "it declares a join"),
+        Write::Drop(_position) => panic!(rt; "it declares a join"),
+    }
+}
+
 /// A join whose output has what its source has, alone in a list.
 fn one_join(rt: &impl Abort, alloc: Global) -> Vec<Join>
     ensures { AreDeclarable result.items }
@@ -27,11 +40,7 @@ fn one_join(rt: &impl Abort, alloc: Global) -> Vec<Join>
     let cause = Standing::new(alloc).judge(&write).expect(rt, "memory");
     assert!(rt; cause.is_none());
     let mut joins = Vec::new(alloc);
-    match write {
-        Write::Declare(join) => joins.push(join).expect(rt, "memory"),
-        Write::Put(_key, _value) => {}
-        Write::Remove(_key) => {}
-    }
+    joins.push(join_of(rt, write)).expect(rt, "memory");
     joins
 }
 

@@ -113,6 +113,7 @@ impl WorldClient {
             Request::Put(key, value) => Write::Put(key, value),
             Request::Remove(key) => Write::Remove(key),
             Request::Declare(join) => Write::Declare(join),
+            Request::Drop(position) => Write::Drop(position),
             Request::Get(key) => return self.get(&key),
             Request::Scan(range) => return self.scan(range),
             Request::Quit => unreachable!(),

@@ -1,25 +1,15 @@
-use Rattle.std.proofs.Common.{sym, ap, ◌∙◌, ◌||◌}
-use Rattle.std.specs.Prelude.{codes}
-use Rattle.serde_json.specs.View.{view}
-use Rattle.event_script.specs.Lines.{is_word}
+use Rattle.std.proofs.Common.{sym, ◌∙◌}
 use Rattle.event_script.proofs.ItemLemmas.{two_are_write, three_are_write, few_are_none, four_are_none}
 use Rattle.event_script.proofs.event.are_write.Goals as goal
 
-pub returns-then-is_word : goal.returns-then-is_word
-returns-then-is_word c =
-    c.if-is_word.true
-    ∙ sym (two_are_write c.args.items.now c.word-item.result c.in-len2.len_at_least c.in-len2.len_below c.word-item.is
-    ∙ ap (λ b. b || is_word (codes "join") (view c.word-item.result)) (sym c.is_word.ensures ∙ c.if-is_word.true))
-
-pub returns-else-is_word : goal.returns-else-is_word
-returns-else-is_word c =
-    c.is_word-else-is_word.ensures
-    ∙ sym (two_are_write c.args.items.now c.word-item.result c.in-len2.len_at_least c.in-len2.len_below c.word-item.is
-    ∙ ap (λ b. b || is_word (codes "join") (view c.word-item.result)) (sym c.is_word.ensures ∙ c.if-is_word.false))
+pub returns-in-len2 : goal.returns-in-len2
+returns-in-len2 c =
+    c.has_one_behind.ensures
+    ∙ sym (two_are_write c.args.items.now c.word-item.result c.in-len2.len_at_least c.in-len2.len_below c.word-item.is)
 
 pub returns-in-len3 : goal.returns-in-len3
 returns-in-len3 c =
-    c.is_word-in-len3.ensures
+    c.is_word.ensures
     ∙ sym (three_are_write c.args.items.now c.word-item-then-items-lt4.result c.in-len3.len_at_least c.in-len3.len_below c.word-item-then-items-lt4.is)
 
 pub returns-in_default : goal.returns-in_default

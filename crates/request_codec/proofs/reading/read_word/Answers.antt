@@ -1,21 +1,7 @@
-use Rattle.std.proofs.Common.{◌≡◌, ◌∷◌, [], ◌∙◌, Some, map, sym, arith}
-use Rattle.std.proofs.lemmas.List.{length-map}
-use Rattle.serde_json.specs.View.{view, items_view}
-use Rattle.protocol.specs.Requests.{texts_of_items}
-use Rattle.request_codec.proofs.FormLemmas.{one_text, form_none}
+use Rattle.std.proofs.Common.{sym}
+use Rattle.serde_json.specs.View.{view}
+use Rattle.request_codec.proofs.FormLemmas.{no_word}
 use Rattle.request_codec.proofs.reading.read_word.Goals as goal
 
 pub returns-in_default-clause-fault : goal.returns-in_default-clause-fault
-returns-in_default-clause-fault c = form_none (map view c.args.items.now) 0 (omega (arith, length-map c.args.items.now view)) (sym c.in_default.ensures)
-
-pub returns-clause-request : goal.returns-clause-request
-returns-clause-request c =
-    let texts : texts_of_items (items_view c.args.items.now) ≡ Some (c.in-Some.word.now ∷ []) =
-    one_text (map view c.args.items.now) c.in-Some.word.now (length-map c.args.items.now view ∙ c.requires) (sym c.in-Some.ensures) in
-    rw texts c.read_one.ensures.request
-
-pub returns-clause-fault : goal.returns-clause-fault
-returns-clause-fault c =
-    let texts : texts_of_items (items_view c.args.items.now) ≡ Some (c.in-Some.word.now ∷ []) =
-    one_text (map view c.args.items.now) c.in-Some.word.now (length-map c.args.items.now view ∙ c.requires) (sym c.in-Some.ensures) in
-    rw texts c.read_one.ensures.fault
+returns-in_default-clause-fault c = no_word (view c.args.word.now) (sym c.in_default.ensures)

@@ -33,7 +33,8 @@ class Methods(Case):
         self.assertEqual(client.remove("a|1"), pequod.Done(3))
         self.assertEqual(client.remove("a|1"), pequod.Done(4))
         self.assertEqual(client.scan("b|", "b}"), pequod.Pairs(4, ()))
-        self.assertEqual(client.position, 4)
+        self.assertEqual(client.drop(1), pequod.Done(5))
+        self.assertEqual(client.position, 5)
 
     def test_an_answer_reads_well(self):
         self.client.put("k|ann|2", "two")
@@ -85,6 +86,11 @@ class Refusals(Case):
         self.refused("range", None, (), client.scan, "k|b", "k|a")
         self.refused("range", None, (), client.scan, "k|a", "m|a")
         self.refused("syntax", None, (12,), client.join, "t|<u> = copy")
+        for position in -1, 2**48:
+            self.refused("form", None, (), client.drop, position)
+        for position in "1", 1.5, [1], None, True:
+            with self.assertRaises(TypeError):
+                client.drop(position)
         self.assertEqual(client.position, 0)
         self.refused("long", None, (), client.put, "k|a", " " * 1_048_576)
         self.assertEqual(client.put("k|a", "x"), pequod.Done(1))
@@ -113,8 +119,17 @@ class Refusals(Case):
         self.refused("deep", 8, (), join, "j|<x> = copy i|<x>")
         self.refused("computed", 8, (1,), self.client.put, "b|1", "No")
         self.assertEqual(self.client.put("a|1", "Hi").position, 9)
-        self.refused("late", 9, (), join, "k|<x> = copy l|<x>")
         self.assertEqual((self.client.position, self.client.get("i|1").value), (9, "Hi"))
+
+    def test_of_drops(self):
+        client = self.client
+        self.refused("nojoin", 0, (), client.drop, 0)
+        self.refused("nojoin", 0, (), client.drop, 2**48 - 1)
+        self.assertEqual(client.put("k|a", "x"), pequod.Done(1))
+        self.refused("nojoin", 1, (), client.drop, 1)
+        self.assertEqual(client.join("b|<x> = copy a|<x>"), pequod.Done(2))
+        self.assertEqual(client.drop(2), pequod.Done(3))
+        self.refused("nojoin", 3, (), client.drop, 2)
 
     def test_of_too_many_joins(self):
         for number in range(64):
@@ -154,6 +169,42 @@ class Refusals(Case):
                 pipeline.put("k|a", "x")
                 pipeline.put("k|b", 1.5)
         self.assertEqual(self.client.get("k|a"), pequod.Absent(0))
+
+
+class Joins(Case):
+    def test_a_join_hides_pairs_until_it_is_dropped(self):
+        client = self.client
+        for key, value in ("b|1", "base"), ("b|2", "two"), ("a|1", "A"):
+            client.put(key, value)
+        self.assertEqual(client.join("b|<x> = copy a|<x>"), pequod.Done(4))
+        self.assertEqual(client.scan("b|", "b}"), pequod.Pairs(4, (("b|1", "A"),)))
+        self.refused("computed", 4, (4,), client.put, "b|3", "x")
+        self.assertEqual(client.drop(4), pequod.Done(5))
+        self.assertEqual(client.scan("b|", "b}"), pequod.Pairs(5, (("b|1", "base"), ("b|2", "two"))))
+        self.refused("nojoin", 5, (), client.drop, 4)
+
+    def test_a_new_version_beside_the_old_one(self):
+        client = self.client
+        for voter, value in ("ann", "1"), ("cat", "2"):
+            client.put(f"v|bob|{voter}", value)
+        old = client.join("karma|<poster> = count v|<poster>|<voter>").position
+        client.join("points|<poster> = sum v|<poster>|<voter>")
+        with client.pipeline() as pipeline:
+            both = pipeline.get("karma|bob"), pipeline.get("points|bob")
+            pipeline.drop(old)
+            gone, stays = pipeline.get("karma|bob"), pipeline.get("points|bob")
+        self.assertEqual([answer.result().value for answer in both], ["2", "3"])
+        self.assertEqual((gone.result(), stays.result()), (pequod.Absent(5), pequod.Found(5, "3")))
+
+    def test_a_join_that_stood_on_another_reads_what_was_put_there(self):
+        client = self.client
+        client.put("b|1", "base")
+        client.join("b|<x> = copy a|<x>")
+        client.join("c|<x> = copy b|<x>")
+        client.put("a|1", "A")
+        self.assertEqual(client.get("c|1"), pequod.Found(4, "A"))
+        client.drop(2)
+        self.assertEqual(client.get("c|1"), pequod.Found(5, "base"))
 
 
 class Pipelines(Case):
@@ -305,6 +356,8 @@ class JoinsFile(Case):
         self.client.remove("s|ann|bob")
         self.assertEqual(self.client.scan_prefix("t|ann|"), pequod.Pairs(6, ()))
         self.refused("computed", 6, (2,), self.client.put, "posts|bob", "9")
+        self.client.drop(2)
+        self.assertEqual(self.client.put("posts|bob", "9"), pequod.Done(8))
 
 
 class Links(unittest.TestCase):

@@ -69,6 +69,10 @@ join a|<x> = copy b|<x>
 put b|1 x
 put k|a x
 join d|<x> = copy c|<x>
+drop 3
+drop 3
+drop three
+drop ٣
 """
 WRONG_ANSWERS = """\
 'fetch' is no command; `help` says what there is
@@ -88,7 +92,11 @@ refused, clash: its output overlaps that of another join, the one at position 1 
 refused, cycle: the joins would read one another in a circle: positions 2, 1 (at position 1)
 refused, computed: a join makes the values of this key, the one at position 1 (at position 1)
 ok, at position 2
-refused, late: joins are declared before the first put or remove of any client (at position 2)
+ok, at position 3
+ok, at position 4
+refused, nojoin: no join stands that was declared there (at position 4)
+drop takes the position of a join's declaration; `help` says what there is
+drop takes the position of a join's declaration; `help` says what there is
 """
 
 

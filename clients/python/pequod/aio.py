@@ -23,7 +23,7 @@ from .answers import Done, Pairs, Value
 from .errors import LinkLost, Restarted
 from .exchange import Batch, Exchange, Lines, Pending
 from .runs import PROBE_KEY, Run
-from .wire import Request, get_request, join_request, prefix_bounds, put_request, remove_request, scan_request
+from .wire import Request, drop_request, get_request, join_request, prefix_bounds, put_request, remove_request, scan_request
 
 __all__ = ["Client", "Pipeline", "Pool", "connect"]
 
@@ -108,8 +108,13 @@ class Client:
         return await self._ask(remove_request(key))
 
     async def join(self, text: str) -> Done:
-        """Declares a join, which has to come before the first put or remove of any client."""
+        """Declares a join, at any time. It stands until it is dropped, and is named by the position of the answer. Pairs that
+        were put under keys that fit its output are hidden as long as it stands."""
         return await self._ask(join_request(text))
+
+    async def drop(self, position: int) -> Done:
+        """Drops the join that was declared at a position: its output is gone, and pairs that it hid are there again."""
+        return await self._ask(drop_request(position))
 
     async def get(self, key: str) -> Value:
         """The value of a key: `Found`, or `Absent`, which is false. Both have `value`, which is None where there is none."""

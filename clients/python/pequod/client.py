@@ -10,7 +10,7 @@ from .answers import Done, Pairs, Value
 from .errors import LinkLost, Restarted
 from .exchange import PIECE_BYTES, Batch, Exchange, Lines, Pending
 from .runs import PROBE_KEY, Run
-from .wire import Request, get_request, join_request, prefix_bounds, put_request, remove_request, scan_request
+from .wire import Request, drop_request, get_request, join_request, prefix_bounds, put_request, remove_request, scan_request
 
 T = TypeVar("T")
 
@@ -40,8 +40,13 @@ class Client:
         return self._ask(remove_request(key))
 
     def join(self, text: str) -> Done:
-        """Declares a join, which has to come before the first put or remove of any client."""
+        """Declares a join, at any time. It stands until it is dropped, and is named by the position of the answer. Pairs that
+        were put under keys that fit its output are hidden as long as it stands."""
         return self._ask(join_request(text))
+
+    def drop(self, position: int) -> Done:
+        """Drops the join that was declared at a position: its output is gone, and pairs that it hid are there again."""
+        return self._ask(drop_request(position))
 
     def get(self, key: str) -> Value:
         """The value of a key: `Found`, or `Absent`, which is false. Both have `value`, which is None where there is none."""

@@ -39,7 +39,7 @@ class NotServed(PequodError):
 class Refused(NotServed):
     """The server refused a request, and did nothing.
 
-    `name` is the name of the refusal, as `key`, `late` or `clash`. `position` is the length of the history, and None where
+    `name` is the name of the refusal, as `key`, `nojoin` or `clash`. `position` is the length of the history, and None where
     the request itself could not be read. `details` are the numbers that follow: for `syntax` the byte of the join's text,
     for `computed` and `clash` the position of the join that is in the way, for `cycle` the positions of the circle.
     """

@@ -7,7 +7,7 @@ from typing import Any, Generic, Optional, Sequence, TypeVar, Union
 from .answers import Answer, Done, Pairs, Value
 from .errors import BadReply, LinkLost, NotServed, OutOfMemory, PequodError
 from .wire import (
-    Request, get_request, join_request, prefix_bounds, put_request, read_reply, remove_request, scan_request,
+    Request, drop_request, get_request, join_request, prefix_bounds, put_request, read_reply, remove_request, scan_request,
 )
 
 PIECE_BYTES = 65_536
@@ -125,6 +125,10 @@ class Batch:
     def join(self, text: str) -> Pending[Done]:
         """As that of `Client`."""
         return self._add(join_request(text))
+
+    def drop(self, position: int) -> Pending[Done]:
+        """As that of `Client`."""
+        return self._add(drop_request(position))
 
     def get(self, key: str) -> Pending[Value]:
         """As that of `Client`."""

@@ -22,10 +22,11 @@ remove KEY           removes the pair
 scan PREFIX          the pairs whose keys begin with a text that ends with |, as: scan k|
 scan FIRST LAST      the pairs with FIRST <= key < LAST, as: scan k|a k}
 join TEXT            declares a join, as: join b|<x> = copy a|<x>
+drop POSITION        drops the join that was declared at a position, as: drop 3
 help, quit
 A key or text in double quotes is read as JSON reads it, as: put "k|a b" "two\\nlines"
 """
-COMMANDS = ("get", "put", "remove", "scan", "join", "help", "quit")
+COMMANDS = ("get", "put", "remove", "scan", "join", "drop", "help", "quit")
 WORD = re.compile(r'\s*(?:("(?:[^"\\]|\\.)*")(?=\s|$)|(\S+))')
 MARGIN = 2
 
@@ -78,6 +79,11 @@ class Prompt:
             return client.put(key, _whole_text(text, "put takes a key and a text"))
         if command == "join":
             return client.join(_whole_text(rest, "join takes the text of a join"))
+        if command == "drop":
+            words = _all_words(rest)
+            if len(words) != 1 or re.fullmatch("[0-9]{1,15}", words[0]) is None:
+                raise Unclear("drop takes the position of a join's declaration")
+            return client.drop(int(words[0]))
         if command == "scan":
             bounds = _all_words(rest)
             if len(bounds) == 1 and bounds[0].endswith("|"):

@@ -15,7 +15,7 @@ REASONS = {
     "range": "these are no bounds: both lie in one table, the last may be TABLE}, and the first is not above the last",
     "syntax": "this is no text of a join",
     "full": "the history has as many entries as it can have",
-    "late": "joins are declared before the first put or remove of any client",
+    "nojoin": "no join stands that was declared there",
     "computed": "a join makes the values of this key",
     "slots": "the slots of the join do not go together",
     "sources": "a join has one value source, at most 7 checks, and none beside count, sum, min or max",

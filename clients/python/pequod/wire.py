@@ -43,6 +43,13 @@ def join_request(text: str) -> Request[Done]:
     return Request("join", text, _line("join", ("text", text)), (Done,))
 
 
+def drop_request(position: int) -> Request[Done]:
+    # To Python a bool is an int, and to the server it is no position.
+    if not isinstance(position, int) or isinstance(position, bool):
+        raise TypeError(f"the position of a drop has to be an int, and {position!r} is of type {type(position).__name__}")
+    return Request("drop", str(position), b'["drop",%d]\n' % position, (Done,))
+
+
 def get_request(key: str) -> Request[Value]:
     return Request("get", key, _line("get", ("key", key)), (Found, Absent))
 

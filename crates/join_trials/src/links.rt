@@ -11,12 +11,14 @@ use pq_io::{Failed, Link, MemLink, MemSink, MemSource};
 use request_codec::{Reply, Request};
 use session::{Service, serve_link};
 use std::alloc::Global;
+use std::cell::Cell;
 use test_rows::{Fields, unescape};
 
-/// A service that finds memory for nothing, and counts what it was asked.
+/// A service that finds memory for nothing, and counts what it was asked, and how often it was to make room.
 #[derive(Drop)]
 struct Forgetful {
     asked: u64,
+    rooms: Cell<u64>,
 }
 
 impl Service for Forgetful {
@@ -28,6 +30,10 @@ impl Service for Forgetful {
         let _ = request;
         self.asked = self.asked.saturating_add(1);
         Reply::Memory
+    }
+
+    fn make_room(&self) {
+        self.rooms.set(self.rooms.get().saturating_add(1));
     }
 }
 
@@ -81,14 +87,19 @@ fn read_link(alloc: Global, fields: &mut Fields<'_>) -> Option<Ordered> {
     })
 }
 
-/// Runs a row of this kind: `serve` tells the end, the number of requests and the bytes, and `calls` the end and the calls.
+/// Runs a row of this kind: `serve` tells the end, the number of requests and the bytes, `calls` the end and the calls, and
+/// `rooms` the end and how often the service was to make room.
 pub fn run(alloc: Global, kind: &str, fields: &mut Fields<'_>, answer: &mut Answer) -> Option<()> {
-    let mut service = Forgetful { asked: 0 };
+    let mut service = Forgetful {
+        asked: 0,
+        rooms: Cell::new(0),
+    };
     let mut link = read_link(alloc, fields)?;
     let end = serve_link(alloc, &mut service, &mut link);
     answer.show(&end);
     match kind {
         "calls" => answer.say_bytes(link.calls.as_slice()),
+        "rooms" => answer.tell(&service.rooms.get()),
         "serve" => {
             answer.tell(&service.asked);
             answer.say_bytes(link.link.bytes());

@@ -52,9 +52,15 @@ pub fn send<L: Link>(link: &mut L, text: &[u8]) -> Result<(), End>
     }
 }
 
-/// Writes the line of a reply that is neither `Done` nor `Bye`, or that of `Memory` where no memory is found for it.
+/// Writes the line of a reply that is neither `Done` nor `Bye`. Where no memory is found for it, the service makes room, and the
+/// line of `Memory` is written.
 /// `WriteFault`: a write failed.
-fn send_text<L: Link>(alloc: Global, link: &mut L, reply: &Reply) -> Result<(), End>
+fn send_text<S: Service, L: Link>(
+    alloc: Global,
+    service: &S,
+    link: &mut L,
+    reply: &Reply,
+) -> Result<(), End>
     requires has_text { reply.now ≢ Reply.Unread LineFault.OutOfMemory }
     requires plain { IsPlain (plain_reply reply.now) }
     ensures sent { (sent : PlainReply) × IsSentAs (plain_reply reply.now) sent × Sends result (L.taken link.old) (L.taken link.new) sent }
@@ -65,14 +71,22 @@ fn send_text<L: Link>(alloc: Global, link: &mut L, reply: &Reply) -> Result<(), 
 {
     match write(alloc, reply) {
         Ok(text) => send(link, text.as_slice()),
-        Err(_) => send(link, memory_line()),
+        Err(_) => {
+            service.make_room();
+            send(link, memory_line())
+        }
     }
 }
 
 /// Writes the line of a reply, or that of `Memory` where no memory is found for it. The lines of `Done`, `Memory` and
-/// `Bye` take none.
+/// `Bye` take none. Before that of `Memory` is written the service makes room: who was answered so may ask again at once.
 /// `Quit`: it was `Bye`. `WriteFault`: a write failed.
-fn send_reply<L: Link>(alloc: Global, link: &mut L, reply: &Reply) -> Result<(), End>
+fn send_reply<S: Service, L: Link>(
+    alloc: Global,
+    service: &S,
+    link: &mut L,
+    reply: &Reply,
+) -> Result<(), End>
     requires { HasSmallPosition (plain_reply reply.now) }
     ensures sent { (sent : PlainReply) × IsSentAs (plain_reply reply.now) sent × Sends result (L.taken link.old) (L.taken link.new) sent }
     ensures later { L.write_faults link.old ≤ L.write_faults link.new }
@@ -91,16 +105,19 @@ fn send_reply<L: Link>(alloc: Global, link: &mut L, reply: &Reply) -> Result<(),
             Ok(()) => Err(End::Quit),
             Err(end) => Err(end),
         },
-        Reply::Memory => send(link, memory_line()),
+        Reply::Memory => {
+            service.make_room();
+            send(link, memory_line())
+        }
         Reply::Unread(fault) => match fault {
             LineFault::OutOfMemory => send(link, memory_line()),
-            _ => send_text(alloc, link, reply),
+            _ => send_text(alloc, service, link, reply),
         },
-        reply => send_text(alloc, link, reply),
+        reply => send_text(alloc, service, link, reply),
     }
 }
 
-/// Answers a line and writes its reply, before anything else is read.
+/// Answers a line and writes its reply, before anything else is read. Where it is answered `Memory`, the service makes room.
 /// `Quit`: it was answered `Bye`. `WriteFault`: a write failed.
 pub fn serve_line<S: Service, L: Link>(
     alloc: Global,
@@ -118,5 +135,5 @@ pub fn serve_line<S: Service, L: Link>(
     ensures same_borrows { L.borrows link.new ≡ L.borrows link.old }
 {
     let reply = answer_line(alloc, service, line);
-    send_reply(alloc, link, &reply)
+    send_reply(alloc, service, link, &reply)
 }

@@ -123,10 +123,10 @@ fn serve_last<S: Service, L: Link>(alloc: Global, service: &mut S, link: &mut L,
     }
 }
 
-/// Serves a link: reads, answers each line by the service, and writes each reply before it takes the next line. It
-/// takes memory for the longest line at first. Linear in the bytes of the link, which are read 16,384 at a time, besides
-/// what the service takes for each request, and what writing its reply takes. It returns after at most 2^40 reads that give
-/// bytes, if the calls of the service and the link return.
+/// Serves a link: reads, answers each line by the service, and writes each reply before it takes the next line. Where a line is
+/// answered `Memory`, the service makes room before that is written. It takes memory for the longest line at first. Linear in
+/// the bytes of the link, which are read 16,384 at a time, besides what the service takes for each request, and what writing its
+/// reply takes. It returns after at most 2^40 reads that give bytes, if the calls of the service and the link return.
 ///
 /// `Closed`: the link gave no more bytes, and every line was answered, none by `["bye"]`. `Quit`: a line `["quit"]` was
 /// answered by `["bye"]`. `Long`: a line reached 1,048,577 bytes, and that was written. `ReadFault`: a read failed, and

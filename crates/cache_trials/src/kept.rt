@@ -301,8 +301,8 @@ fn expect_cost(rt: &impl Abort, name: &str, bound: &str, seen: &Seen) {
     }
 }
 
-/// Does what a line says: it writes, evicts a cell, takes a turn, which adds a line, reads a range after so many entries, which
-/// adds a line, or reads it with `most` or `least` so many steps.
+/// Does what a line says: it writes, evicts a cell, makes room, takes a turn, which adds a line, reads a range after so many
+/// entries, which adds a line, or reads it with `most` or `least` so many steps.
 fn play_line<N: Naming, R: Wait + Abort>(
     rt: &R,
     alloc: Global,
@@ -323,6 +323,10 @@ fn play_line<N: Naming, R: Wait + Abort>(
         "evict" => {
             kept.cells
                 .evict(rt, about.parse::<u32>().expect(rt, "a number"));
+            Ok(pass)
+        }
+        "room" => {
+            kept.cells.make_room(rt);
             Ok(pass)
         }
         "turn" => {

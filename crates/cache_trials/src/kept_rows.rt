@@ -244,6 +244,38 @@ read 3 b| b}
 ",
 };
 
+/// To make room the cell goes that was used least recently, and where there is one, that one. Where there is none nothing goes.
+const ROOM: Row = Row {
+    cells: 4,
+    limit: 100,
+    lines: "room cells
+write b|<x>|<y> = copy a|<x>|<y>
+write a|1|1=A
+write a|2|1=B
+read 3 b|1| b|1}
+read 3 b|2| b|2}
+read 3 b|1| b|1}
+room cells
+read 3 b|1| b|1}
+read 3 b|2| b|2}
+room cells
+read 3 b|2| b|2}
+room cells
+room cells
+read 3 b|2| b|2}
+read 3 b|1| b|1}
+",
+    wanted: "1: b|1|1=A
+1: b|2|1=B
+0: b|1|1=A
+0: b|1|1=A
+1: b|2|1=B
+0: b|2|1=B
+1: b|2|1=B
+1: b|1|1=A
+",
+};
+
 /// A put of a pair that a kept range reads marks its cell, a turn brings it forward, and the next read passes no gate. A pair that
 /// no kept range reads marks none. A subscription is pending once its cell was brought forward, and the posts of who is
 /// subscribed mark the cell once that is mended. An evicted cell is not marked.
@@ -406,7 +438,7 @@ least 7 4 t|ann| t|ann}
 };
 
 /// All of them.
-pub const ROWS: [Row; 19] = [
+pub const ROWS: [Row; 20] = [
     KEPT,
     TOO_HEAVY,
     PULLED,
@@ -418,6 +450,7 @@ pub const ROWS: [Row; 19] = [
     DROPPED,
     DECLARED_AGAIN,
     ONE_CELL,
+    ROOM,
     TURNED,
     TURNED_OVER_ANOTHER,
     TURNED_RAISED,

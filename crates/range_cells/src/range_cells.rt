@@ -120,4 +120,11 @@ impl<N: Naming> RangeCells<N> {
     pub fn evict<W: Wait>(&self, rt: &W, id: u32) {
         self.cells.evict(rt, &self.shards, id);
     }
+
+    /// Evicts the least recently used cells, as `SharedCells::make_room` does: one at least, where there is one. What they keep is
+    /// let go, and they are not marked. It is linear in the cells that there may be, and takes no memory. While another thread
+    /// has such a cell, or a part of the base pairs, this one sleeps.
+    pub fn make_room<W: Wait>(&self, rt: &W) {
+        self.cells.make_room(rt, &self.shards);
+    }
 }

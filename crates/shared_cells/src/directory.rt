@@ -55,6 +55,9 @@ enum Spot<N: Naming> {
 /// The ranges that have a cell, by their join with its rank, and what stands at each cell's number. A join whose rank changed
 /// has other cells than before. It follows the joins, to know whose cells nobody reads any more. A read at an earlier position
 /// may still give cells to other joins, and there are strays then.
+///
+/// It counts the uses of cells, in room that is there from the start: so it knows of each cell when it was last used, also where
+/// there was no memory to tell the book of it.
 #[derive(Drop)]
 pub struct Directory<N: Naming> {
     alloc: Global,
@@ -64,6 +67,10 @@ pub struct Directory<N: Naming> {
     cells: u32,
     spots: Vec<Spot<N>>,
     free: Option<u32>,
+    /// How many uses of cells there were.
+    uses: u64,
+    /// Of each number, after how many uses its cell was last used, with that use.
+    last_uses: Vec<u64>,
 }
 
 /// A range in more parts than this is read as one: to evaluate it once takes less than to evaluate so many gaps.
@@ -141,6 +148,8 @@ impl<N: Naming> Directory<N> {
             cells,
             spots,
             free,
+            uses: 0,
+            last_uses: vec![in alloc; 0; cells as usize]?,
         })
     }
 
@@ -231,6 +240,7 @@ impl<N: Naming> Directory<N> {
     {
         match piece {
             Piece::Kept(range, id) => {
+                self.note_use(id);
                 let cell = self.cell(id)?;
                 Ok(Part { range, cell })
             }
@@ -277,7 +287,37 @@ impl<N: Naming> Directory<N> {
         if !self.followed.has(join) {
             self.has_strays = true;
         }
+        self.note_use(id);
         self.cell(id)
+    }
+
+    /// Takes note that the cell with a number is used now.
+    fn note_use(&mut self, id: u32) {
+        self.uses = self.uses.saturating_add(1);
+        if let Some(last) = self.last_uses.get_mut(id as usize) {
+            *last = self.uses;
+        }
+    }
+
+    /// The use that is half way from the last one of the least recently used cell to the last one of all. By then this cell at
+    /// least was last used. Linear in the numbers of cells, and it takes no memory.
+    pub fn older_half(&self) -> u64 {
+        let mut oldest = self.uses;
+        for (spot, last) in self.spots.iter().zip(self.last_uses.iter()) {
+            if matches!(spot, Spot::Taken(_, _, _)) && *last < oldest {
+                oldest = *last;
+            }
+        }
+        let span = self.uses.saturating_sub(oldest);
+        oldest.saturating_add(span / 2)
+    }
+
+    /// Whether there is a cell with the number, which was not used after so many uses. It takes constant time, and no memory.
+    pub fn was_last_used_by(&self, id: u32, until: u64) -> bool {
+        match (self.spots.get(id as usize), self.last_uses.get(id as usize)) {
+            (Some(Spot::Taken(_, _, _)), Some(last)) => *last <= until,
+            _ => false,
+        }
     }
 
     /// Puts a cell for a range of the join and its rank at a number that has none, with the pass that waits there, and says

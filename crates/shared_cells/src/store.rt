@@ -26,6 +26,8 @@ use write_history::Pass;
 /// The directory and the book are locked alone, one after the other.
 #[derive(Drop)]
 pub struct SharedCells<N: Naming> {
+    /// Below which number their numbers are.
+    cells: u32,
     directory: Mutex<Directory<N>>,
     book: Mutex<CellBook>,
 }
@@ -43,6 +45,7 @@ impl<N: Naming> SharedCells<N> {
         let directory = Directory::new(alloc, passes)?;
         let book = CellBook::new(alloc, cells, limit)?;
         Ok(SharedCells {
+            cells,
             directory: Mutex::new(directory),
             book: Mutex::new(book),
         })
@@ -120,6 +123,23 @@ impl<N: Naming> SharedCells<N> {
     pub fn evict<W: Wait>(&self, rt: &W, shards: &BaseShards<N>, id: u32) {
         self.book.lock(rt).gone(id);
         self.free(rt, shards, id);
+    }
+
+    /// Evicts the least recently used cells, to make room: with the one that was used least recently all that were last used in
+    /// the older half of the uses since then. So at least one goes where there is one, and the others after a few more calls: no
+    /// more than the number of uses has binary digits.
+    ///
+    /// It is linear in the cells that there may be, with what `evict` takes for each that goes, and takes no memory. No lock of a
+    /// cell or of a part may be held, as with `evict`. While another thread has the directory, the book, such a cell or a part,
+    /// this one sleeps.
+    pub fn make_room<W: Wait>(&self, rt: &W, shards: &BaseShards<N>) {
+        let until = self.directory.lock(rt).older_half();
+        for id in 0..self.cells {
+            let is_old = self.directory.lock(rt).was_last_used_by(id, until);
+            if is_old {
+                self.evict(rt, shards, id);
+            }
+        }
     }
 
     /// Takes a cell out of the directory, then what it keeps out of the cell, then the ranges that it follows out of the parts,

@@ -78,6 +78,10 @@ impl<'a, 'g, R: Wait, N: Naming, G: Gate> Service for LoneClient<'a, 'g, R, N, G
     fn answer(&mut self, request: Request) -> Reply {
         self.client.answer(self.rt, request)
     }
+
+    fn make_room(&self) {
+        self.client.make_room(self.rt);
+    }
 }
 
 impl<'a, 'g, R: Wait, N: Naming, G: Gate> OnlyWriter for LoneClient<'a, 'g, R, N, G> {

@@ -24,4 +24,8 @@ impl<'a, 'g, R: Wait, N: Naming, G: Gate> Service for ClientService<'a, 'g, R, N
     fn answer(&mut self, request: Request) -> Reply {
         self.client.answer(self.rt, request)
     }
+
+    fn make_room(&self) {
+        self.client.make_room(self.rt);
+    }
 }

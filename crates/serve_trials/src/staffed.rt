@@ -58,7 +58,7 @@ fn make_seats(alloc: Global, clients: u32) -> Result<Seats, OutOfMemory>
     Seats::make(alloc, clients, 4)
 }
 
-/// Serves doors that give the links and fail at these calls, by all clients but the first, which declares a join.
+/// Opens doors that give the links and fail at these calls, and serves them by all clients but the first, which declares a join.
 fn serve<N: Naming + Send + Sync, R: Threads + Wait + Abort + Sync>(
     rt: &R,
     alloc: Global,
@@ -77,7 +77,8 @@ fn serve<N: Naming + Send + Sync, R: Threads + Wait + Abort + Sync>(
     let joins = one_join(rt, alloc);
     let (workers, updater) = staff::<N, _, _>(rt, alloc, seats, 1_000, joins, &OpenGate)?;
     let mut doors = MemDoors::new(links, fails);
-    Ok(serve_doors(rt, alloc, &mut doors, workers, updater))
+    let address = "127.0.0.1:7000";
+    Ok(serve_doors(rt, alloc, address, &mut doors, workers, updater))
 }
 
 /// Puts a pair, and reads the join's output.
@@ -144,9 +145,12 @@ fn closed_doors_end_it(rt: HostRuntime) -> Result<(), Fail> {
 #[test]
 fn links_before_a_failure_are_served(rt: HostRuntime) -> Result<(), Fail> {
     let alloc: Global = rt.alloc();
+    // The doors are opened by the call 0.
     for (clients, call, told) in [
+        (2, 0, ""),
         (2, 1, ""),
         (2, 2, TO_A_WRITER),
+        (3, 0, ""),
         (3, 1, ""),
         (3, 2, TO_A_WRITER),
     ] {

@@ -1,4 +1,4 @@
-// Taking links from doors.
+// Opening doors, and taking links from them.
 ghost use Rattle.std.specs.Prelude.{OnOk};
 ghost use Rattle.pq_io.specs.Faults.{HasCause};
 ghost use Rattle.server.specs.Doors.{HoldNone};
@@ -7,19 +7,19 @@ use door_queue::DoorQueue;
 use pq_io::{Doors, Failed};
 use std::sync::Wait;
 
-/// Hands each link of the doors to the queue, until the doors are closed or fail, and then closes the queue.
-/// `Failed`: the doors failed, and no further link was asked for.
+/// Opens the doors at the address, and hands each of their links to the queue, until they are closed or fail.
+/// `Failed`: they could not be opened, or failed, and no further link was asked for.
 pub fn accept<D: Doors, R: Wait>(
     rt: &R,
+    address: &str,
     doors: &mut D,
     queue: &DoorQueue<D::Wire>,
 ) -> Result<(), Failed>
     ensures closed { OnOk result (HoldNone (D.held doors.new)) }
     ensures cause { HasCause (D.faults doors.old) (D.faults doors.new) result }
 {
-    let ended = take_links(rt, doors, queue);
-    queue.close(rt);
-    ended
+    doors.open_at(address)?;
+    take_links(rt, doors, queue)
 }
 
 /// Hands each link of the doors to the queue. One that the queue does not keep is closed: nobody closes it before.

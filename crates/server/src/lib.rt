@@ -1,8 +1,8 @@
 // Serving links from doors: an acceptor takes them, and workers serve them, each with a client of its own of one cache; beside
-// them an updater brings forward what the cache keeps.
+// them an updater brings forward what the cache keeps. Each worker and the updater has a thread, and no door is opened before.
 //
 // The layer above may use `serve`, which does all of it and may wait; `staff` makes the workers' clients, and `serve_doors`
-// serves links with them.
+// opens the doors and serves links with them.
 #![tactic(auto)]
 
 mod accepting;

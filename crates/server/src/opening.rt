@@ -49,7 +49,7 @@ fn make_seats(alloc: Global, workers: u32, cells: u32) -> Result<Seats, OutOfMem
     Seats::make(alloc, workers + 1, cells)
 }
 
-/// Serves the links of the doors, once they are open at the address, with the clients of a cache of these passes.
+/// Serves the links of the doors, which are opened at the address, with the clients of a cache of these passes.
 fn serve_seats<N: Naming + Send + Sync, R: Threads + Wait + Sync, D: Doors, G: Gate + Sync>(
     rt: &R,
     alloc: Global,
@@ -74,19 +74,18 @@ fn serve_seats<N: Naming + Send + Sync, R: Threads + Wait + Sync, D: Doors, G: G
     ensures failed { result ≡ Ended.Failed → Rose (D.faults doors.old) (D.faults doors.new) }
     ensures kept { result ≢ Ended.Failed → D.faults doors.new ≡ D.faults doors.old }
     ensures later { D.faults doors.old ≤ D.faults doors.new }
-    ensures memory { result ≡ Ended.OutOfMemory → D.held doors.new ≡ D.held doors.old }
+    ensures memory { result ≡ Ended.OutOfMemory → doors.new ≡ doors.old }
 {
     let Ok((workers, updater)) = staff::<N, G, R>(rt, alloc, seats, limit, joins, gate) else {
         return Ended::OutOfMemory;
     };
-    if doors.open_at(address.text).is_err() {
-        return Ended::Failed;
-    }
-    serve_doors(rt, alloc, doors, workers, updater)
+    serve_doors(rt, alloc, address.text, doors, workers, updater)
 }
 
-/// Makes a cache, declares the joins, opens the doors at the address, and serves each link that they give until they close.
-/// Before a range of a join's output is filled or mended the gate is passed.
+/// Makes a cache, declares the joins, starts the workers and an updater, opens the doors at the address, and serves each link that
+/// they give until they close. Before a range of a join's output is filled or mended the gate is passed.
+///
+/// Where there is no memory for the cache, or no thread for one of the workers or the updater, the doors stay as they are.
 pub fn serve<R, D, G>(
     rt: &R,
     alloc: Global,
@@ -110,7 +109,7 @@ where
     ensures failed { result ≡ Ended.Failed → Rose (D.faults doors.old) (D.faults doors.new) }
     ensures kept { result ≢ Ended.Failed → D.faults doors.new ≡ D.faults doors.old }
     ensures later { D.faults doors.old ≤ D.faults doors.new }
-    ensures memory { result ≡ Ended.OutOfMemory → D.held doors.new ≡ D.held doors.old }
+    ensures memory { result ≡ Ended.OutOfMemory → doors.new ≡ doors.old }
 {
     let Ok(seats) = make_seats(alloc, size.workers, size.cells) else {
         return Ended::OutOfMemory;

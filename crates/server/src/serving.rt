@@ -1,19 +1,20 @@
 // Acceptor, workers and updater.
-ghost use Rattle.std.specs.Prelude.{◌≡◌, ◌≢◌, ◌≤◌, length, MatchResult, OnOk};
-ghost use Rattle.pq_io.specs.Faults.{HasCause, Rose};
+ghost use Rattle.std.specs.Prelude.{◌≡◌, ◌≢◌, ◌≤◌, length, MatchResult};
+ghost use Rattle.pq_io.specs.Faults.{Rose};
 ghost use Rattle.server.specs.Doors.{HoldNone};
 
 use crate::accepting::accept;
 use crate::updating::update;
-use crate::working::{work, work_alone};
+use crate::working::work;
 use base_shards::Naming;
 use door_queue::{Bell, DoorQueue};
+use out_of_memory::OutOfMemory;
 use pequod_cache::{Client, Updater};
 use pq_io::{Doors, Failed, Gate, Link};
 use std::alloc::Global;
 use std::sync::Wait;
+use std::thread;
 use std::thread::Threads;
-use std::{mem, thread};
 
 /// How many accepted links may wait for a worker.
 const WAITING: usize = 64;
@@ -25,7 +26,7 @@ pub enum Ended {
     Closed,
     /// The doors could not be opened, or failed: their count of faults rose.
     Failed,
-    /// No memory was found at the start. No link was asked for.
+    /// No memory was found at the start, or no thread for a worker or for the updater. The doors are as they were.
     OutOfMemory,
 }
 
@@ -66,17 +67,16 @@ impl<'a, F: FnMut() -> A, A> Task for Lent<'a, F> {
     }
 }
 
-/// Runs the task beside a worker for each client, where as many threads can be made. It returns when all have ended. The task
-/// and the last client come back where no thread could be made, or there is no other client.
-fn run_beside<'g, N, G, K, R, T, A>(
+/// Runs the task beside a worker for each client, and closes the queue when it is done. It returns when all have ended. Where a
+/// thread cannot be made for each of them, the task is not run, and comes back.
+fn run_beside_workers<'g, N, G, K, R, T, A>(
     rt: &R,
     alloc: Global,
     queue: &DoorQueue<K>,
     bell: &Bell,
     clients: Vec<Client<'g, N, G>>,
-    last: Client<'g, N, G>,
     task: T,
-) -> Result<A, (T, Client<'g, N, G>)>
+) -> Result<A, T>
 where
     N: Naming + Send + Sync,
     G: Gate + Sync,
@@ -84,25 +84,66 @@ where
     R: Threads + Wait + Sync,
     T: Task<Given = A> + Drop,
     requires { T.can_run task }
-    ensures { MatchResult result (λ given. T.gives task given) (λ back. back.0 ≡ task) }
+    ensures { MatchResult result (λ given. T.gives task given) (λ back. back ≡ task) }
 {
     thread::scope(
         thread::scope_env(),
         rt,
         move |scope|
             requires { T.can_run task }
-            ensures { MatchResult result (λ given. T.gives task given) (λ back. back.0 ≡ task) }
+            ensures { MatchResult result (λ given. T.gives task given) (λ back. back ≡ task) }
         {
-            let mut alone = true;
+            let mut is_staffed = true;
             for client in clients {
                 let started = scope.spawn(move || work(rt, alloc, queue, bell, client));
-                alone = alone && started.is_err();
+                is_staffed = is_staffed && started.is_ok();
             }
-            if alone {
-                return Err((task, last));
+            if !is_staffed {
+                queue.close(rt);
+                return Err(task);
             }
-            let _ = scope.spawn(move || work(rt, alloc, queue, bell, last));
-            Ok(task.run())
+            let given = task.run();
+            queue.close(rt);
+            Ok(given)
+        },
+    )
+}
+
+/// Runs the task beside a worker for each client and beside an updater, which takes turns when the bell is rung, and closes the
+/// queue when it is done. It returns when all have ended, the updater last. Where a thread cannot be made for each of them, the
+/// task is not run, and comes back.
+fn run_beside<'g, N, G, K, R, T, A>(
+    rt: &R,
+    alloc: Global,
+    queue: &DoorQueue<K>,
+    bell: &Bell,
+    clients: Vec<Client<'g, N, G>>,
+    updater: Updater<'g, N, G>,
+    task: T,
+) -> Result<A, T>
+where
+    N: Naming + Send + Sync,
+    G: Gate + Sync,
+    K: Link + Send + Drop,
+    R: Threads + Wait + Sync,
+    T: Task<Given = A> + Drop,
+    requires { T.can_run task }
+    ensures { MatchResult result (λ given. T.gives task given) (λ back. back ≡ task) }
+{
+    thread::scope(
+        thread::scope_env(),
+        rt,
+        move |scope|
+            requires { T.can_run task }
+            ensures { MatchResult result (λ given. T.gives task given) (λ back. back ≡ task) }
+        {
+            let started = scope.spawn(move || update(rt, bell, updater));
+            if started.is_err() {
+                return Err(task);
+            }
+            let done = run_beside_workers(rt, alloc, queue, bell, clients, task);
+            bell.close(rt);
+            done
         },
     )
 }
@@ -112,17 +153,18 @@ fn take_back<T>(_back: &mut T)
     ensures { _back.new ≡ _back.old }
 {}
 
-/// Calls the closure beside a worker for each client. It returns when all have ended. The last client comes back, and the
-/// closure is not called, where no thread could be made, or there is no other client.
-fn beside_workers<'g, N, G, K, R, F, A>(
+/// Calls the closure beside a worker for each client and beside an updater, and closes the queue when it is done. It returns when
+/// all have ended.
+/// `OutOfMemory`: a thread could not be made for each of them, and the closure was not called.
+fn beside_all<'g, N, G, K, R, F, A>(
     rt: &R,
     alloc: Global,
     queue: &DoorQueue<K>,
     bell: &Bell,
     clients: Vec<Client<'g, N, G>>,
-    last: Client<'g, N, G>,
+    updater: Updater<'g, N, G>,
     f: &mut F,
-) -> Result<A, Client<'g, N, G>>
+) -> Result<A, OutOfMemory>
 where
     N: Naming + Send + Sync,
     G: Gate + Sync,
@@ -132,119 +174,29 @@ where
     requires { F.pre f.old }
     ensures { MatchResult result (λ given. F.step f.old given f.new) (λ _. f.new ≡ f.old) }
 {
-    match run_beside(rt, alloc, queue, bell, clients, last, Lent { f }) {
+    match run_beside(rt, alloc, queue, bell, clients, updater, Lent { f }) {
         Ok((f, given)) => {
             take_back(f);
             Ok(given)
         }
-        Err((Lent { f }, last)) => {
+        Err(Lent { f }) => {
             take_back(f);
-            Err(last)
+            Err(OutOfMemory)
         }
     }
 }
 
-/// Serves the links of the doors until they are closed or fail: this thread takes them, and a worker for each client serves them,
-/// one after another. Where no thread can be made, or there is one client, this one takes a link and serves it, in turns. The
-/// clients are used up.
-/// `Failed`: the doors failed, and no further link was asked for.
-fn serve_links<'g, N, G, D, R>(
-    rt: &R,
-    alloc: Global,
-    doors: &mut D,
-    queue: &DoorQueue<D::Wire>,
-    bell: &Bell,
-    clients: &mut Vec<Client<'g, N, G>>,
-) -> Result<(), Failed>
-where
-    N: Naming + Send + Sync,
-    G: Gate + Sync,
-    D: Doors,
-    R: Threads + Wait + Sync,
-    requires { 1 ≤ length clients.old.items }
-    ensures closed { OnOk result (HoldNone (D.held doors.new)) }
-    ensures cause { HasCause (D.faults doors.old) (D.faults doors.new) result }
-{
-    let mut workers = mem::replace(clients, Vec::new(alloc));
-    let Some(last) = workers.pop() else {
-        unreachable!()
-    };
-    match beside_workers(
-        rt,
-        alloc,
-        queue,
-        bell,
-        workers,
-        last,
-        &mut || { accept(rt, doors, queue) },
-    ) {
-        Ok(ended) => ended,
-        Err(last) => work_alone(rt, alloc, doors, bell, last),
-    }
-}
-
-/// Runs the task beside an updater that takes turns when the bell is rung, and then closes the bell. It returns when both have
-/// ended. Where no thread can be made for the updater, kept ranges are brought forward by reads alone.
-fn run_beside_updater<'g, N, G, R, T, A>(
-    rt: &R,
-    bell: &Bell,
-    updater: Updater<'g, N, G>,
-    task: T,
-) -> A
-where
-    N: Naming + Send + Sync,
-    G: Gate + Sync,
-    R: Threads + Wait + Sync,
-    T: Task<Given = A> + Drop,
-    requires { T.can_run task }
-    ensures { T.gives task result }
-{
-    thread::scope(
-        thread::scope_env(),
-        rt,
-        move |scope|
-            requires { T.can_run task }
-            ensures { T.gives task result }
-        {
-            let _ = scope.spawn(move || update(rt, bell, updater));
-            let given = task.run();
-            bell.close(rt);
-            given
-        },
-    )
-}
-
-/// Calls the closure beside an updater that takes turns when the bell is rung, and then closes the bell. It returns when both have
-/// ended. Where no thread can be made for the updater, kept ranges are brought forward by reads alone.
-fn beside_updater<'g, N, G, R, F, A>(
-    rt: &R,
-    bell: &Bell,
-    updater: Updater<'g, N, G>,
-    f: &mut F,
-) -> A
-where
-    N: Naming + Send + Sync,
-    G: Gate + Sync,
-    R: Threads + Wait + Sync,
-    F: FnMut() -> A,
-    requires { F.pre f.old }
-    ensures { F.step f.old result f.new }
-{
-    let (f, given) = run_beside_updater(rt, bell, updater, Lent { f });
-    take_back(f);
-    given
-}
-
-/// Serves the links of the doors until they are closed or fail: this thread takes them, and a worker for each client serves them,
-/// one after another. Up to 64 links wait for a worker, and one more in hand; then none is taken. Where fewer threads can be made,
-/// fewer work. Where none can, or there is one client, this one takes a link and serves it, in turns. Beside them the updater
-/// brings kept ranges forward after writes, where a thread can be made for it.
+/// Opens the doors at the address once there are a worker for each client and an updater, each on a thread of its own, and serves
+/// the links of the doors until they are closed or fail: this thread takes them, and the workers serve them, one after another. Up
+/// to 64 links wait for a worker, and one more in hand; then none is taken. Beside them the updater brings kept ranges forward
+/// after writes.
 ///
 /// It says how it ended. No clause tells of single links: that each which was taken has been served when it returns is shown by
 /// tests.
 pub fn serve_doors<'g, N, G, D, R>(
     rt: &R,
     alloc: Global,
+    address: &str,
     doors: &mut D,
     clients: Vec<Client<'g, N, G>>,
     updater: Updater<'g, N, G>,
@@ -265,19 +217,18 @@ where
         return Ended::OutOfMemory;
     };
     let bell = Bell::new();
-    let mut clients = clients;
-    let ended = beside_updater(
+    let served = beside_all(
         rt,
+        alloc,
+        &queue,
         &bell,
+        clients,
         updater,
-        &mut ||
-            requires { 1 ≤ length clients.items }
-            ensures closed { OnOk result (HoldNone (D.held doors.exit.now)) }
-            ensures cause { HasCause (D.faults doors.entry.now) (D.faults doors.exit.now) result }
-        { serve_links(rt, alloc, doors, &queue, &bell, &mut clients) },
+        &mut || { accept(rt, address, doors, &queue) },
     );
-    match ended {
-        Ok(()) => Ended::Closed,
-        Err(Failed) => Ended::Failed,
+    match served {
+        Ok(Ok(())) => Ended::Closed,
+        Ok(Err(Failed)) => Ended::Failed,
+        Err(OutOfMemory) => Ended::OutOfMemory,
     }
 }

@@ -31,6 +31,10 @@ impl<'a, R: Wait, S: Service> Service for Ringing<'a, R, S> {
         }
         reply
     }
+
+    fn make_room(&self) {
+        self.service.make_room();
+    }
 }
 
 /// Takes turns until no cell is marked, or there is no memory for one. After each it lets other threads have the processor: whoever

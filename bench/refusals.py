@@ -1,5 +1,5 @@
 #!/usr/bin/env python3
-"""Refuses each allocation of a run in turn, one in each run, and says whether each run is right.
+"""Refuses each allocation of a run in turn, one in each run, and each thread of a server, and says whether each run is right.
 
 Usage: bench/refusals.py PROGRAM
 
@@ -10,7 +10,8 @@ A run of requests is right where it ends with the status of memory and has writt
 `memory` and the other replies are those that the program gives to the other lines alone. A run of a script is right where it ends
 with the status of memory and has written nothing, or prints what it prints with ample memory. A server is right where it ends
 with the status of memory before it takes a connection, or where one request at most is answered `memory` or finds its connection
-closed, and each other reply is the one that stands in the acknowledged writes.
+closed, and each other reply is the one that stands in the acknowledged writes. One whose thread was refused is right only where it
+ends so.
 """
 import json
 import os
@@ -26,10 +27,12 @@ from typing import Callable
 ROOT = Path(__file__).resolve().parent.parent
 MEMORY = ["error", "memory"]
 STATUS_OF_MEMORY = 6
+ALLOCATION = "REFUSE"
+THREAD = "REFUSE_THREAD"
 
 
 class Refuser:
-    """Runs the program with one allocation refused."""
+    """Runs the program with one allocation refused, or one thread."""
 
     def __init__(self, program: str, folder: str) -> None:
         self.program = program
@@ -38,13 +41,13 @@ class Refuser:
         source = str(ROOT / "bench/refuse.c")
         subprocess.run(["cc", "-O1", "-shared", "-fPIC", "-o", self.library, source, "-ldl"], check=True)
 
-    def environment(self, number: int) -> dict[str, str]:
-        """The environment of a run in which the allocation with this number is refused."""
+    def environment(self, number: int, what: str = ALLOCATION) -> dict[str, str]:
+        """The environment of a run in which the allocation, or the thread, with this number is refused."""
         self.mark.unlink(missing_ok=True)
-        return {**os.environ, "LD_PRELOAD": self.library, "REFUSE": str(number), "REFUSED": str(self.mark)}
+        return {**os.environ, "LD_PRELOAD": self.library, what: str(number), "REFUSED": str(self.mark)}
 
     def was_refused(self) -> bool:
-        """Whether the last run came to the allocation."""
+        """Whether the last run came to what was to be refused."""
         return self.mark.exists()
 
     def run(self, words: list[str], given: bytes, number: int = 0) -> tuple[int, bytes]:
@@ -168,16 +171,16 @@ def connected(server: subprocess.Popen, port: int) -> bool:
     return False
 
 
-def serve_once(refuser: Refuser, number: int) -> bool:
-    """Whether the server that has one allocation refused is right."""
+def serve_once(refuser: Refuser, what: str, number: int) -> bool:
+    """Whether the server that has one allocation or thread refused is right."""
     with socket.create_server(("127.0.0.1", 0)) as taken:
         port = taken.getsockname()[1]
     words = ["serve", f"127.0.0.1:{port}", "--workers", "3", "--cells", "4"]
-    environment = refuser.environment(number)
+    environment = refuser.environment(number, what)
     with subprocess.Popen([refuser.program, *words], env=environment, stdout=subprocess.PIPE, stderr=subprocess.DEVNULL) as server:
         try:
             if connected(server, port):
-                return is_right_server(port)
+                return what == ALLOCATION and is_right_server(port)
             return server.returncode == STATUS_OF_MEMORY and not server.stdout.read()
         except (Lost, ConnectionError, TimeoutError, ValueError):
             return False
@@ -186,7 +189,7 @@ def serve_once(refuser: Refuser, number: int) -> bool:
 
 
 def tried(refuser: Refuser, is_right: Callable[[int], bool]) -> tuple[int, list[int]]:
-    """How many allocations were refused in turn, until one was not come to, and in which of these runs something was wrong."""
+    """How many were refused in turn, until one was not come to, and in which of these runs something was wrong."""
     wrong: list[int] = []
     number = 0
     while True:
@@ -208,10 +211,10 @@ def main() -> int:
         refuser = Refuser(str(Path(sys.argv[1]).resolve()), folder)
         plans = [(file.name, partial(is_right_run, refuser, file)) for file in sorted(ROOT.glob("examples/*.requests"))]
         plans += [(file.name, partial(is_right_script, refuser, file)) for file in sorted(ROOT.glob("examples/*.script"))]
-        plans += [("serve", partial(serve_once, refuser))]
+        plans += [("serve", partial(serve_once, refuser, ALLOCATION)), ("threads of serve", partial(serve_once, refuser, THREAD))]
         for name, is_right in plans:
             count, wrong = tried(refuser, is_right)
-            print(f"{name}: {count} allocations refused in turn, wrong: {wrong or 'none'}", flush=True)
+            print(f"{name}: {count} refused in turn, wrong: {wrong or 'none'}", flush=True)
             failed = failed or bool(wrong)
     return int(failed)
 

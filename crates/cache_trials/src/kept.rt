@@ -301,8 +301,8 @@ fn expect_cost(rt: &impl Abort, name: &str, bound: &str, seen: &Seen) {
     }
 }
 
-/// Does what a line says: it writes, evicts a cell, makes room, takes a turn, which adds a line, reads a range after so many
-/// entries, which adds a line, or reads it with `most` or `least` so many steps.
+/// Does what a line says: it writes, evicts a cell, makes room, which adds a line, takes a turn, which adds a line, reads a range
+/// after so many entries, which adds a line, or reads it with `most` or `least` so many steps.
 fn play_line<N: Naming, R: Wait + Abort>(
     rt: &R,
     alloc: Global,
@@ -326,7 +326,8 @@ fn play_line<N: Naming, R: Wait + Abort>(
             Ok(pass)
         }
         "room" => {
-            kept.cells.make_room(rt);
+            let has_gone = kept.cells.make_room(rt);
+            text.push_str(if has_gone { "some went\n" } else { "none\n" })?;
             Ok(pass)
         }
         "turn" => {

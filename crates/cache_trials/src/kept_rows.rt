@@ -265,12 +265,17 @@ room cells
 read 3 b|2| b|2}
 read 3 b|1| b|1}
 ",
-    wanted: "1: b|1|1=A
+    wanted: "none
+1: b|1|1=A
 1: b|2|1=B
 0: b|1|1=A
+some went
 0: b|1|1=A
 1: b|2|1=B
+some went
 0: b|2|1=B
+some went
+none
 1: b|2|1=B
 1: b|1|1=A
 ",

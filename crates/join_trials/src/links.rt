@@ -32,8 +32,9 @@ impl Service for Forgetful {
         Reply::Memory
     }
 
-    fn make_room(&self) {
+    fn make_room(&self) -> bool {
         self.rooms.set(self.rooms.get().saturating_add(1));
+        false
     }
 }
 

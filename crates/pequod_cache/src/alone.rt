@@ -79,8 +79,8 @@ impl<'a, 'g, R: Wait, N: Naming, G: Gate> Service for LoneClient<'a, 'g, R, N, G
         self.client.answer(self.rt, request)
     }
 
-    fn make_room(&self) {
-        self.client.make_room(self.rt);
+    fn make_room(&self) -> bool {
+        self.client.make_room(self.rt)
     }
 }
 

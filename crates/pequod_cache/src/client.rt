@@ -234,10 +234,10 @@ impl<'g, N: Naming, G: Gate> Client<'g, N, G> {
     }
 
     /// Lets go of the least recently used of what the cache keeps of the joins' outputs, for all of its clients, as
-    /// `RangeCells::make_room` does. No answer rests on it. It takes no memory. While another thread has what is to go, this one
-    /// sleeps.
-    pub fn make_room<R: Wait>(&self, rt: &R) {
-        self.cache.cells.make_room(rt);
+    /// `RangeCells::make_room` does, and says whether something went. No answer rests on it. It takes no memory. While another
+    /// thread has what is to go, this one sleeps.
+    pub fn make_room<R: Wait>(&self, rt: &R) -> bool {
+        self.cache.cells.make_room(rt)
     }
 
     /// Both clients, of one cache, see what either has seen. It waits for nobody.

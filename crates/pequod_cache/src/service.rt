@@ -25,7 +25,7 @@ impl<'a, 'g, R: Wait, N: Naming, G: Gate> Service for ClientService<'a, 'g, R, N
         self.client.answer(self.rt, request)
     }
 
-    fn make_room(&self) {
-        self.client.make_room(self.rt);
+    fn make_room(&self) -> bool {
+        self.client.make_room(self.rt)
     }
 }

@@ -121,10 +121,10 @@ impl<N: Naming> RangeCells<N> {
         self.cells.evict(rt, &self.shards, id);
     }
 
-    /// Evicts the least recently used cells, as `SharedCells::make_room` does: one at least, where there is one. What they keep is
-    /// let go, and they are not marked. It is linear in the cells that there may be, and takes no memory. While another thread
-    /// has such a cell, or a part of the base pairs, this one sleeps.
-    pub fn make_room<W: Wait>(&self, rt: &W) {
-        self.cells.make_room(rt, &self.shards);
+    /// Evicts the least recently used cells, as `SharedCells::make_room` does: one at least, where there is one. It says whether one
+    /// went. What they keep is let go, and they are not marked. It is linear in the cells that there may be, and takes no memory.
+    /// While another thread has such a cell, or a part of the base pairs, this one sleeps.
+    pub fn make_room<W: Wait>(&self, rt: &W) -> bool {
+        self.cells.make_room(rt, &self.shards)
     }
 }

@@ -32,8 +32,8 @@ impl<'a, R: Wait, S: Service> Service for Ringing<'a, R, S> {
         reply
     }
 
-    fn make_room(&self) {
-        self.service.make_room();
+    fn make_room(&self) -> bool {
+        self.service.make_room()
     }
 }
 

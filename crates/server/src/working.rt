@@ -9,6 +9,9 @@ use session::{End, Service, serve_link};
 use std::alloc::Global;
 use std::sync::Wait;
 
+/// How often a link is tried. By then a cache of which the others keep nothing more meanwhile has let go of everything.
+const MOST_TRIES: u32 = 65;
+
 /// Serves the links that the queue gives, one after another, with one client, until the queue is closed and empty. However one
 /// link ends, the next is served. The bell is rung after each write that is acknowledged.
 pub fn work<N: Naming, G: Gate, K: Link + Drop, R: Wait>(
@@ -38,11 +41,13 @@ fn serve_queued<S: Service + Drop, K: Link + Drop, R: Wait>(
     unreachable!()
 }
 
-/// Serves a link with this service. Where no memory is found to begin with, the service makes room, and the link, which is as it
-/// was, is tried once more.
+/// Serves a link with this service. Where no memory is found to begin with, the link is as it was, the service makes room, and it is
+/// tried again, as long as something went.
 fn serve_one<S: Service, K: Link>(alloc: Global, service: &mut S, link: &mut K) {
-    if serve_link(alloc, service, link) == End::OutOfMemory {
-        service.make_room();
-        let _ = serve_link(alloc, service, link);
+    for _ in 0..MOST_TRIES {
+        let end = serve_link(alloc, service, link);
+        if end != End::OutOfMemory || !service.make_room() {
+            return;
+        }
     }
 }

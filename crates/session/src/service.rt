@@ -22,8 +22,10 @@ pub trait Service {
         ensures told { Told (view self.old) (view self.new) (number self.old) (plain_request request ∷ []) (plain_reply result ∷ []) }
         ensures same_number { number self.new ≡ number self.old };
 
-    /// Lets go of what is kept and can be made anew, the least recently used first. It is called where no memory was found for a
-    /// request, for its reply or for a link, and takes none. What is kept so lies behind locks: for whoever asks it the service
-    /// stays as it is. A service that keeps nothing of the kind does nothing.
-    fn make_room(&self) {}
+    /// Lets go of what is kept and can be made anew, the least recently used first, and says whether something went. It is called
+    /// where no memory was found for a request, for its reply or for a link, and takes none. What is kept so lies behind locks:
+    /// for whoever asks it the service stays as it is. A service that keeps nothing of the kind does nothing.
+    fn make_room(&self) -> bool {
+        false
+    }
 }

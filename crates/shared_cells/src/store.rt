@@ -127,19 +127,22 @@ impl<N: Naming> SharedCells<N> {
 
     /// Evicts the least recently used cells, to make room: with the one that was used least recently all that were last used in
     /// the older half of the uses since then. So at least one goes where there is one, and the others after a few more calls: no
-    /// more than the number of uses has binary digits.
+    /// more than the number of uses has binary digits. It says whether one went.
     ///
     /// It is linear in the cells that there may be, with what `evict` takes for each that goes, and takes no memory. No lock of a
     /// cell or of a part may be held, as with `evict`. While another thread has the directory, the book, such a cell or a part,
     /// this one sleeps.
-    pub fn make_room<W: Wait>(&self, rt: &W, shards: &BaseShards<N>) {
+    pub fn make_room<W: Wait>(&self, rt: &W, shards: &BaseShards<N>) -> bool {
         let until = self.directory.lock(rt).older_half();
+        let mut has_gone = false;
         for id in 0..self.cells {
             let is_old = self.directory.lock(rt).was_last_used_by(id, until);
             if is_old {
                 self.evict(rt, shards, id);
+                has_gone = true;
             }
         }
+        has_gone
     }
 
     /// Takes a cell out of the directory, then what it keeps out of the cell, then the ranges that it follows out of the parts,

@@ -6,8 +6,8 @@ Usage: bench/short_of_memory.py PROGRAM
 Threads: servers of more and more workers under one limit. Each has to serve a connection for each worker, or to end with the
 status of memory and never to take one.
 
-Kept ranges: a server reads ranges that it keeps until one is answered `memory`. Then new connections, each of which gets, puts and
-reads a range, have to be taken, and in the end each has to be answered.
+Kept ranges: a server reads ranges that it keeps until one is answered `memory`. Then new connections get, put and read a range.
+Some may be answered `memory`, or be broken off, while it lets go of what it keeps; the last ones have to be answered.
 
 Replies: connections that each scan some 9.6 MB, one after another and again. It prints the resident memory before, afterwards, and
 once they are closed, with settings of the C library's allocator and without.
@@ -43,6 +43,7 @@ SETTINGS = (
     {"MALLOC_ARENA_MAX": "2"},
     {"MALLOC_MMAP_THRESHOLD_": "1048576", "MALLOC_TRIM_THRESHOLD_": "1048576"},
     {"MALLOC_ARENA_MAX": "2", "MALLOC_MMAP_THRESHOLD_": "1048576", "MALLOC_TRIM_THRESHOLD_": "1048576"},
+    {"MALLOC_ARENA_MAX": "2", "GLIBC_TUNABLES": "glibc.malloc.mmap_threshold=1048576:glibc.malloc.trim_threshold=1048576:glibc.malloc.mxfast=0"},
 )
 
 

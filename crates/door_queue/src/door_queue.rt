@@ -17,7 +17,7 @@ pub struct DoorQueue<T> {
     has_item: Condvar,
 }
 
-impl<T: Drop> DoorQueue<T> {
+impl<T> DoorQueue<T> {
     /// No items, and room for so many, which is reserved.
     pub fn new(alloc: Global, most: usize) -> Result<DoorQueue<T>, OutOfMemory>
         requires { 1 ≤ most }

@@ -1,5 +1,5 @@
 // Where whole files are taken from by their names.
-ghost use Rattle.std.specs.Prelude.{◌≡◌, ◌≤◌, List, ℕ, IfOk, IfSome, Some, vec_len, Err};
+ghost use Rattle.std.specs.Prelude.{◌≡◌, ◌≢◌, ◌≤◌, List, ℕ, IfOk, IfSome, Some, vec_len, Err};
 ghost use Rattle.std.specs.declared.option.Option.{Option};
 ghost use Rattle.pq_io.specs.Faults.{Rose};
 ghost use Rattle.pq_io.specs.Shelf.{File, bytes_under};
@@ -50,5 +50,6 @@ pub trait Shelf {
         ensures bound { IfOk result (λ bytes. vec_len bytes ≤ MAX_FILE_BYTES) }
         ensures same_held { held self.new ≡ held self.old }
         ensures later { faults self.old ≤ faults self.new }
-        ensures cause { result ≡ Err TakeFault.Failed → Rose (faults self.old) (faults self.new) };
+        ensures cause { result ≡ Err TakeFault.Failed → Rose (faults self.old) (faults self.new) }
+        ensures kept { result ≢ Err TakeFault.Failed → faults self.new ≡ faults self.old };
 }

@@ -1,6 +1,7 @@
 // Sources and sinks over the readers and writers of std, such as standard input and output.
-ghost use Rattle.std.specs.Prelude.{◌≡◌, ◌<◌, None, IfOk, length};
-ghost use Rattle.std.specs.Io.{WritesAtMost};
+ghost use Rattle.std.specs.Prelude.{◌≡◌, ◌<◌, None, IfOk, length, take};
+ghost use Rattle.std.specs.Io.{ReadsAtMost, WritesAtMost};
+ghost use Rattle.std.specs.Io.KnownBytes.{Appends, ReadConsumes};
 ghost use Rattle.pq_io.specs.Faults.{HasCause};
 
 use crate::fault_count::FaultCount;
@@ -49,10 +50,7 @@ impl<R: Read> Source for Reading<R> {
 
     /// Makes one read. Each error of the reader is a fault.
     fn read(&mut self, into: &mut [u8]) -> Result<usize, Failed> {
-        match self.inner.read(into) {
-            Ok(count) => Ok(count),
-            Err(_) => Err(self.faults.raise()),
-        }
+        read_piece(&mut self.inner, &mut self.faults, into)
     }
 }
 
@@ -101,6 +99,22 @@ impl<W: Write> Sink for Writing<W> {
     }
 }
 
+/// Makes one read, and says how many bytes it gave. Each error is a fault.
+pub fn read_piece<R: Read>(
+    inner: &mut R,
+    faults: &mut FaultCount,
+    into: &mut [u8],
+) -> Result<usize, Failed>
+    ensures bound { ReadsAtMost result into.new }
+    ensures bytes { ReadConsumes (R.remaining inner.old) (R.remaining inner.new) result into.new }
+    ensures cause { HasCause faults.old.0 faults.new.0 result }
+{
+    match inner.read(into) {
+        Ok(count) => Ok(count),
+        Err(_) => Err(faults.raise()),
+    }
+}
+
 /// Makes one write and one flush, so that a reader at the other end sees each piece at once. Each error of either is a fault,
 /// and so is a write that takes nothing of a piece.
 pub fn write_piece<W: Write>(
@@ -110,6 +124,7 @@ pub fn write_piece<W: Write>(
 ) -> Result<usize, Failed>
     ensures bound { WritesAtMost result bytes.now }
     ensures progress { 0 < length bytes.now → IfOk result (λ n. 0 < n) }
+    ensures bytes { IfOk result (λ n. Appends (W.contents inner.old) (W.contents inner.new) (take n bytes.now)) }
     ensures cause { HasCause faults.old.0 faults.new.0 result }
 {
     let count = match inner.write(bytes) {

@@ -2,7 +2,7 @@
 ghost use Rattle.std.specs.Prelude.{◌≡◌, None};
 
 use crate::fault_count::FaultCount;
-use crate::standard::write_piece;
+use crate::standard::{read_piece, write_piece};
 use crate::tcp::accepting::{Accepting, after_error};
 use crate::{Doors, Failed, Link};
 use std::io::{Read, Write};
@@ -72,10 +72,7 @@ impl<S: Read + Write> Link for TcpLink<S> {
     /// Makes one read, which waits for bytes or for the end. Each error is a fault, also that the peer has closed the link
     /// with bytes on the way.
     fn read(&mut self, into: &mut [u8]) -> Result<usize, Failed> {
-        match self.stream.read(into) {
-            Ok(count) => Ok(count),
-            Err(_) => Err(self.read_faults.raise()),
-        }
+        read_piece(&mut self.stream, &mut self.read_faults, into)
     }
 
     /// Makes one write, which waits for room. Each error is a fault, also that the peer has closed the link.

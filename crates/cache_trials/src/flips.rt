@@ -1,4 +1,5 @@
-// Two threads read where the ranks of two joins stand the other way round, each held at the gate with the cell of one of them.
+// Two threads read where the ranks of two joins stand the other way round. One is held at the gate with the cell of the one join
+// until the other has the cell of the other.
 ghost use Rattle.std.specs.Prelude.{◌≡◌, ◌≤◌, All, length};
 ghost use Rattle.write_history.specs.Passes.{MayAppend};
 
@@ -29,8 +30,8 @@ const WRITES: [&str; 7] = [
     "n|<x> = copy a|<x>",
 ];
 
-/// A gate that holds who fills `n` until the other fills `m`, and the other until the one fills `n`. The one has a cell of `k`
-/// then, and wants one of `a`; the other has one of `a`, and wants one of `k`.
+/// A gate that holds who fills `n` until the other comes to `m`, which is not held. The one has a cell of `k` then, and wants one
+/// of `a`; the other has one of `a`, and wants one of `k`.
 #[derive(Drop)]
 struct Crossing<'a, R> {
     rt: &'a R,

@@ -6,10 +6,8 @@
 // cell is for one rank for good, so that this is one order of locks, wherever threads read.
 #![tactic(auto)]
 
-pub mod above;
+pub mod cache;
 pub mod layer;
-pub mod outputs;
 pub mod part;
-pub mod telling;
 
 pub use layer::{Layer, Room, Tower};

@@ -8,16 +8,16 @@ use Rattle.shared_cells.proofs.cell.Cell.serve.Goals as goal
 
 pub read_kept-read-requires-clause-stands : goal.read_kept-read-requires-clause-stands
 read_kept-read-requires-clause-stands g c =
-    let lent = subst (λ o. IfSome o (IsLentFor c.lend.new.self c.args.asked.at c.args.asked.rank c.args.asked.p c.args.part.now)) c.in-Some.is c.in_ok-state.ensures.lent in
-    rank_of_lent c.lend.new.self (g.R.Reader.list c.args.reader.now) (g.R.Reader.list c.lend.new.reader) c.args.asked.at c.args.asked.rank c.args.asked.p c.args.part.now c.in-Some.state c.requires.stands.0
+    let lent = subst (λ o. IfSome o (IsLentFor c.lend.new.self c.args.query.at c.args.query.rank c.args.query.p c.args.part.now)) c.in-Some.is c.in_ok-state.ensures.lent in
+    rank_of_lent c.lend.new.self (g.R.Reader.list c.args.reader.now) (g.R.Reader.list c.lend.new.reader) c.args.query.at c.args.query.rank c.args.query.p c.args.part.now c.in-Some.state c.requires.stands.0
     c.requires.within c.lend.ensures.moves.kept c.lend.ensures.met lent c.requires.stands.1
 
 pub give_back-requires-clause-right : goal.give_back-requires-clause-right
 give_back-requires-clause-right g c =
     let list = g.R.Reader.list in
-    let lent = subst (λ o. IfSome o (IsLentFor c.lend.new.self c.args.asked.at c.args.asked.rank c.args.asked.p c.args.part.now)) c.in-Some.is c.in_ok-state.ensures.lent in
+    let lent = subst (λ o. IfSome o (IsLentFor c.lend.new.self c.args.query.at c.args.query.rank c.args.query.p c.args.part.now)) c.in-Some.is c.in_ok-state.ensures.lent in
     right_after (list c.lend.new.reader) (list c.read_kept-read.new.reader) c.lend.new.self.at c.in-Some.state c.read_kept-read.new.state c.read_kept-read.ensures.moves.kept
-    (right_of_lent c.lend.new.self (list c.lend.new.reader) c.args.asked.at c.args.asked.rank c.args.asked.p c.args.part.now c.in-Some.state c.lend.ensures.met lent)
+    (right_of_lent c.lend.new.self (list c.lend.new.reader) c.args.query.at c.args.query.rank c.args.query.p c.args.part.now c.in-Some.state c.lend.ensures.met lent)
     c.read_kept-read.ensures.same c.read_kept-read.ensures.sound
 
 pub returns-in_err-read-clause-moves : goal.returns-in_err-read-clause-moves
@@ -29,8 +29,8 @@ returns-in_err-read-clause-moves g c =
 
 pub returns-clause-output : goal.returns-clause-output
 returns-clause-output g c =
-    let lent = subst (λ o. IfSome o (IsLentFor c.lend.new.self c.args.asked.at c.args.asked.rank c.args.asked.p c.args.part.now)) c.in-Some.is c.in_ok-state.ensures.lent in
-    output_of_lent c.lend.new.self (g.R.Reader.list c.args.reader.now) (g.R.Reader.list c.lend.new.reader) c.args.asked.at c.args.asked.rank c.args.asked.p c.args.part.now c.in-Some.state c.in_ok-read.field-0.items
+    let lent = subst (λ o. IfSome o (IsLentFor c.lend.new.self c.args.query.at c.args.query.rank c.args.query.p c.args.part.now)) c.in-Some.is c.in_ok-state.ensures.lent in
+    output_of_lent c.lend.new.self (g.R.Reader.list c.args.reader.now) (g.R.Reader.list c.lend.new.reader) c.args.query.at c.args.query.rank c.args.query.p c.args.part.now c.in-Some.state c.in_ok-read.field-0.items
     c.requires.within c.lend.ensures.moves.kept c.lend.ensures.met lent c.in_ok-read.ensures.output
 
 pub returns-clause-moves : goal.returns-clause-moves

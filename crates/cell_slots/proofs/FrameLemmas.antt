@@ -7,6 +7,7 @@ use Rattle.kept_ranges.specs.Sound.{KeptRange}
 use Rattle.cell_slots.specs.declared.slot.Slot.{Slot}
 use Rattle.cell_slots.specs.declared.slot.Slot.TheVariants.{Free, Lent, Held}
 use Rattle.cell_slots.specs.Slots.{Holdings, with_slot, with_lent, IsLeft, Frame}
+use Rattle.cell_slots.specs.FrameLaws.{frame_refl}
 
 -- ---- one element of a list is set
 
@@ -47,6 +48,10 @@ frame_weaker top more a b up frame = record {
   unused = λ none. frame.unused (omega (arith, up, none));
   same_setting = frame.same_setting;
 }
+
+-- cells of a reader that is as it was
+pub frame_of_same : {S : Type 0} (holds : S → Holdings) (top : ℕ) (a b : S) → b ≡ a → Frame top (holds a) (holds b)
+frame_of_same holds top a b same = subst (λ x. Frame top (holds a) (holds x)) (sym same) (frame_refl top (holds a))
 
 -- ---- a slot that is lent and given back
 

@@ -2,7 +2,7 @@
 use Rattle.std.proofs.Common.{◌≡◌, ◌==◌, ℕ, zero, suc, ◌+◌, ◌-◌, ◌%◌, ◌≤◌, ◌⊎◌, inl, inr, true, false, cond, not, List, [], ◌∷◌, ◌++◌, length, take, drop, Contains, None, refl, sym, ap, ◌∙◌, subst, arith, Bool, sum, Result, Ok, Err, OnOk, OnErr}
 use Rattle.std.proofs.lemmas.List.{take_all, take-append-drop, length-drop}
 use Rattle.semantics.specs.Texts.{Text, Table, value_at, is_range, Range, within, pairs_within, pairs_where}
-use Rattle.semantics.specs.Histories.{Entry, History, DeclaredJoin, joins_of, changed_at, base_of, is_computed}
+use Rattle.semantics.specs.Histories.{Entry, History, IsPrefix, joins_of, changed_at, base_of, is_computed}
 use Rattle.semantics.specs.States.{below}
 use Rattle.semantics.proofs.BaseLemmas.{value_at-visible}
 use Rattle.semantics.proofs.StateLemmas.{below-zero}
@@ -12,6 +12,7 @@ use Rattle.growing_history.specs.Entered.{HasEntered}
 use Rattle.growing_history.proofs.ChangeLemmas.{changed_keys_are_written, changed_keys_ascend}
 use Rattle.growing_history.proofs.ElementLemmas.{all_from_has}
 use Rattle.growing_history.proofs.EnteredLemmas.{has_entered_taken, declares_joins}
+use Rattle.growing_history.proofs.PrefixLemmas.{take_prefix}
 use Rattle.growing_history.proofs.UnchangedLemmas.{bare_is_base, base_kept, unchanged_is_same}
 use Rattle.layering.proofs.StandingLemmas.{joins_stay_since}
 use Rattle.layering.proofs.LayerLemmas.{visible_within}
@@ -40,14 +41,15 @@ take_then (suc n) k (x ∷ xs) = ap (λ ys. x ∷ ys) (take_then n k xs) ∙ ap 
 
 -- ---- the pairs that no output hides
 
--- where the versions have given the base pairs of a range, and those that no output hides are left, these are what is visible
-pub visible_read : (h : History) (p : ℕ) (range : Range) (joins : List DeclaredJoin) (found left : Table) → joins ≡ joins_of (take p h) → found ≡ pairs_within range (base_of (take p h)) →
-    left ≡ pairs_where (λ key. not (is_computed joins key)) found → left ≡ pairs_within range (below (take p h) 0)
-visible_read h p range joins found left same_joins is hidden =
+-- where the base pairs of a range were found, and those are left that no output hides by the joins of a longer list, these are what is visible
+pub visible_read : (h more : History) (p rank : ℕ) (range : Range) (found left : Table) → p ≤ length h → IsPrefix h more → rank ≤ 0 → found ≡ pairs_within range (base_of (take p h)) →
+    left ≡ pairs_where (λ key. not (is_computed (joins_of (take p more)) key)) found → left ≡ pairs_within range (below (take p h) rank)
+visible_read h more p rank range found left inside begins none is hidden =
     hidden
-    ∙ (λ i. pairs_where (λ key. not (is_computed (same_joins i) key)) (is i))
+    ∙ (λ i. pairs_where (λ key. not (is_computed (joins_of (take_prefix p h more inside begins i)) key)) (is i))
     ∙ sym (visible_within (take p h) range)
     ∙ ap (pairs_within range) (sym (below-zero (take p h)))
+    ∙ ap (λ r. pairs_within range (below (take p h) r)) (let e : 0 ≡ rank = omega arith in e)
 
 -- in a bare range nothing is hidden
 pub bare_read : (h : History) (p : ℕ) (range : Range) (found left : Table) → HasEntered h → is_range range.low range.high ≡ true → is_bare range (joins_of (take p h)) ≡ true → found ≡ pairs_within range (base_of (take p h)) →
@@ -116,7 +118,3 @@ caught_up (Err e) old new es part is within stands ok position err =
 -- versions that have caught up stand for all entries
 pub stands_for_all : (h es : History) (base : Kept) → es ≡ h → base.position ≡ length es → StandsFor 0 base (take base.position es) → StandsFor 0 base h
 stands_for_all h es base is position stands = subst (StandsFor 0 base) (take_all base.position es (omega (arith, position)) ∙ is) stands
-
--- rank 0
-pub at_rank_zero : (h : History) (p rank : ℕ) (range : Range) (left : Table) → rank ≤ 0 → left ≡ pairs_within range (below (take p h) 0) → left ≡ pairs_within range (below (take p h) rank)
-at_rank_zero h p rank range left none is = is ∙ ap (λ r. pairs_within range (below (take p h) r)) (let e : 0 ≡ rank = omega arith in e)

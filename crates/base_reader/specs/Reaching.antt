@@ -1,4 +1,4 @@
--- The joins of a set by their positions and numbers, those that a range reaches, and the joins at earlier positions.
+-- The joins of a set by their positions and numbers, and those that a range reaches.
 use Rattle.std.specs.Prelude.{◌≡◌, ◌&&◌, ◌==◌, ℕ, ◌≤◌, List, length, slice_get, slice_index, take, Bool, Option, Some, None, option_map}
 use Rattle.semantics.specs.Texts.{Range}
 use Rattle.semantics.specs.Joins.{Join}
@@ -28,8 +28,3 @@ IsJoinIn joins at (Some j) = (place : ℕ) × (slice_get joins place ≡ Some (r
 -- what is said of the joins between a position and the one after which these joins stand
 abbrev pub SaysBetween : Joins → ℕ → Range → Between → Type 0
 SaysBetween joins q range answer = (h : History) (p : ℕ) → q ≤ p → p ≤ length h → AreJoins 0 joins (take p h) → TellsBetween h q p range answer
-
--- a set of the joins after the first p entries; or none, where each set of the joins after all entries is one
-abbrev pub KeepsJoinsAt : History → ℕ → Option Joins → Type 0
-KeepsJoinsAt h p None = (joins : Joins) → AreJoins 0 joins h → AreJoins 0 joins (take p h)
-KeepsJoinsAt h p (Some earlier) = AreJoins 0 earlier (take p h)

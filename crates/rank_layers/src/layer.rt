@@ -87,11 +87,11 @@ impl<R: Cells> Cells for Layer<R> {
 
     ghost spends_so = { λ a b p range rank added so. so };
 
-    fn reached(&self, p: u64, range: &Range, rank: u8) -> Result<Vec<u64>, OutOfMemory> {
+    fn reached(&mut self, p: u64, range: &Range, rank: u8) -> Result<Vec<u64>, OutOfMemory> {
         self.inner.reached(p, range, rank)
     }
 
-    fn between(&self, q: u64, p: u64, range: &Range) -> Result<Between, OutOfMemory> {
+    fn between(&mut self, q: u64, p: u64, range: &Range) -> Result<Between, OutOfMemory> {
         self.inner.between(q, p, range)
     }
 

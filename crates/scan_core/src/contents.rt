@@ -282,11 +282,11 @@ impl Cells for Core {
 
     ghost spends_so = { λ a b p range rank added so. bottom_spends a b p range rank added so };
 
-    fn reached(&self, p: u64, range: &Range, rank: u8) -> Result<Vec<u64>, OutOfMemory> {
+    fn reached(&mut self, p: u64, range: &Range, rank: u8) -> Result<Vec<u64>, OutOfMemory> {
         self.base.reached(p, range, rank)
     }
 
-    fn between(&self, q: u64, p: u64, range: &Range) -> Result<Between, OutOfMemory> {
+    fn between(&mut self, q: u64, p: u64, range: &Range) -> Result<Between, OutOfMemory> {
         self.base.between(q, p, range)
     }
 

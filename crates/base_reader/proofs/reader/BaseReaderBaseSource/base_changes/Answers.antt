@@ -1,0 +1,9 @@
+use Rattle.std.proofs.Common.{◌∙◌, arith}
+use Rattle.std.proofs.lemmas.Result.{IfOk-weaker}
+use Rattle.base_reader.proofs.ReadingLemmas.{stands_for_all}
+use Rattle.base_reader.proofs.reader.BaseReaderBaseSource.base_changes.Goals as goal
+
+pub returns-clause-exact : goal.returns-clause-exact
+returns-clause-exact g c =
+    let stands = stands_for_all c.args.self.now c.as_slice.result.now c.catch_up.new.base (c.as_slice.ensures.value ∙ c.self.view_is) c.in_ok-catch_up.ensures.caught c.in_ok-catch_up.ensures.versions in
+    IfOk-weaker c.changed.result _ _ (λ keys exact. exact 0 c.args.self.now stands (omega arith)) c.changed.ensures.exact

@@ -1,5 +1,5 @@
 // One part of a range, from the cell that holds it, which has one owner, or from a kept range of its own.
-ghost use Rattle.std.specs.Prelude.{◌≡◌, ℕ, ◌+◌, ◌≤◌, length, slice_get, IfOk, OnOk, Some, None};
+ghost use Rattle.std.specs.Prelude.{◌≡◌, ℕ, ◌+◌, ◌≤◌, length, slice_get, IfOk, OnOk, Some};
 ghost use Rattle.semantics.specs.Joins.{Join as PlainJoin};
 ghost use Rattle.growing_history.specs.Entered.{HasEntered};
 ghost use Rattle.join_eval.specs.Moves.{Moves};
@@ -16,6 +16,7 @@ use cell_slots::{Cells, Part};
 use join_eval::Changed;
 use join_types::Pair;
 use out_of_memory::OutOfMemory;
+use pq_io::OpenGate;
 use range_serving::{serve, serve_alone, tell};
 use std::alloc::Global;
 use std::sync::ledger::Ledger;
@@ -41,7 +42,9 @@ fn read_alone<R: Cells, L: Ledger>(
 {
     let join = reader.join_at(query.at)?;
     let range = part.range.copy()?;
-    serve_alone(alloc, join, query.rank, query.p, range, reader, steps)
+    serve_alone(
+        alloc, join, query.rank, query.p, range, &OpenGate, reader, steps,
+    )
 }
 
 /// Reads what the join gives in the part: from the cell that holds it, while it does and does not stand past the position, and
@@ -76,12 +79,9 @@ pub fn read_part<R: Cells, L: Ledger>(
         return read_alone(alloc, query, part, reader, steps);
     };
     let mut state = state;
-    let served = serve(&mut state, query.p, &part.range, reader, steps);
+    let served = serve(&mut state, query.p, &part.range, &OpenGate, reader, steps);
     reader.give_back(id, query.at, state);
-    match served? {
-        Some(pairs) => Ok(pairs),
-        None => unreachable!(),
-    }
+    served
 }
 
 /// Says what changed in the join's output in the part since a position, as the cell that holds the part says.

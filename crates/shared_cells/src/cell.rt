@@ -2,14 +2,12 @@
 ghost use Rattle.std.specs.Prelude.{◌≡◌, ◌+◌, ◌≤◌, length, take, false, true, IfOk, IfSome, MatchOption, OnOk, Some, None};
 ghost use Rattle.std.specs.Option.{IsSomeAnd};
 ghost use Rattle.semantics.specs.Joins.{Join as PlainJoin};
-ghost use Rattle.semantics.specs.Histories.{joins_of};
-ghost use Rattle.growing_history.specs.Entered.{HasEntered, HasRank};
+ghost use Rattle.growing_history.specs.Entered.{HasEntered};
 ghost use Rattle.layering.specs.Parts.{IsWithin};
 ghost use Rattle.join_eval.specs.Moves.{Moves};
-ghost use Rattle.kept_ranges.specs.Sound.{IsSound, KeptRange};
-ghost use Rattle.range_state.specs.Ready.{HasSameSubject, IsReady};
+ghost use Rattle.kept_ranges.specs.Sound.{KeptRange};
 ghost use Rattle.range_state.specs.Since.{AnswersSince};
-ghost use Rattle.range_serving.specs.Serving.{IsBroughtTo, IsPast, StandsFrom, output_within};
+ghost use Rattle.range_serving.specs.Serving.{IsBroughtTo, IsPast};
 ghost use Rattle.cell_slots.specs.Slots.{IsDeclared, IsOutput, IsRankAt, IsRightFor, StandsAs};
 ghost use Rattle.rank_layers.specs.Telling.{TellsJoin};
 ghost use Rattle.shared_cells.specs.Bringing.{BringsCell};
@@ -22,7 +20,7 @@ use join_types::Pair;
 use key_space::Range;
 use out_of_memory::OutOfMemory;
 use pq_io::Gate;
-use range_serving::{catch_up, is_past, reach, tell};
+use range_serving::{catch_up, is_past, serve, tell};
 use range_state::RangeState;
 use rank_layers::Query;
 use shared_reader::{Followed, Stacked};
@@ -63,76 +61,6 @@ fn is_within(part: &Range, range: &Range) -> bool
     ensures no { IsWithin part.now range.now → result ≡ true }
 {
     range.lo() <= part.lo() && part.hi() <= range.hi()
-}
-
-/// Brings it to where p entries stand, and mends it where something pending meets the part. The gate is passed before it is
-/// filled, and before it is mended.
-fn make_ready<R: Reader, G: Gate, L: Ledger>(
-    state: &mut RangeState,
-    p: u64,
-    part: &Range,
-    gate: &G,
-    reader: &mut R,
-    steps: &mut Steps<L>,
-) -> Result<(), OutOfMemory>
-    requires before { IsPast p state.old → ⊥ }
-    requires within { p ≤ length (R.list reader.old) }
-    requires above { R.floor reader.old ≤ p }
-    requires from { StandsFrom (R.floor reader.old) state.old }
-    requires entered { HasEntered (R.list reader.old) }
-    requires stands { HasRank (joins_of (take p (R.list reader.old))) state.old.join state.old.rank }
-    requires ranked { state.old.rank ≤ R.top }
-    requires sound { IsSound state.old (R.list reader.old) }
-    ensures same { HasSameSubject state.old state.new }
-    ensures ready { OnOk result (IsReady p part.now state.new) }
-    ensures still { IsReady p part.now state.old → state.new ≡ state.old }
-    ensures free { IsReady p part.now state.old → steps.new ≡ steps.old }
-    ensures sound { IsSound state.new (R.list reader.new) }
-    ensures moves { Moves R.list R.floor R.went reader.old reader.new }
-    ensures counted { steps.old ≤ steps.new }
-{
-    if state.position().is_none() {
-        gate.pass(part.table());
-    }
-    reach(state, p, reader, steps)?;
-    if state.pending_meets(part) {
-        gate.pass(part.table());
-        return state.mend(part, reader, steps);
-    }
-    Ok(())
-}
-
-/// A part of a kept range's output after p entries, past which it does not stand. Before it is filled, and before it is mended,
-/// the gate is passed.
-///
-/// On `OutOfMemory` it stands where it stood, or at p, or is forgotten, and is right for the reader's list.
-fn read_kept<R: Reader, G: Gate, L: Ledger>(
-    state: &mut RangeState,
-    p: u64,
-    part: &Range,
-    gate: &G,
-    reader: &mut R,
-    steps: &mut Steps<L>,
-) -> Result<Vec<Pair>, OutOfMemory>
-    requires before { IsPast p state.old → ⊥ }
-    requires within { p ≤ length (R.list reader.old) }
-    requires above { R.floor reader.old ≤ p }
-    requires from { StandsFrom (R.floor reader.old) state.old }
-    requires entered { HasEntered (R.list reader.old) }
-    requires stands { HasRank (joins_of (take p (R.list reader.old))) state.old.join state.old.rank }
-    requires ranked { state.old.rank ≤ R.top }
-    requires sound { IsSound state.old (R.list reader.old) }
-    ensures same { HasSameSubject state.old state.new }
-    ensures ready { OnOk result (IsReady p part.now state.new) }
-    ensures output { IfOk result (λ pairs. pairs.items ≡ output_within state.old (R.list reader.old) p part.now) }
-    ensures sound { IsSound state.new (R.list reader.new) }
-    ensures moves { Moves R.list R.floor R.went reader.old reader.new }
-    ensures counted { steps.old ≤ steps.new }
-    ensures cost { IfOk result (λ pairs. steps.old + 1 + length pairs.items ≤ steps.new) }
-    ensures at_once { IsReady p part.now state.old → IfOk result (λ pairs. steps.new ≡ steps.old + 1 + length pairs.items) }
-{
-    make_ready(state, p, part, gate, reader, steps)?;
-    state.read(part, steps)
 }
 
 impl<N: Naming> Cell<N> {
@@ -365,7 +293,7 @@ impl<N: Naming> Cell<N> {
             return Ok(None);
         };
         let mut state = state;
-        let read = read_kept(&mut state, query.p, part, gate, reader, steps);
+        let read = serve(&mut state, query.p, part, gate, reader, steps);
         self.give_back(state, reader);
         Ok(Some(read?))
     }

@@ -40,8 +40,16 @@ fn read_alone<N: Naming, W, G: Gate, R: Stacked<N>, L: Ledger>(
 {
     let join = reader.join_at(query.at)?;
     let range = part.copy()?;
-    room.gate.pass(part.table());
-    serve_alone(room.alloc, join, query.rank, query.p, range, reader, steps)
+    serve_alone(
+        room.alloc,
+        join,
+        query.rank,
+        query.p,
+        range,
+        room.gate,
+        reader,
+        steps,
+    )
 }
 
 /// What the join gives in the part, from the cell that has it. None where no cell has it any more, where the cell is for another

@@ -1,5 +1,5 @@
 use Rattle.join_eval.proofs.MovesLemmas.{moves_trans}
-use Rattle.shared_cells.proofs.cell.make_ready.Goals as goal
+use Rattle.range_serving.proofs.serving.make_ready.Goals as goal
 
 pub returns-then-pending_meets-clause-moves : goal.returns-then-pending_meets-clause-moves
 returns-then-pending_meets-clause-moves g c =

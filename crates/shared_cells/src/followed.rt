@@ -14,7 +14,7 @@ pub struct Followed {
 }
 
 impl Followed {
-    /// No joins, before any declaration.
+    /// Makes it of no joins, as before any declaration.
     pub fn new(alloc: Global) -> Followed {
         Followed {
             changed: 0,
@@ -22,7 +22,7 @@ impl Followed {
         }
     }
 
-    /// The joins of a set with their ranks, at a search for each.
+    /// Takes the joins of a set with their ranks, at a search for each.
     pub fn of(alloc: Global, joins: &JoinSet) -> Result<Followed, OutOfMemory> {
         let mut ranked = BTreeSet::new(alloc);
         for i in 0..joins.len() {
@@ -37,12 +37,12 @@ impl Followed {
         })
     }
 
-    /// The position of the last declaration or drop.
+    /// Tells the position of the last declaration or drop that was followed, 0 where there was none.
     pub fn changed_at(&self) -> u64 {
         self.changed
     }
 
-    /// Whether the join is one of these with its rank, or was declared after these stood. At most one search.
+    /// Says whether the join is one of these with its rank, or was declared after these stood. At most one search.
     pub fn has(&self, join: RankedJoin) -> bool {
         self.changed < join.at || self.joins.contains(&join)
     }

@@ -1,5 +1,6 @@
 -- How readers leave slots.
-use Rattle.std.proofs.Common.{◌≡◌, ℕ, zero, suc, ◌+◌, ◌<◌, ◌≤◌, List, [], ◌∷◌, length, slice_get, slice_set, Option, Some, ◌⊎◌, inl, inr, refl, sym, ap, ◌∙◌, subst, arith}
+use Rattle.std.proofs.Common.{◌≡◌, ℕ, zero, suc, ◌+◌, ◌<◌, ◌≤◌, List, [], ◌∷◌, length, slice_get, slice_set, Option, Some, inl, inr, refl, sym, ap, ◌∙◌, subst, arith}
+use Rattle.std.proofs.lemmas.Bool.{cases_eq}
 use Rattle.std.proofs.lemmas.Option.{same_Some, slice_get_within}
 use Rattle.std.proofs.lemmas.List.{length-set}
 use Rattle.semantics.specs.Texts.{Range}
@@ -24,13 +25,6 @@ get-set_other (y ∷ ys) zero zero x apart = absurd (apart refl)
 get-set_other (y ∷ ys) zero (suc k) x apart = refl
 get-set_other (y ∷ ys) (suc i) zero x apart = refl
 get-set_other (y ∷ ys) (suc i) (suc k) x apart = get-set_other ys i k x (λ e. apart (ap suc e))
-
--- two numbers are the same or not
-pub same_or_not : (a b : ℕ) → (a ≡ b) ⊎ (a ≡ b → ⊥)
-same_or_not zero zero = inl refl
-same_or_not zero (suc b) = inr (λ e. omega (arith, e))
-same_or_not (suc a) zero = inr (λ e. omega (arith, e))
-same_or_not (suc a) (suc b) = elim (same_or_not a b) [ inl e ↦ inl (ap suc e) | inr apart ↦ inr (λ e. apart (omega (arith, e))) ]
 
 -- ---- frames
 
@@ -75,13 +69,13 @@ frame_around before lent mid after id at rank was s range held least lent_is fra
     let set : after.slots ≡ slice_set mid.slots id (Held at s) = ap (λ (c : Holdings). c.slots) after_is in
     record {
       same_count = ap length set ∙ length-set mid.slots id (Held at s) ∙ frame.same_count ∙ ap length is ∙ length-set before.slots id (Lent at range);
-      left = λ k slot at_k left. elim (same_or_not k id) [
+      left = λ k slot at_k left. elim (cases_eq k id) [
         | inl e ↦ absurd (not_left rank at id was slot before.slots least held (ap (slice_get before.slots) (sym e) ∙ at_k) left)
         | inr apart ↦
             ap (λ slots. slice_get slots k) set ∙ get-set_other mid.slots id k (Held at s) apart
             ∙ frame.left k slot (ap (λ slots. slice_get slots k) is ∙ get-set_other before.slots id k (Lent at range) apart ∙ at_k) (left_weaker rank (rank + 1) slot (omega arith) left)
       ];
-      lent = λ k from kept at_k. elim (same_or_not k id) [
+      lent = λ k from kept at_k. elim (cases_eq k id) [
         | inl e ↦
             let mid_in : id < length mid.slots = omega (arith, slice_get_within before.slots id (Held at was) held, frame.same_count, ap length is, length-set before.slots id (Lent at range)) in
             absurd (held_not_lent at from s kept (sym (ap (λ slots. slice_get slots id) set ∙ get-set_same mid.slots id (Held at s) mid_in) ∙ ap (slice_get after.slots) (sym e) ∙ at_k))

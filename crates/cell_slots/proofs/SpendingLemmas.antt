@@ -1,5 +1,6 @@
 -- What reading costs over cells that have one owner, one join after another and one rank after another.
 use Rattle.std.proofs.Common.{◌≡◌, ℕ, ◌+◌, ◌≤◌, List, [], ◌∷◌, ◌++◌, length, take, slice_get, Some, inl, inr, sym, ap, ◌∙◌, subst, arith}
+use Rattle.std.proofs.lemmas.Bool.{cases_eq}
 use Rattle.std.proofs.lemmas.Option.{slice_get_within}
 use Rattle.semantics.specs.Texts.{Range, pairs_within}
 use Rattle.semantics.specs.Joins.{Join}
@@ -12,7 +13,7 @@ use Rattle.cell_slots.specs.declared.slot.Part.{Part}
 use Rattle.cell_slots.specs.declared.slot.Slot.TheVariants.{Free, Held}
 use Rattle.cell_slots.specs.Slots.{Holdings, HoldsReady, IsReadySlot, StandsAs}
 use Rattle.cell_slots.specs.Spending.{row_count, Covers, JoinsSpend, KeepsJust, MayKeep, OneSpends, ReachesOnly, Spends, Took}
-use Rattle.cell_slots.proofs.FrameLemmas.{get-set_same, same_or_not}
+use Rattle.cell_slots.proofs.FrameLemmas.{get-set_same}
 
 -- ---- one join
 
@@ -87,7 +88,7 @@ next_spends h a b c p range rank n m k sum first joins = record {
   still = λ none.
       let here = none_take h b c p range rank m (reached range rank (joins_of (take p h))) (none rank (omega arith)) joins in
       here.1 ∙ first.still (λ r less. none r (omega arith));
-  used = λ rk s only opened holds. elim (same_or_not rk rank) [
+  used = λ rk s only opened holds. elim (cases_eq rk rank) [
     | inl e ↦
         let none = lower_none rk s only e in
         let one : OneSpends h b c p range rank s.position s.join m = one_of h b c p range rank m (reached range rank (joins_of (take p h))) s (subst (λ r. reached range r (joins_of (take p h)) ≡ s ∷ []) e only.one) joins in
@@ -99,7 +100,7 @@ next_spends h a b c p range rank n m k sum first joins = record {
         let lower = first.used rk s (lower_only rk s only apart) opened holds in
         omega (arith, here.0, lower, sum)
   ];
-  kept = λ rk s only opened may. elim (same_or_not rk rank) [
+  kept = λ rk s only opened may. elim (cases_eq rk rank) [
     | inl e ↦
         let none = lower_none rk s only e in
         let one : OneSpends h b c p range rank s.position s.join m = one_of h b c p range rank m (reached range rank (joins_of (take p h))) s (subst (λ r. reached range r (joins_of (take p h)) ≡ s ∷ []) e only.one) joins in

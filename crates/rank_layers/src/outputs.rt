@@ -140,11 +140,7 @@ pub fn add_outputs<R: Reader, C: RangeCache<R>, L: Ledger>(
 {
     let mut all = pairs;
     for at in ats {
-        let query = Query {
-            at: *at,
-            rank,
-            p,
-        };
+        let query = Query { at: *at, rank, p };
         let more = read_join(cache, query, range, reader, steps)?;
         all = merge(cache.alloc(), all, more)?;
     }

@@ -80,12 +80,7 @@ impl<R: Cells> RangeCache<R> for OwnCells {
         reader.between(q, p, range)
     }
 
-    fn cover(
-        &self,
-        query: Query,
-        range: &Range,
-        reader: &mut R,
-    ) -> Result<Vec<Part>, OutOfMemory> {
+    fn cover(&self, query: Query, range: &Range, reader: &mut R) -> Result<Vec<Part>, OutOfMemory> {
         reader.cover(query.at, query.rank, query.p, range)
     }
 

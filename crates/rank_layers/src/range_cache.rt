@@ -60,7 +60,13 @@ pub trait RangeCache<R: Reader> {
     fn alloc(&self) -> Global;
 
     /// Lists the joins of a rank whose outputs the range reaches, after the first p entries, in order of position.
-    fn reached(&self, p: u64, range: &Range, rank: u8, reader: &mut R) -> Result<Vec<u64>, OutOfMemory>
+    fn reached(
+        &self,
+        p: u64,
+        range: &Range,
+        rank: u8,
+        reader: &mut R,
+    ) -> Result<Vec<u64>, OutOfMemory>
         requires within { p ≤ length (R.list reader.old) }
         requires above { R.floor reader.old ≤ p }
         ensures reached { IfOk result (λ ats. ats.items ≡ map (λ s. s.position) (reached range.now rank (joins_of (take p (R.list reader.old))))) }
@@ -76,7 +82,12 @@ pub trait RangeCache<R: Reader> {
 
     /// Gives the range, which reaches the join's output, in parts, in order, each with where it is kept, if it is. What is not kept
     /// yet may be kept from now on.
-    fn cover(&self, query: Query, range: &Range, reader: &mut R) -> Result<Vec<Self::Part>, OutOfMemory>
+    fn cover(
+        &self,
+        query: Query,
+        range: &Range,
+        reader: &mut R,
+    ) -> Result<Vec<Self::Part>, OutOfMemory>
         requires within { query.p ≤ length (R.list reader.old) }
         requires above { R.floor reader.old ≤ query.p }
         requires reached { IsReached (R.list reader.old) query.p query.at query.rank range.now }

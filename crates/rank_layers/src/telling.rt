@@ -107,11 +107,7 @@ pub fn add_changes<R: Reader, C: RangeCache<R>, L: Ledger>(
 {
     let mut all = keys;
     for at in ats {
-        let query = Query {
-            at: *at,
-            rank,
-            p,
-        };
+        let query = Query { at: *at, rank, p };
         match tell_join(cache, query, since, range, reader, steps)? {
             Changed::Keys(more) => all = united(cache.alloc(), all, more)?,
             Changed::All => return Ok(Changed::All),

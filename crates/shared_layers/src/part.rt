@@ -41,14 +41,7 @@ fn read_alone<N: Naming, W, G: Gate, R: Stacked<N>, L: Ledger>(
     let join = reader.join_at(query.at)?;
     let range = part.copy()?;
     serve_alone(
-        room.alloc,
-        join,
-        query.rank,
-        query.p,
-        range,
-        room.gate,
-        reader,
-        steps,
+        room.alloc, join, query.rank, query.p, range, room.gate, reader, steps,
     )
 }
 

@@ -16,7 +16,12 @@ use Rattle.growing_history.proofs.PrefixLemmas.{take_prefix}
 use Rattle.growing_history.proofs.UnchangedLemmas.{bare_is_base, base_kept, unchanged_is_same}
 use Rattle.layering.proofs.StandingLemmas.{joins_stay_since}
 use Rattle.layering.proofs.LayerLemmas.{visible_within}
-use Rattle.join_eval.specs.Answers.{ListsChanges}
+use Rattle.join_eval.specs.declared.between.Between.{Between}
+use Rattle.join_eval.specs.declared.between.Between.TheVariants.{Steady, Bare, Other}
+use Rattle.join_eval.specs.declared.reading.Changed.{Changed}
+use Rattle.join_eval.specs.declared.reading.Changed.TheVariants.{Keys, All}
+use Rattle.join_eval.specs.Answers.{AnswersChanges, ListsChanges, ListsExactly, TellsBetween}
+use Rattle.base_reader.specs.Reaching.{AnswersKeys}
 use Rattle.base_versions.specs.Kept.{Kept, has_table, StandsFor, HasEnteredInPart}
 
 -- ---- the versions of all tables
@@ -90,7 +95,7 @@ lists h q p rank range same = record {
 }
 
 -- they do at rank 0 where no join is declared or dropped between, and over a range that is bare throughout
-pub changed_listed : (h : History) (q p rank : ℕ) (range : Range) (keys : List Text) → HasEntered h → is_range range.low range.high ≡ true → q ≤ p → rank ≤ 0 → keys ≡ changed_keys q p range h →
+changed_listed : (h : History) (q p rank : ℕ) (range : Range) (keys : List Text) → HasEntered h → is_range range.low range.high ≡ true → q ≤ p → rank ≤ 0 → keys ≡ changed_keys q p range h →
     (changed_at (take p h) ≤ q) ⊎ IsBareThroughout h q p range → ListsChanges h q p rank range keys
 changed_listed h q p rank range keys entered ok order none is (inl steady) =
     let zero_rank : 0 ≡ rank = omega arith in
@@ -99,6 +104,22 @@ changed_listed h q p rank range keys entered ok order none is (inl steady) =
 changed_listed h q p rank range keys entered ok order none is (inr bare) =
     subst (ListsChanges h q p rank range) (sym is)
     (lists h q p rank range (λ key inside unlisted. unchanged_is_same h q p rank range key (λ x. declares_joins (take x h) (has_entered_taken x h entered)) ok bare inside unlisted))
+
+-- what is answered of them is right
+pub changed_answered : (h : History) (q p rank : ℕ) (range : Range) (keys : List Text) (joins : Between) (answer : Changed) → HasEntered h → is_range range.low range.high ≡ true → q ≤ p → rank ≤ 0 → keys ≡ changed_keys q p range h →
+    TellsBetween h q p range joins → AnswersKeys keys joins answer → AnswersChanges h q p rank range answer
+changed_answered h q p rank range keys Steady (Keys listed) entered ok order none is said answers = changed_listed h q p rank range listed.items entered ok order none (answers ∙ is) (inl said)
+changed_answered h q p rank range keys Steady All entered ok order none is said answers = absurd answers
+changed_answered h q p rank range keys Bare (Keys listed) entered ok order none is said answers = changed_listed h q p rank range listed.items entered ok order none (answers ∙ is) (inr said)
+changed_answered h q p rank range keys Bare All entered ok order none is said answers = absurd answers
+changed_answered h q p rank range keys Other (Keys listed) entered ok order none is said answers = absurd answers
+changed_answered h q p rank range keys Other All entered ok order none is said answers = record { computed = said.1; why = inl said.0 }
+
+-- over a range that is bare throughout just these are listed
+pub changed_of_bare : (h : History) (q p : ℕ) (range : Range) (keys named : List Text) (joins : Between) (answer : Changed) → keys ≡ named → TellsBetween h q p range joins → IsBareThroughout h q p range → AnswersKeys keys joins answer → ListsExactly named answer
+changed_of_bare h q p range keys named Steady answer is said bare answers = subst (λ ks. ListsExactly ks answer) is answers
+changed_of_bare h q p range keys named Bare answer is said bare answers = subst (λ ks. ListsExactly ks answer) is answers
+changed_of_bare h q p range keys named Other answer is said bare answers = absurd (said.1 bare)
 
 -- ---- versions that catch up
 

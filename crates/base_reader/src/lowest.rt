@@ -8,13 +8,14 @@ ghost use Rattle.growing_history.specs.Entered.{HasEntered};
 ghost use Rattle.layering.specs.Reached.{reached};
 ghost use Rattle.join_eval.specs.Answers.{AnswersChanges, CostsOne, ListsExactly, TellsBetween};
 ghost use Rattle.join_eval.specs.Moves.{Moves};
+ghost use Rattle.base_reader.specs.Reaching.{AnswersKeys};
 
 use crate::hiding::hide_computed;
 use crate::reaching::{between, reached_in};
 use crate::source::BaseSource;
 use join_eval::{Between, Changed};
 use join_types::Pair;
-use key_space::Range;
+use key_space::{Key, Range};
 use out_of_memory::OutOfMemory;
 use std::sync::ledger::Ledger;
 use steps::Steps;
@@ -111,6 +112,17 @@ pub fn lowest_reached<S: BaseSource>(
     reached_in(alloc, &joins, rank, range)
 }
 
+/// What is answered where these keys were put or removed, and this is so of the joins.
+fn known(keys: Vec<Key>, joins: Between) -> Changed
+    ensures { AnswersKeys keys.items joins result }
+{
+    match joins {
+        Between::Steady => Changed::Keys(keys),
+        Between::Bare => Changed::Keys(keys),
+        Between::Other => Changed::All,
+    }
+}
+
 /// Says what may have changed in the range between the first q and the first p entries below a rank, which is 0: the keys that
 /// the entries between put or remove, where no join is declared or dropped between or the range is bare throughout, and
 /// otherwise it is not known which.
@@ -138,9 +150,6 @@ pub fn lowest_changed<S: BaseSource, L: Ledger>(
 {
     look_at(range);
     let keys = source.base_changes(q, p, range, steps)?;
-    match lowest_between(source, q, p, range)? {
-        Between::Steady => Ok(Changed::Keys(keys)),
-        Between::Bare => Ok(Changed::Keys(keys)),
-        Between::Other => Ok(Changed::All),
-    }
+    let joins = lowest_between(source, q, p, range)?;
+    Ok(known(keys, joins))
 }

@@ -1,9 +1,12 @@
--- How readers leave slots.
+-- How readers leave slots, and readers that are as they were.
 use Rattle.std.proofs.Common.{◌≡◌, ℕ, zero, suc, ◌+◌, ◌<◌, ◌≤◌, List, [], ◌∷◌, length, slice_get, slice_set, Option, Some, inl, inr, refl, sym, ap, ◌∙◌, subst, arith}
 use Rattle.std.proofs.lemmas.Bool.{cases_eq}
 use Rattle.std.proofs.lemmas.Option.{same_Some, slice_get_within}
 use Rattle.std.proofs.lemmas.List.{length-set}
 use Rattle.semantics.specs.Texts.{Range}
+use Rattle.semantics.specs.Histories.{History}
+use Rattle.join_eval.specs.Moves.{Moves}
+use Rattle.join_eval.proofs.MovesLemmas.{moves_refl}
 use Rattle.kept_ranges.specs.Sound.{KeptRange}
 use Rattle.cell_slots.specs.declared.slot.Slot.{Slot}
 use Rattle.cell_slots.specs.declared.slot.Slot.TheVariants.{Free, Lent, Held}
@@ -46,6 +49,10 @@ frame_weaker top more a b up frame = record {
 -- cells of a reader that is as it was
 pub frame_of_same : {S : Type 0} (holds : S → Holdings) (top : ℕ) (a b : S) → b ≡ a → Frame top (holds a) (holds b)
 frame_of_same holds top a b same = subst (λ x. Frame top (holds a) (holds x)) (sym same) (frame_refl top (holds a))
+
+-- a reader that is as it was
+pub moves_same : {S : Type 0} (list : S → History) (floor : S → ℕ) (a b : S) → b ≡ a → Moves list floor (λ x y. y ≡ x) a b
+moves_same list floor a b same = subst (Moves list floor (λ x y. y ≡ x) a) (sym same) (moves_refl list floor (λ x y. y ≡ x) a refl)
 
 -- ---- a slot that is lent and given back
 

@@ -1,9 +1,9 @@
 -- How a reader goes on.
-use Rattle.std.proofs.Common.{◌≡◌, ℕ, ◌+◌, ◌≤◌, refl, sym, subst, arith}
+use Rattle.std.proofs.Common.{◌≡◌, ℕ, ◌+◌, ◌≤◌, arith}
 use Rattle.semantics.specs.Histories.{History, IsPrefix}
 use Rattle.growing_history.specs.Entered.{HasEntered}
 use Rattle.join_eval.specs.Moves.{Moves}
-use Rattle.join_eval.proofs.MovesLemmas.{moves_refl, moves_trans}
+use Rattle.join_eval.proofs.MovesLemmas.{moves_trans}
 
 -- what a reader goes on by may be said in weaker words
 pub moves_as : {S : Type 0} (list : S → History) (floor : S → ℕ) (went more : S → S → Type 0) (a b : S) → (went a b → more a b) → Moves list floor went a b → Moves list floor more a b
@@ -22,7 +22,3 @@ pub moves_looked : {S : Type 0} (list : S → History) (floor : S → ℕ) (went
     IsPrefix (list a) (list b) → HasEntered (list b) → floor b ≡ floor a → went a b → Moves list floor looked b c → Moves list floor left a c
 moves_looked list floor went looked left a b c below look trans kept entered floors on moves =
     moves_trans list floor left a b c trans (moves_by_call list floor went left a b below kept entered floors on) (moves_as list floor looked left b c look moves)
-
--- a reader that is as it was
-pub moves_same : {S : Type 0} (list : S → History) (floor : S → ℕ) (a b : S) → b ≡ a → Moves list floor (λ x y. y ≡ x) a b
-moves_same list floor a b same = subst (Moves list floor (λ x y. y ≡ x) a) (sym same) (moves_refl list floor (λ x y. y ≡ x) a refl)

@@ -1,4 +1,4 @@
-use Rattle.rank_layers.proofs.MoveLemmas.{moves_same}
+use Rattle.cell_slots.proofs.FrameLemmas.{moves_same}
 use Rattle.rank_layers.proofs.own_cells.OwnCellsRangeCache.reached.Goals as goal
 
 pub returns-clause-moves : goal.returns-clause-moves

@@ -6,6 +6,7 @@ use Rattle.growing_history.specs.Entered.{HasEntered}
 use Rattle.write_history.specs.Passes.{PassView}
 use Rattle.base_shards.specs.Changed.{changed_in_all, steps_of_all}
 use Rattle.base_shards.proofs.ChangedLemmas.{one_range_alone}
+use Rattle.shared_reader.proofs.GivenLemmas.{reads_moves}
 use Rattle.shared_reader.proofs.reader.SharedReaderBaseSource.base_changes.Goals as goal
 
 -- the cost of keys that are listed, by the list
@@ -29,3 +30,6 @@ returns-clause-cost g c =
 
 pub returns-clause-entered : goal.returns-clause-entered
 returns-clause-entered g c = subst (λ (v : PassView). HasEntered v.view) c.self.view_is c.self.invariant.recorded.entered
+
+pub returns-clause-moves : goal.returns-clause-moves
+returns-clause-moves g c = reads_moves c.self.inside.pass c.args.self.now c.changed.new.pass c.self.invariant.recorded c.self.view_is c.changed.ensures.reads_on

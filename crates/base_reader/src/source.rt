@@ -29,7 +29,7 @@ pub trait BaseSource {
     /// How a call leaves a source, from before to after.
     ghost went: { Self → Self → Type 0 };
 
-    /// The allocator of what is read.
+    /// Gives the allocator of what is read.
     fn alloc(&self) -> Global;
 
     /// Reads the base pairs of the range after the first p entries, in the order of their keys.

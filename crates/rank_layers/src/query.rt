@@ -1,7 +1,7 @@
 // What is asked for of one join.
 
-/// Which join's output is asked for, and where: the join by the position of its declaration and with its rank, and the number
-/// of entries after which it is read.
+/// Names the join whose output is asked for, by the position of its declaration and with its rank, and the number of entries
+/// after which it is read.
 #[derive(Clone, Copy)]
 pub struct Query {
     /// The position of the join's declaration.

@@ -56,7 +56,7 @@ pub trait RangeCache<R: Reader> {
     /// steps.
     ghost spends: { R → R → ℕ → Bounds → ℕ → ℕ → Type 0 };
 
-    /// The allocator by which what is read and kept grows.
+    /// Gives the allocator by which what is read and kept grows.
     fn alloc(&self) -> Global;
 
     /// Lists the joins of a rank whose outputs the range reaches, after the first p entries, in order of position.
@@ -80,8 +80,8 @@ pub trait RangeCache<R: Reader> {
         ensures said { IfOk result (TellsBetween (R.list reader.old) q p range.now) }
         ensures moves { Moves R.list R.floor looked reader.old reader.new };
 
-    /// Gives the range, which reaches the join's output, in parts, in order, each with where it is kept, if it is. What is not kept
-    /// yet may be kept from now on.
+    /// Gives the range, which reaches the join's output, in parts, in order, each with where it is kept, if it is. What is not
+    /// kept yet may be kept from now on.
     fn cover(
         &self,
         query: Query,
@@ -119,8 +119,8 @@ pub trait RangeCache<R: Reader> {
         ensures cost { IfOk result (λ pairs. steps.old + 1 + length pairs.items ≤ steps.new) }
         ensures took { IfOk result (λ pairs. took reader.old reader.new query.at query.rank query.p part.now (length pairs.items) (steps.new - steps.old)) };
 
-    /// Says what changed in the join's output in the part since a position, as what is kept of it knows. `All` comes where that is
-    /// not known.
+    /// Says what changed in the join's output in the part since a position, as what is kept of it knows. `All` comes where that
+    /// is not known.
     fn changes_since<L: Ledger>(
         &self,
         query: Query,

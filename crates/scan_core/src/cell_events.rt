@@ -44,6 +44,7 @@ pub fn bring<R: Reader, L: Ledger>(
 {
     if state.rank() != rank {
         *state = renew(alloc, state, rank)?;
+        return state.fill(to, reader, steps);
     }
     reach(state, to, reader, steps)
 }

@@ -1,5 +1,5 @@
--- Sets of joins at earlier positions, and where none is declared or dropped after a position.
-use Rattle.std.proofs.Common.{◌≡◌, ℕ, ◌≤◌, ◌&&◌, ◌||◌, List, [], ◌∷◌, length, take, nat_le, not, Option, Some, None, refl, sym, ap, ◌∙◌, subst, arith, le-leb, length-take}
+-- Joins where none is declared or dropped after a position.
+use Rattle.std.proofs.Common.{◌≡◌, ℕ, ◌≤◌, ◌&&◌, ◌||◌, List, [], ◌∷◌, length, take, nat_le, not, Option, Some, None, refl, sym, ap, ◌∙◌, arith, le-leb, length-take}
 use Rattle.semantics.specs.Texts.{Text}
 use Rattle.semantics.specs.Histories.{History, changed_at}
 use Rattle.semantics.specs.Stays.{Stay, is_after, stays_of}
@@ -7,7 +7,6 @@ use Rattle.semantics.proofs.StayLemmas.{IsWithinStay, AreUpTo, stays_up_to}
 use Rattle.growing_history.specs.Changes.{has_table, bare_between}
 use Rattle.layering.proofs.StandingLemmas.{same_joins_since, same_stays_since, same_change_since}
 use Rattle.join_set.specs.Sets.{Joins, AreJoins}
-use Rattle.base_reader.specs.Reaching.{KeepsJoinsAt}
 
 -- ---- no declaration or drop later
 
@@ -45,14 +44,3 @@ joins_after_all floor p joins h up are = record {
   changed = are.changed ∙ same_change_since h p up;
   bare = λ q table from. are.bare q table from ∙ sym (bare_since_there h p q table up);
 }
-
--- ---- the joins at an earlier position
-
--- those that were kept for it
-pub kept_joins : (h : History) (p : ℕ) (earlier : Joins) (found : Option Joins) → found ≡ Some earlier → KeepsJoinsAt h p found → AreJoins 0 earlier (take p h)
-kept_joins h p earlier found is keeps = subst (KeepsJoinsAt h p) is keeps
-
--- where none were, those that stand
-pub standing_joins : (h es : History) (p : ℕ) (joins standing : Joins) (found : Option Joins) → es ≡ h → found ≡ None → KeepsJoinsAt h p found → joins ≡ standing → AreJoins 0 standing es → AreJoins 0 joins (take p h)
-standing_joins h es p joins standing found same none keeps is are =
-    subst (KeepsJoinsAt h p) none keeps joins (subst (AreJoins 0 joins) same (subst (λ js. AreJoins 0 js es) (sym is) are))

@@ -2,7 +2,7 @@
 use Rattle.std.proofs.Common.{◌≡◌, ◌==◌, ℕ, zero, suc, ◌+◌, ◌-◌, ◌%◌, ◌≤◌, ◌⊎◌, inl, inr, true, false, cond, not, List, [], ◌∷◌, ◌++◌, length, take, drop, Contains, None, refl, sym, ap, ◌∙◌, subst, arith, Bool, sum, Result, Ok, Err, OnOk, OnErr}
 use Rattle.std.proofs.lemmas.List.{take_all, take-append-drop, length-drop}
 use Rattle.semantics.specs.Texts.{Text, Table, value_at, is_range, Range, within, pairs_within, pairs_where}
-use Rattle.semantics.specs.Histories.{Entry, History, DeclaredJoin, joins_of, changed_at, base_of, is_computed}
+use Rattle.semantics.specs.Histories.{Entry, History, IsPrefix, joins_of, changed_at, base_of, is_computed}
 use Rattle.semantics.specs.States.{below}
 use Rattle.semantics.proofs.BaseLemmas.{value_at-visible}
 use Rattle.semantics.proofs.StateLemmas.{below-zero}
@@ -12,10 +12,16 @@ use Rattle.growing_history.specs.Entered.{HasEntered}
 use Rattle.growing_history.proofs.ChangeLemmas.{changed_keys_are_written, changed_keys_ascend}
 use Rattle.growing_history.proofs.ElementLemmas.{all_from_has}
 use Rattle.growing_history.proofs.EnteredLemmas.{has_entered_taken, declares_joins}
+use Rattle.growing_history.proofs.PrefixLemmas.{take_prefix}
 use Rattle.growing_history.proofs.UnchangedLemmas.{bare_is_base, base_kept, unchanged_is_same}
 use Rattle.layering.proofs.StandingLemmas.{joins_stay_since}
 use Rattle.layering.proofs.LayerLemmas.{visible_within}
-use Rattle.join_eval.specs.Answers.{ListsChanges}
+use Rattle.join_eval.specs.declared.between.Between.{Between}
+use Rattle.join_eval.specs.declared.between.Between.TheVariants.{Steady, Bare, Other}
+use Rattle.join_eval.specs.declared.reading.Changed.{Changed}
+use Rattle.join_eval.specs.declared.reading.Changed.TheVariants.{Keys, All}
+use Rattle.join_eval.specs.Answers.{AnswersChanges, ListsChanges, ListsExactly, TellsBetween}
+use Rattle.base_reader.specs.Reaching.{AnswersKeys}
 use Rattle.base_versions.specs.Kept.{Kept, has_table, StandsFor, HasEnteredInPart}
 
 -- ---- the versions of all tables
@@ -40,14 +46,15 @@ take_then (suc n) k (x ∷ xs) = ap (λ ys. x ∷ ys) (take_then n k xs) ∙ ap 
 
 -- ---- the pairs that no output hides
 
--- where the versions have given the base pairs of a range, and those that no output hides are left, these are what is visible
-pub visible_read : (h : History) (p : ℕ) (range : Range) (joins : List DeclaredJoin) (found left : Table) → joins ≡ joins_of (take p h) → found ≡ pairs_within range (base_of (take p h)) →
-    left ≡ pairs_where (λ key. not (is_computed joins key)) found → left ≡ pairs_within range (below (take p h) 0)
-visible_read h p range joins found left same_joins is hidden =
+-- where the base pairs of a range were found, and those are left that no output hides by the joins of a longer list, these are what is visible
+pub visible_read : (h more : History) (p rank : ℕ) (range : Range) (found left : Table) → p ≤ length h → IsPrefix h more → rank ≤ 0 → found ≡ pairs_within range (base_of (take p h)) →
+    left ≡ pairs_where (λ key. not (is_computed (joins_of (take p more)) key)) found → left ≡ pairs_within range (below (take p h) rank)
+visible_read h more p rank range found left inside begins none is hidden =
     hidden
-    ∙ (λ i. pairs_where (λ key. not (is_computed (same_joins i) key)) (is i))
+    ∙ (λ i. pairs_where (λ key. not (is_computed (joins_of (take_prefix p h more inside begins i)) key)) (is i))
     ∙ sym (visible_within (take p h) range)
     ∙ ap (pairs_within range) (sym (below-zero (take p h)))
+    ∙ ap (λ r. pairs_within range (below (take p h) r)) (let e : 0 ≡ rank = omega arith in e)
 
 -- in a bare range nothing is hidden
 pub bare_read : (h : History) (p : ℕ) (range : Range) (found left : Table) → HasEntered h → is_range range.low range.high ≡ true → is_bare range (joins_of (take p h)) ≡ true → found ≡ pairs_within range (base_of (take p h)) →
@@ -88,7 +95,7 @@ lists h q p rank range same = record {
 }
 
 -- they do at rank 0 where no join is declared or dropped between, and over a range that is bare throughout
-pub changed_listed : (h : History) (q p rank : ℕ) (range : Range) (keys : List Text) → HasEntered h → is_range range.low range.high ≡ true → q ≤ p → rank ≤ 0 → keys ≡ changed_keys q p range h →
+changed_listed : (h : History) (q p rank : ℕ) (range : Range) (keys : List Text) → HasEntered h → is_range range.low range.high ≡ true → q ≤ p → rank ≤ 0 → keys ≡ changed_keys q p range h →
     (changed_at (take p h) ≤ q) ⊎ IsBareThroughout h q p range → ListsChanges h q p rank range keys
 changed_listed h q p rank range keys entered ok order none is (inl steady) =
     let zero_rank : 0 ≡ rank = omega arith in
@@ -97,6 +104,22 @@ changed_listed h q p rank range keys entered ok order none is (inl steady) =
 changed_listed h q p rank range keys entered ok order none is (inr bare) =
     subst (ListsChanges h q p rank range) (sym is)
     (lists h q p rank range (λ key inside unlisted. unchanged_is_same h q p rank range key (λ x. declares_joins (take x h) (has_entered_taken x h entered)) ok bare inside unlisted))
+
+-- what is answered of them is right
+pub changed_answered : (h : History) (q p rank : ℕ) (range : Range) (keys : List Text) (joins : Between) (answer : Changed) → HasEntered h → is_range range.low range.high ≡ true → q ≤ p → rank ≤ 0 → keys ≡ changed_keys q p range h →
+    TellsBetween h q p range joins → AnswersKeys keys joins answer → AnswersChanges h q p rank range answer
+changed_answered h q p rank range keys Steady (Keys listed) entered ok order none is said answers = changed_listed h q p rank range listed.items entered ok order none (answers ∙ is) (inl said)
+changed_answered h q p rank range keys Steady All entered ok order none is said answers = absurd answers
+changed_answered h q p rank range keys Bare (Keys listed) entered ok order none is said answers = changed_listed h q p rank range listed.items entered ok order none (answers ∙ is) (inr said)
+changed_answered h q p rank range keys Bare All entered ok order none is said answers = absurd answers
+changed_answered h q p rank range keys Other (Keys listed) entered ok order none is said answers = absurd answers
+changed_answered h q p rank range keys Other All entered ok order none is said answers = record { computed = said.1; why = inl said.0 }
+
+-- over a range that is bare throughout just these are listed
+pub changed_of_bare : (h : History) (q p : ℕ) (range : Range) (keys named : List Text) (joins : Between) (answer : Changed) → keys ≡ named → TellsBetween h q p range joins → IsBareThroughout h q p range → AnswersKeys keys joins answer → ListsExactly named answer
+changed_of_bare h q p range keys named Steady answer is said bare answers = subst (λ ks. ListsExactly ks answer) is answers
+changed_of_bare h q p range keys named Bare answer is said bare answers = subst (λ ks. ListsExactly ks answer) is answers
+changed_of_bare h q p range keys named Other answer is said bare answers = absurd (said.1 bare)
 
 -- ---- versions that catch up
 
@@ -116,7 +139,3 @@ caught_up (Err e) old new es part is within stands ok position err =
 -- versions that have caught up stand for all entries
 pub stands_for_all : (h es : History) (base : Kept) → es ≡ h → base.position ≡ length es → StandsFor 0 base (take base.position es) → StandsFor 0 base h
 stands_for_all h es base is position stands = subst (StandsFor 0 base) (take_all base.position es (omega (arith, position)) ∙ is) stands
-
--- rank 0
-pub at_rank_zero : (h : History) (p rank : ℕ) (range : Range) (left : Table) → rank ≤ 0 → left ≡ pairs_within range (below (take p h) 0) → left ≡ pairs_within range (below (take p h) rank)
-at_rank_zero h p rank range left none is = is ∙ ap (λ r. pairs_within range (below (take p h) r)) (let e : 0 ≡ rank = omega arith in e)

@@ -1,6 +1,6 @@
--- The joins of a set by their positions and numbers, those that a range reaches, and the joins at earlier positions.
+-- The joins of a set by their positions and numbers, and those that a range reaches.
 use Rattle.std.specs.Prelude.{◌≡◌, ◌&&◌, ◌==◌, ℕ, ◌≤◌, List, length, slice_get, slice_index, take, Bool, Option, Some, None, option_map}
-use Rattle.semantics.specs.Texts.{Range}
+use Rattle.semantics.specs.Texts.{Text, Range}
 use Rattle.semantics.specs.Joins.{Join}
 use Rattle.semantics.specs.Histories.{History, DeclaredJoin}
 use Rattle.semantics.specs.States.{ranks_of}
@@ -8,7 +8,10 @@ use Rattle.layering.specs.Reached.{reaches}
 use Rattle.cell_slots.specs.Slots.{StandsNot}
 use Rattle.join_set.specs.Sets.{Joins, AreJoins}
 use Rattle.join_eval.specs.declared.between.Between.{Between}
-use Rattle.join_eval.specs.Answers.{TellsBetween}
+use Rattle.join_eval.specs.declared.between.Between.TheVariants.{Steady, Bare, Other}
+use Rattle.join_eval.specs.declared.reading.Changed.{Changed}
+use Rattle.join_eval.specs.declared.reading.Changed.TheVariants.{Keys, All}
+use Rattle.join_eval.specs.Answers.{ListsExactly, TellsBetween}
 
 -- whether the join with a number has a rank, and a range reaches its output
 abbrev pub IsReachedAt : List DeclaredJoin → ℕ → ℕ → Range → Bool → Type 0
@@ -29,7 +32,9 @@ IsJoinIn joins at (Some j) = (place : ℕ) × (slice_get joins place ≡ Some (r
 abbrev pub SaysBetween : Joins → ℕ → Range → Between → Type 0
 SaysBetween joins q range answer = (h : History) (p : ℕ) → q ≤ p → p ≤ length h → AreJoins 0 joins (take p h) → TellsBetween h q p range answer
 
--- a set of the joins after the first p entries; or none, where each set of the joins after all entries is one
-abbrev pub KeepsJoinsAt : History → ℕ → Option Joins → Type 0
-KeepsJoinsAt h p None = (joins : Joins) → AreJoins 0 joins h → AreJoins 0 joins (take p h)
-KeepsJoinsAt h p (Some earlier) = AreJoins 0 earlier (take p h)
+-- what is answered of keys that were put or removed: these are listed, unless a join is declared or dropped between and the range is not bare throughout
+abbrev pub AnswersKeys : List Text → Between → Changed → Type 0
+AnswersKeys keys Steady answer = ListsExactly keys answer
+AnswersKeys keys Bare answer = ListsExactly keys answer
+AnswersKeys keys Other (Keys listed) = ⊥
+AnswersKeys keys Other All = Unit {0}

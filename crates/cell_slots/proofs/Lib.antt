@@ -1,1 +1,3 @@
 pub mod DeclaredLemmas
+pub mod FrameLemmas
+pub mod SpendingLemmas

@@ -1,8 +1,10 @@
 -- The slots of cells, and how they change.
 use Rattle.std.specs.Prelude.{◌≡◌, ℕ, ◌-◌, ◌≤◌, List, [], ◌∷◌, ◌++◌, length, take, slice_get, slice_set, true, false, Option, Some, None, is_some}
-use Rattle.semantics.specs.Texts.{Range}
+use Rattle.semantics.specs.Texts.{Table, Range, pairs_within}
 use Rattle.semantics.specs.Joins.{Join}
 use Rattle.semantics.specs.Histories.{declare, Entry, History, DeclaredJoin, joins_of}
+use Rattle.semantics.specs.Outputs.{out}
+use Rattle.semantics.specs.States.{below}
 use Rattle.key_ranges.specs.Ranges.{meets}
 use Rattle.key_ranges.specs.Containing.{bind_range}
 use Rattle.layering.specs.Parts.{IsWithin}
@@ -65,6 +67,10 @@ pub record IsReached (h : History) (p at rank : ℕ) (range : Range) : Type 0 wh
   pub join : Join
   pub stands : StandsAs h p at rank join
   pub reaches : is_some (bind_range join.output range) ≡ true
+
+-- the output of the join that was declared at a position in a range, after the first p entries
+abbrev pub IsOutput : History → ℕ → ℕ → ℕ → Range → Table → Type 0
+IsOutput h p at rank range pairs = (j : Join) → StandsAs h p at rank j → pairs ≡ pairs_within range (out j (below (take p h) rank))
 
 -- no join that was declared at a position stands among joins
 abbrev pub StandsNot : List DeclaredJoin → ℕ → Type 0

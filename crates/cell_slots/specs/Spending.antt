@@ -7,11 +7,12 @@ use Rattle.semantics.specs.Outputs.{out}
 use Rattle.semantics.specs.States.{below}
 use Rattle.key_ranges.specs.Ranges.{is_open}
 use Rattle.layering.specs.Reached.{reached, ReachesNoneBelow}
+use Rattle.kept_ranges.specs.Sound.{KeptRange}
 use Rattle.range_state.specs.Held.{forgotten}
 use Rattle.cell_slots.specs.declared.slot.Part.{Part}
 use Rattle.cell_slots.specs.declared.slot.Slot.{Slot}
 use Rattle.cell_slots.specs.declared.slot.Slot.TheVariants.{Free, Held}
-use Rattle.cell_slots.specs.Slots.{Holdings, with_slot, HasFree, MeetsNone, HoldsReady, HoldsWhole}
+use Rattle.cell_slots.specs.Slots.{Holdings, with_slot, HasFree, MeetsNone, IsReadySlot, HoldsReady, HoldsWhole, StandsAs}
 
 -- the number of base pairs in a range after the first p entries
 abbrev pub base_count : History → ℕ → Range → ℕ
@@ -54,11 +55,22 @@ pub record OneSpends (h : History) (before after : Holdings) (p : ℕ) (range : 
   pub used : is_open range ≡ true → HoldsReady before.slots at p range → added ≤ 1 + row_count h p range rank j
   pub kept : is_open range ≡ true → MayKeep before.slots at j range → KeepsJust before after rank at p range
 
--- reading what joins of a rank give in a range: nothing where there are none, and of one alone as above
-abbrev pub JoinsSpend : History → Holdings → Holdings → ℕ → Range → ℕ → List DeclaredJoin → ℕ → Type 0
-JoinsSpend h before after p range rank [] added = (added ≡ 0) × (after ≡ before)
-JoinsSpend h before after p range rank (s ∷ []) added = OneSpends h before after p range rank s.position s.join added
-JoinsSpend h before after p range rank (s ∷ t ∷ more) added = Unit {0}
+-- a range is covered by parts: by the cell alone that can be read over it, and where it may be kept by a cell that was free
+pub record Covers (h : History) (before after : Holdings) (at rank p : ℕ) (range : Range) (parts : List Part) : Type 0 where
+  pub ready : (id : ℕ) (s : KeptRange) → is_open range ≡ true → IsReadySlot before.slots id at p range s → CoversReady before after id range parts
+  pub ranked : (id : ℕ) (s : KeptRange) → IsReadySlot before.slots id at p range s → s.rank ≡ rank
+  pub reserved : (j : Join) → StandsAs h p at rank j → is_open range ≡ true → MayKeep before.slots at j range → Reserves before after at rank j range parts
+
+-- a part is read: with one step and its rows where its cell can be read over it, and a cell that was reserved for it holds it afterwards
+pub record Took (before after : Holdings) (at rank p : ℕ) (part : Part) (rows added : ℕ) : Type 0 where
+  pub ready : (id : ℕ) (s : KeptRange) → part.cell ≡ Some id → s.rank ≡ rank → IsReadySlot before.slots id at p part.range s → added ≡ 1 + rows
+  pub held : (id : ℕ) (j : Join) → part.cell ≡ Some id → slice_get before.slots id ≡ Some (Held at (forgotten j rank part.range)) → KeepsJust before after rank at p part.range
+
+-- reading what joins give: nothing where there are none, and of one alone, by the position of its declaration, what that one costs and leaves
+abbrev pub JoinsSpend : {S : Type 0} → (S → S → ℕ → Join → ℕ → Type 0) → S → S → List DeclaredJoin → ℕ → Type 0
+JoinsSpend one before after [] added = (added ≡ 0) × (after ≡ before)
+JoinsSpend one before after (s ∷ []) added = one before after s.position s.join added
+JoinsSpend one before after (s ∷ t ∷ more) added = Unit {0}
 
 -- of the joins below a rank a range reaches one alone, which has this rank
 pub record ReachesOnly (joins : List DeclaredJoin) (range : Range) (top rank : ℕ) (s : DeclaredJoin) : Type 0 where

@@ -27,16 +27,18 @@ pub trait Cells: Reader {
     /// What the cells hold, and which were lent.
     ghost holdings: { Self → Holdings };
 
-    /// The joins of a rank whose outputs the range reaches, after the first p entries, in order of position.
-    fn reached(&self, p: u64, range: &Range, rank: u8) -> Result<Vec<u64>, OutOfMemory>
-        requires { p ≤ length (Self.list self.now) }
-        ensures { IfOk result (λ ats. ats.items ≡ map (λ s. s.position) (reached range.now rank (joins_of (take p (Self.list self.now))))) };
+    /// Lists the joins of a rank whose outputs the range reaches, after the first p entries, in order of position.
+    fn reached(&mut self, p: u64, range: &Range, rank: u8) -> Result<Vec<u64>, OutOfMemory>
+        requires { p ≤ length (Self.list self.old) }
+        ensures reached { IfOk result (λ ats. ats.items ≡ map (λ s. s.position) (reached range.now rank (joins_of (take p (Self.list self.old))))) }
+        ensures same { self.new ≡ self.old };
 
     /// Says what is so of the joins between the first q and the first p entries, for the range.
-    fn between(&self, q: u64, p: u64, range: &Range) -> Result<Between, OutOfMemory>
+    fn between(&mut self, q: u64, p: u64, range: &Range) -> Result<Between, OutOfMemory>
         requires order { q ≤ p }
-        requires within { p ≤ length (Self.list self.now) }
-        ensures { IfOk result (TellsBetween (Self.list self.now) q p range.now) };
+        requires within { p ≤ length (Self.list self.old) }
+        ensures said { IfOk result (TellsBetween (Self.list self.old) q p range.now) }
+        ensures same { self.new ≡ self.old };
 
     /// A copy of the join that was declared at a position.
     fn join_at(&self, at: u64) -> Result<Join, OutOfMemory>

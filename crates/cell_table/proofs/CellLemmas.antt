@@ -20,9 +20,10 @@ use Rattle.cell_slots.specs.declared.slot.Slot.TheVariants.{Free, Lent, Held}
 use Rattle.cell_slots.specs.declared.slot.Part.{Part}
 use Rattle.cell_slots.specs.Slots.{Frame, HasFree, Holdings, IsLeft, MeetsNone, place_of}
 use Rattle.cell_slots.specs.Spending.{CoversReady, Reserves, one_part}
+use Rattle.cell_slots.proofs.FrameLemmas.{get-set_other, get-set_same}
 use Rattle.cell_table.specs.Stores.{AreOfTable, IsGap, Store, one_gap}
 use Rattle.cell_table.specs.Moves.{GetCells, GetsCell, GetsCellAs, IsReserved, ReservesParts}
-use Rattle.cell_table.proofs.SlotLemmas.{get-set_other, get-set_same, keeper, place_from_slot}
+use Rattle.cell_table.proofs.SlotLemmas.{keeper, place_from_slot}
 use Rattle.cell_table.proofs.PartLemmas.{part}
 
 -- ---- one after another

@@ -10,9 +10,9 @@ use Rattle.evict_book.specs.Books.{Used, total_weight, victims_of, weigh, with_u
 use Rattle.evict_book.proofs.BookLemmas.{first_goes, none_go}
 use Rattle.cell_slots.specs.declared.slot.Slot.{Slot}
 use Rattle.cell_slots.specs.declared.slot.Slot.TheVariants.{Free, Held}
+use Rattle.cell_slots.proofs.FrameLemmas.{get-set_same, get-set_other}
 use Rattle.cell_table.specs.Stores.{Store}
 use Rattle.cell_table.specs.Moves.{Evicts, IsEvicted, IsHeld, IsTooHeavy}
-use Rattle.cell_table.proofs.SlotLemmas.{get-set_same, get-set_other}
 
 -- nothing is evicted
 pub evicts_none : (slots : List Slot) → Evicts slots slots

@@ -8,8 +8,8 @@ use Rattle.range_state.specs.Held.{forgotten}
 use Rattle.cell_slots.specs.declared.slot.Slot.{Slot}
 use Rattle.cell_slots.specs.declared.slot.Slot.TheVariants.{Held, Lent}
 use Rattle.cell_slots.specs.Slots.{Holdings, no_setting, with_lent}
+use Rattle.cell_slots.proofs.FrameLemmas.{get-set_same}
 use Rattle.cell_table.specs.Moves.{anew_for, at_rank, IsLent}
-use Rattle.cell_table.proofs.SlotLemmas.{get-set_same}
 
 anew_by : (x : Bool) (s made : KeptRange) → unwrap_or (cond x None (Some made)) s ≡ cond x s made
 anew_by true s made = refl

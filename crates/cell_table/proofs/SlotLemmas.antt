@@ -1,5 +1,5 @@
 -- Slots by their numbers, and the places that they keep.
-use Rattle.std.proofs.Common.{◌≡◌, ◌≢◌, ℕ, zero, suc, ◌+◌, ◌<◌, ◌≤◌, List, [], ◌∷◌, length, replicate, slice_get, slice_set, Option, Some, None, ◌⊎◌, inl, inr, refl, sym, ap, ◌∙◌, subst, arith}
+use Rattle.std.proofs.Common.{◌≡◌, ◌≢◌, ℕ, zero, suc, ◌+◌, ◌<◌, ◌≤◌, List, length, replicate, slice_get, slice_set, Option, Some, None, ◌⊎◌, inl, inr, refl, sym, ap, ◌∙◌, subst, arith}
 use Rattle.std.specs.Option.{option_and_then}
 use Rattle.std.proofs.lemmas.Bool.{cases_eq}
 use Rattle.std.proofs.lemmas.Option.{none-some, same_Some, slice_get_within}
@@ -8,21 +8,8 @@ use Rattle.semantics.specs.Texts.{Range}
 use Rattle.cell_slots.specs.declared.slot.Slot.{Slot}
 use Rattle.cell_slots.specs.declared.slot.Slot.TheVariants.{Free}
 use Rattle.cell_slots.specs.Slots.{place_of, HasFree}
+use Rattle.cell_slots.proofs.FrameLemmas.{get-set_same, get-set_other}
 use Rattle.cell_table.specs.Stores.{AreSlots, KeepsPlace, place_at}
-
--- an element that is set stands there
-pub get-set_same : {A : Type 0} (xs : List A) (i : ℕ) (x : A) → i < length xs → slice_get (slice_set xs i x) i ≡ Some x
-get-set_same [] i x less = absurd (omega arith)
-get-set_same (y ∷ ys) zero x less = refl
-get-set_same (y ∷ ys) (suc i) x less = get-set_same ys i x (omega arith)
-
--- every other one stays
-pub get-set_other : {A : Type 0} (xs : List A) (i k : ℕ) (x : A) → (k ≡ i → ⊥) → slice_get (slice_set xs i x) k ≡ slice_get xs k
-get-set_other [] i k x apart = refl
-get-set_other (y ∷ ys) zero zero x apart = absurd (apart refl)
-get-set_other (y ∷ ys) zero (suc k) x apart = refl
-get-set_other (y ∷ ys) (suc i) zero x apart = refl
-get-set_other (y ∷ ys) (suc i) (suc k) x apart = get-set_other ys i k x (λ e. apart (ap suc e))
 
 -- ---- places
 

@@ -8,6 +8,7 @@ ghost use Rattle.cell_table.specs.Moves.{MayLend, anew_for};
 use cell_slots::Slot;
 use key_space::Range;
 use out_of_memory::OutOfMemory;
+use range_serving::{is_past, renew};
 use range_state::RangeState;
 use std::alloc::Global;
 
@@ -25,13 +26,9 @@ pub fn lendable<'a>(
     let Some(Slot::Held(place, state)) = slot else {
         return None;
     };
-    let is_past = match state.position() {
-        None => false,
-        Some(q) => p < q,
-    };
     let range = state.range();
     let is_within = range.lo() <= part.lo() && part.hi() <= range.hi();
-    if *place == at && state.rank() <= rank && !is_past && is_within {
+    if *place == at && state.rank() <= rank && !is_past(state, p) && is_within {
         Some(state)
     } else {
         None
@@ -49,9 +46,7 @@ pub fn made_anew(
     if state.rank() == rank {
         return Ok(None);
     }
-    let join = state.join().copy(alloc)?;
-    let range = state.range().copy()?;
-    Ok(Some(RangeState::new(alloc, join, rank, range)))
+    Ok(Some(renew(alloc, state, rank)?))
 }
 
 /// What is lent: what the slot held or, where that was made anew, this.

@@ -1,6 +1,5 @@
 // Parts of a range, from its pieces.
-ghost use Rattle.std.specs.Prelude.{◌≡◌, ◌<◌, length, map, true, IfOk};
-ghost use Rattle.key_ranges.specs.Ranges.{is_open};
+ghost use Rattle.std.specs.Prelude.{◌≡◌, ◌<◌, map, IfOk};
 ghost use Rattle.cell_table.specs.Stores.{one_gap, part_of};
 
 use cell_slots::Part;
@@ -31,17 +30,6 @@ pub fn parts_of(alloc: Global, pieces: Vec<Piece<u32>>) -> Result<Vec<Part>, Out
         parts.push(part_of(piece))?;
     }
     Ok(parts)
-}
-
-/// A range in more parts than this is read as one: to evaluate it once takes less than to evaluate so many gaps.
-const MOST_PARTS: usize = 64;
-
-/// Whether a range that is not empty is in more parts than are read one by one.
-pub fn are_too_many(parts: &[Part], range: &Range) -> bool
-    ensures open { result ≡ true → is_open range.now ≡ true }
-    ensures many { result ≡ true → 1 < length parts.now }
-{
-    range.lo() < range.hi() && parts.len() > MOST_PARTS
 }
 
 /// The range as one part that no cell holds.

@@ -15,9 +15,9 @@ ghost use Rattle.cell_table.specs.Moves.{Evicts, GetCells, GetsCellAs, IsHeld, I
 
 use crate::directory::Directory;
 use crate::lending::{given, held_in, lendable, made_anew};
-use crate::parts::{are_too_many, one_gap, parts_of};
+use crate::parts::{one_gap, parts_of};
 use crate::slots::Slots;
-use cell_slots::{Part, Slot};
+use cell_slots::{Part, Slot, are_too_many};
 use evict_book::EvictBook;
 use join_types::{Join, Kind};
 use key_space::Range;
@@ -140,7 +140,7 @@ impl CellTable {
         ensures same_limit { self.new.limit ≡ self.old.limit }
     {
         let parts = self.parts(at, range)?;
-        if are_too_many(parts.as_slice(), range) {
+        if are_too_many(parts.len(), range) {
             return one_gap(self.alloc, range);
         }
         match join.kind {

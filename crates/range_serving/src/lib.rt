@@ -3,7 +3,7 @@
 //
 // The layers above may use all that is public here: `serve` a piece from a kept range, or `serve_alone` from one of its own
 // that is let go; `reach` a position alone, or `catch_up` with it where nothing is to be filled, and whether a kept range
-// `is_past` one; `tell` what changed of a kept range's output; and `merge` pairs.
+// `is_past` one; `renew` a kept range with another rank; `tell` what changed of a kept range's output; and `merge` pairs.
 #![tactic(auto)]
 
 pub mod merging;
@@ -11,5 +11,5 @@ pub mod serving;
 pub mod telling;
 
 pub use merging::merge;
-pub use serving::{is_past, reach, serve, serve_alone};
+pub use serving::{is_past, reach, renew, serve, serve_alone};
 pub use telling::{catch_up, tell};

@@ -1,6 +1,5 @@
 // Pieces of ranges, from kept ranges.
-ghost use Rattle.std.specs.Prelude.{◌≡◌, ◌+◌, ◌≤◌, ◌<◌, [], length, take, false, true, IfOk, IfSome, MatchOption, OnOk, None, Some};
-ghost use Rattle.std.specs.Option.{IsSomeAnd};
+ghost use Rattle.std.specs.Prelude.{◌≡◌, ◌+◌, ◌≤◌, ◌<◌, [], length, take, false, true, IfOk, OnOk, None, Some};
 ghost use Rattle.semantics.specs.Texts.{pairs_within};
 ghost use Rattle.semantics.specs.Histories.{joins_of};
 ghost use Rattle.semantics.specs.Outputs.{out};
@@ -8,6 +7,7 @@ ghost use Rattle.semantics.specs.States.{below};
 ghost use Rattle.growing_history.specs.Entered.{HasEntered, HasRank};
 ghost use Rattle.join_eval.specs.Moves.{Moves};
 ghost use Rattle.kept_ranges.specs.Sound.{IsSound};
+ghost use Rattle.range_state.specs.Held.{forgotten};
 ghost use Rattle.range_state.specs.Ready.{HasSameSubject, IsReady, StandsAt, pending_meets};
 ghost use Rattle.range_serving.specs.Serving.{IsPast, StandsFrom, output_within};
 
@@ -15,12 +15,13 @@ use join_eval::Reader;
 use join_types::{Join, Pair};
 use key_space::Range;
 use out_of_memory::OutOfMemory;
+use pq_io::Gate;
 use range_state::RangeState;
 use std::alloc::Global;
 use std::sync::ledger::Ledger;
 use steps::Steps;
 
-/// Whether it stands past a position. Constant.
+/// Says whether it stands past a position. Constant.
 pub fn is_past(state: &RangeState, p: u64) -> bool
     ensures yes { result ≡ true → IsPast p state.now }
     ensures no { result ≡ false → IsPast p state.now → ⊥ }
@@ -29,6 +30,15 @@ pub fn is_past(state: &RangeState, p: u64) -> bool
         None => false,
         Some(at) => p < at,
     }
+}
+
+/// Makes a kept range anew with a rank of its join: nothing is kept for it yet. Linear in the join.
+pub fn renew(alloc: Global, state: &RangeState, rank: u8) -> Result<RangeState, OutOfMemory>
+    ensures { IfOk result (λ made. made ≡ forgotten state.now.join rank state.now.range) }
+{
+    let join = state.join().copy(alloc)?;
+    let range = state.range().copy()?;
+    Ok(RangeState::new(alloc, join, rank, range))
 }
 
 /// Brings it to where p entries stand: fills it where it is forgotten, and advances it where it stands below.
@@ -70,11 +80,13 @@ pub fn reach<R: Reader, L: Ledger>(
     }
 }
 
-/// Brings it to where p entries stand, and mends it where something pending meets the range.
-fn make_ready<R: Reader, L: Ledger>(
+/// Brings it to where p entries stand, and mends it where something pending meets the range. The gate is passed before it is
+/// filled, and before it is mended.
+fn make_ready<R: Reader, G: Gate, L: Ledger>(
     state: &mut RangeState,
     p: u64,
     range: &Range,
+    gate: &G,
     reader: &mut R,
     steps: &mut Steps<L>,
 ) -> Result<(), OutOfMemory>
@@ -96,29 +108,35 @@ fn make_ready<R: Reader, L: Ledger>(
     ensures moves { Moves R.list R.floor R.went reader.old reader.new }
     ensures counted { steps.old ≤ steps.new }
 {
+    if state.position().is_none() {
+        gate.pass(range.table());
+    }
     reach(state, p, reader, steps)?;
     if state.pending_meets(range) {
+        gate.pass(range.table());
         return state.mend(range, reader, steps);
     }
     Ok(())
 }
 
-/// A piece of a range after p entries, from a kept range: the output of its join in the part of the piece that is its own.
-/// None, and then nothing changes, exactly where it stands past p. Where it is forgotten it is filled, and where it stands
-/// below p advanced; where something pending meets the piece it is mended there. Then it is read.
+/// Serves a piece of a range after p entries from a kept range that does not stand past p: gives the output of its join in the
+/// part of the piece that is its own. Where it is forgotten it is filled, and where it stands below p advanced; where something
+/// pending meets the piece it is mended there. Then it is read. The gate is passed before a fill and before a mend.
 ///
 /// Where it is ready, that is, at p with nothing pending that meets the piece, it takes one step and one for each pair, and
 /// neither it nor the reader changes. Otherwise it takes these and those of the calls that make it ready.
 ///
 /// On `OutOfMemory` it stands where it stood, or at p, or is forgotten, and is right for the reader's list. The reader may
 /// have gone on and steps may have been taken.
-pub fn serve<R: Reader, L: Ledger>(
+pub fn serve<R: Reader, G: Gate, L: Ledger>(
     state: &mut RangeState,
     p: u64,
     range: &Range,
+    gate: &G,
     reader: &mut R,
     steps: &mut Steps<L>,
-) -> Result<Option<Vec<Pair>>, OutOfMemory>
+) -> Result<Vec<Pair>, OutOfMemory>
+    requires before { IsPast p state.old → ⊥ }
     requires within { p ≤ length (R.list reader.old) }
     requires above { R.floor reader.old ≤ p }
     requires from { StandsFrom (R.floor reader.old) state.old }
@@ -127,37 +145,32 @@ pub fn serve<R: Reader, L: Ledger>(
     requires ranked { state.old.rank ≤ R.top }
     requires sound { IsSound state.old (R.list reader.old) }
     ensures same { HasSameSubject state.old state.new }
-    ensures served { IfOk result (λ found. MatchOption found (IsPast p state.old) (λ pairs. pairs.items ≡ output_within state.old (R.list reader.old) p range.now)) }
-    ensures ready { IfOk result (λ found. IfSome found (λ _. IsReady p range.now state.new)) }
+    ensures output { IfOk result (λ pairs. pairs.items ≡ output_within state.old (R.list reader.old) p range.now) }
+    ensures ready { OnOk result (IsReady p range.now state.new) }
     ensures filled { state.old.position ≡ None → OnOk result (state.new.kept.pending ≡ []) }
-    ensures past { IsPast p state.old → result ≡ Ok None }
-    ensures left { IsPast p state.old → state.new ≡ state.old }
-    ensures left_reader { IsPast p state.old → reader.new ≡ reader.old }
     ensures still { IsReady p range.now state.old → state.new ≡ state.old }
     ensures unused { IsReady p range.now state.old → reader.new ≡ reader.old }
     ensures sound { IsSound state.new (R.list reader.new) }
     ensures moves { Moves R.list R.floor R.went reader.old reader.new }
     ensures counted { steps.old ≤ steps.new }
-    ensures cost { IfOk result (λ found. MatchOption found (steps.new ≡ steps.old) (λ pairs. steps.old + 1 + length pairs.items ≤ steps.new)) }
-    ensures at_once { IsReady p range.now state.old → IfOk result (λ found. IfSome found (λ pairs. steps.new ≡ steps.old + 1 + length pairs.items)) }
+    ensures cost { IfOk result (λ pairs. steps.old + 1 + length pairs.items ≤ steps.new) }
+    ensures at_once { IsReady p range.now state.old → IfOk result (λ pairs. steps.new ≡ steps.old + 1 + length pairs.items) }
 {
-    if is_past(state, p) {
-        return Ok(None);
-    }
-    make_ready(state, p, range, reader, steps)?;
-    let pairs = state.read(range, steps)?;
-    Ok(Some(pairs))
+    make_ready(state, p, range, gate, reader, steps)?;
+    state.read(range, steps)
 }
 
-/// A range of a join's output after p entries, from a kept range of its own that is filled at p, read and let go.
+/// Serves a range of a join's output after p entries from a kept range of its own that is filled at p, read and let go. The
+/// gate is passed before it is filled.
 ///
 /// On `OutOfMemory` the reader may have gone on and steps may have been taken.
-pub fn serve_alone<R: Reader, L: Ledger>(
+pub fn serve_alone<R: Reader, G: Gate, L: Ledger>(
     alloc: Global,
     join: Join,
     rank: u8,
     p: u64,
     range: Range,
+    gate: &G,
     reader: &mut R,
     steps: &mut Steps<L>,
 ) -> Result<Vec<Pair>, OutOfMemory>
@@ -172,6 +185,7 @@ pub fn serve_alone<R: Reader, L: Ledger>(
     ensures cost { IfOk result (λ pairs. steps.old + 1 + length pairs.items ≤ steps.new) }
 {
     let piece = range.copy()?;
+    gate.pass(range.table());
     let mut state = RangeState::new(alloc, join, rank, range);
     state.fill(p, reader, steps)?;
     state.read(&piece, steps)

@@ -3,6 +3,7 @@ use Rattle.std.proofs.Common.{◌≡◌, ℕ, ◌+◌, ◌-◌, ◌<◌, ◌≤�
 use Rattle.std.specs.List.{AllByRecursion}
 use Rattle.std.proofs.lemmas.Bool.{false≢true}
 use Rattle.semantics.specs.Texts.{Text, Table, is_range, Range, within, pairs_within}
+use Rattle.semantics.specs.Joins.{Join}
 use Rattle.semantics.specs.Histories.{History, IsPrefix, DeclaredJoin, joins_of, changed_at}
 use Rattle.semantics.specs.States.{below}
 use Rattle.key_ranges.specs.Ranges.{is_open}
@@ -24,11 +25,8 @@ use Rattle.join_eval.specs.Answers.{AnswersChanges, ListsChanges, MayNotBeKnown,
 use Rattle.key_ranges.proofs.OrderLemmas.{up_to_below}
 use Rattle.std.proofs.lemmas.List.{take_all}
 use Rattle.std.proofs.lemmas.Bool.{and_parts}
-use Rattle.cell_slots.specs.Slots.{Holdings, HoldsReady}
-use Rattle.cell_slots.specs.Spending.{row_count, KeepsJust, MayKeep, OneSpends, JoinsSpend, ReachesOnly, Spends}
+use Rattle.cell_slots.specs.Spending.{JoinsSpend}
 use Rattle.rank_layers.specs.Telling.{AddsChanges}
-use Rattle.rank_layers.proofs.FrameLemmas.{same_or_not}
-use Rattle.rank_layers.proofs.JoinLemmas.{one_spends_over}
 
 -- ---- the pairs
 
@@ -58,73 +56,14 @@ bare_reached h p rank range entered is bare =
 -- ---- the cost
 
 -- what joins cost where none is reached
-pub none_spends : (h : History) (b c : Holdings) (p : ℕ) (range : Range) (rank m : ℕ) (joins : List DeclaredJoin) → joins ≡ [] → JoinsSpend h b c p range rank joins m → (m ≡ 0) × (c ≡ b)
-none_spends h b c p range rank m joins none spends = subst (λ js. JoinsSpend h b c p range rank js m) none spends
-
-one_of : (h : History) (b c : Holdings) (p : ℕ) (range : Range) (rank m : ℕ) (joins : List DeclaredJoin) (s : DeclaredJoin) → joins ≡ s ∷ [] → JoinsSpend h b c p range rank joins m → OneSpends h b c p range rank s.position s.join m
-one_of h b c p range rank m joins s one spends = subst (λ js. JoinsSpend h b c p range rank js m) one spends
-
--- below the next rank: the reader below and the joins of the rank
-pub spends_next : (h : History) (a b c : Holdings) (p : ℕ) (range : Range) (rank n m k : ℕ) → k ≡ n + m → Spends h a b p range rank n → JoinsSpend h b c p range rank (reached range rank (joins_of (take p h))) m →
-    Spends h a c p range (rank + 1) k
-spends_next h a b c p range rank n m k sum first joins = record {
-  none = λ none.
-      let here = none_spends h b c p range rank m (reached range rank (joins_of (take p h))) (none rank (omega arith)) joins in
-      let lower = first.none (λ r less. none r (omega arith)) in
-      omega (arith, here.0, lower, sum);
-  still = λ none.
-      let here = none_spends h b c p range rank m (reached range rank (joins_of (take p h))) (none rank (omega arith)) joins in
-      here.1 ∙ first.still (λ r less. none r (omega arith));
-  used = λ rk s only opened holds. elim (same_or_not rk rank) [
-    | inl e ↦
-        let none = lower_none rk s only e in
-        let one : OneSpends h b c p range rank s.position s.join m = one_of h b c p range rank m (reached range rank (joins_of (take p h))) s (subst (λ r. reached range r (joins_of (take p h)) ≡ s ∷ []) e only.one) joins in
-        let here : m ≤ 1 + row_count h p range rk s.join = subst (λ r. m ≤ 1 + row_count h p range r s.join) (sym e) (one.used opened (subst (λ cells. HoldsReady cells.slots s.position p range) (sym (first.still none)) holds)) in
-        let lower = first.none none in
-        omega (arith, here, lower, sum)
-    | inr apart ↦
-        let here = none_spends h b c p range rank m (reached range rank (joins_of (take p h))) (only.alone rank (omega arith) (λ e. apart (sym e))) joins in
-        let lower = first.used rk s (lower_only rk s only apart) opened holds in
-        omega (arith, here.0, lower, sum)
-  ];
-  kept = λ rk s only opened may. elim (same_or_not rk rank) [
-    | inl e ↦
-        let none = lower_none rk s only e in
-        let one : OneSpends h b c p range rank s.position s.join m = one_of h b c p range rank m (reached range rank (joins_of (take p h))) s (subst (λ r. reached range r (joins_of (take p h)) ≡ s ∷ []) e only.one) joins in
-        subst (λ r. KeepsJust a c r s.position p range) (sym e) (subst (λ cells. KeepsJust cells c rank s.position p range) (first.still none)
-        (one.kept opened (subst (λ cells. MayKeep cells.slots s.position s.join range) (sym (first.still none)) may)))
-    | inr apart ↦
-        let here = none_spends h b c p range rank m (reached range rank (joins_of (take p h))) (only.alone rank (omega arith) (λ e. apart (sym e))) joins in
-        subst (λ cells. KeepsJust a cells rk s.position p range) (sym here.1) (first.kept rk s (lower_only rk s only apart) opened may)
-  ];
-}
-  where
-    lower_none : (rk : ℕ) (s : DeclaredJoin) → ReachesOnly (joins_of (take p h)) range (rank + 1) rk s → rk ≡ rank → ReachesNoneBelow range rank (joins_of (take p h))
-    lower_none rk s only e = λ r less. only.alone r (omega arith) (λ same. omega (arith, same, e, less))
-
-    lower_only : (rk : ℕ) (s : DeclaredJoin) → ReachesOnly (joins_of (take p h)) range (rank + 1) rk s → (rk ≡ rank → ⊥) → ReachesOnly (joins_of (take p h)) range rank rk s
-    lower_only rk s only apart = record {
-      is_below = omega (arith, only.is_below, apart);
-      one = only.one;
-      alone = λ r less. only.alone r (omega arith);
-    }
-
-spend_over : (h more : History) (b c : Holdings) (p : ℕ) (range : Range) (rank m : ℕ) (joins : List DeclaredJoin) → take p more ≡ take p h → JoinsSpend more b c p range rank joins m → JoinsSpend h b c p range rank joins m
-spend_over h more b c p range rank m [] same spends = spends
-spend_over h more b c p range rank m (s ∷ []) same spends = one_spends_over h more b c p range rank s.position s.position s.join m same refl spends
-spend_over h more b c p range rank m (s ∷ t ∷ joins) same spends = tt
-
--- what joins cost, over a list with the same first entries
-pub joins_spend_over : (h more : History) (b c : Holdings) (p : ℕ) (range : Range) (rank m : ℕ) → take p more ≡ take p h →
-    JoinsSpend more b c p range rank (reached range rank (joins_of (take p more))) m → JoinsSpend h b c p range rank (reached range rank (joins_of (take p h))) m
-joins_spend_over h more b c p range rank m same spends =
-    subst (λ l. JoinsSpend h b c p range rank (reached range rank (joins_of l)) m) same (spend_over h more b c p range rank m (reached range rank (joins_of (take p more))) same spends)
+none_spends : {S : Type 0} (one : S → S → ℕ → Join → ℕ → Type 0) (b c : S) (m : ℕ) (joins : List DeclaredJoin) → joins ≡ [] → JoinsSpend one b c joins m → (m ≡ 0) × (c ≡ b)
+none_spends one b c m joins none spends = subst (λ js. JoinsSpend one b c js m) none spends
 
 -- over a bare range no more is spent than by the reader below
-pub bare_costs : (h : History) (b c : Holdings) (p : ℕ) (range : Range) (rank : ℕ) (joins : List DeclaredJoin) (table pairs all : Table) (old mid new : ℕ) → joins ≡ [] → all ≡ with_parts range joins table pairs → JoinsSpend h b c p range rank joins (new - mid) →
+pub bare_costs : {S : Type 0} (one : S → S → ℕ → Join → ℕ → Type 0) (b c : S) (range : Range) (joins : List DeclaredJoin) (table pairs all : Table) (old mid new : ℕ) → joins ≡ [] → all ≡ with_parts range joins table pairs → JoinsSpend one b c joins (new - mid) →
     mid ≤ new → mid ≡ old + 1 + length pairs → new ≡ old + 1 + length all
-bare_costs h b c p range rank joins table pairs all old mid new none is spends up cost =
-    let here = none_spends h b c p range rank (new - mid) joins none spends in
+bare_costs one b c range joins table pairs all old mid new none is spends up cost =
+    let here = none_spends one b c (new - mid) joins none spends in
     let rows = ap length (is ∙ ap (λ js. with_parts range js table pairs) none) in
     omega (arith, here.0, rows, up, cost)
 

@@ -1,63 +1,62 @@
 -- What joins of one rank give in a range, and what reading it costs.
-use Rattle.std.proofs.Common.{◌≡◌, ℕ, zero, suc, ◌+◌, ◌-◌, ◌<◌, ◌≤◌, List, [], ◌∷◌, ◌++◌, flat_map, get_or, length, map, take, slice_get, Ordering, Less, Equal, Greater, true, Contains, Some, Result, Ok, Err, IfOk, OnOk, refl, sym, ap, ◌∙◌, subst, arith}
-use Rattle.std.proofs.lemmas.List.{take_more}
+use Rattle.std.proofs.Common.{◌≡◌, ℕ, zero, suc, ◌+◌, ◌-◌, ◌<◌, ◌≤◌, List, [], ◌∷◌, ◌++◌, flat_map, get_or, length, map, take, slice_get, Ordering, Less, Equal, Greater, true, Contains, Some, Result, Ok, Err, IfOk, refl, sym, ap, ◌∙◌, subst, arith}
+use Rattle.std.proofs.lemmas.List.{append-nil, take_more}
+use Rattle.std.proofs.lemmas.List.Concat.{flat_map-append}
+use Rattle.std.proofs.lemmas.List.Folds.{flat_map-map}
 use Rattle.std.proofs.lemmas.List.Sums.{fold-append}
 use Rattle.std.specs.FinMap.Entries.{by_order}
 use Rattle.std.proofs.lemmas.Option.{slice_get_within, get_or_from_slice_get}
 use Rattle.semantics.specs.Texts.{Text, text_cmp, Table, with_pair, Range, pairs_within}
 use Rattle.semantics.specs.Joins.{Join}
-use Rattle.semantics.specs.Histories.{History, DeclaredJoin, joins_of}
+use Rattle.semantics.specs.Histories.{History, IsPrefix, DeclaredJoin, joins_of}
 use Rattle.semantics.specs.Outputs.{out}
 use Rattle.semantics.specs.States.{below, merged}
 use Rattle.semantics.proofs.GatherLemmas.{ascending-out}
 use Rattle.semantics.proofs.MemberLemmas.{contains_from_has}
 use Rattle.semantics.proofs.MergedLemmas.{ascending-pairs_within}
-use Rattle.key_ranges.specs.Ranges.{is_open}
+use Rattle.growing_history.proofs.PrefixLemmas.{take_prefix}
 use Rattle.layering.specs.Merging.{Ascends}
 use Rattle.layering.specs.Reached.{reached, reaches, with_parts, part_of}
 use Rattle.layering.specs.Parts.{JoinTo}
 use Rattle.layering.proofs.PartLemmas.{parts_make_range}
 use Rattle.layering.proofs.ReachLemmas.{reached_stand}
-use Rattle.kept_ranges.specs.Sound.{KeptRange}
 use Rattle.kept_ranges.proofs.PathLemmas.{has_from_at}
-use Rattle.cell_slots.specs.declared.slot.Part.{Part}
-use Rattle.cell_slots.specs.Slots.{Holdings, IsReadySlot, StandsAs}
-use Rattle.cell_slots.specs.Spending.{KeepsJust, MayKeep, OneSpends, JoinsSpend}
-use Rattle.cell_slots.proofs.DeclaredLemmas.{stands_as}
+use Rattle.cell_slots.specs.Slots.{IsOutput, StandsAs}
+use Rattle.cell_slots.specs.Spending.{JoinsSpend}
+use Rattle.cell_slots.proofs.DeclaredLemmas.{stands_as, stands_over}
 
--- ---- parts of a range
-
-flat_map-map : {A B C : Type 0} (f : B → List C) (g : A → B) (xs : List A) → flat_map f (map g xs) ≡ flat_map (λ x. f (g x)) xs
-flat_map-map f g [] = refl
-flat_map-map f g (x ∷ xs) = ap (λ ys. f (g x) ++ ys) (flat_map-map f g xs)
+-- ---- parts of a range, each of which is a thing with a range
 
 -- what a join gives in parts that join to a range is what it gives in the range
-pub parts_output : (range : Range) (parts : List Part) (j : Join) (table : Table) → JoinTo range (map (λ part. part.range) parts) →
-    flat_map (λ part. pairs_within part.range (out j table)) parts ≡ pairs_within range (out j table)
-parts_output range parts j table joins =
-    sym (flat_map-map (λ r. pairs_within r (out j table)) (λ part. part.range) parts)
-    ∙ parts_make_range range (map (λ part. part.range) parts) (out j table) (ascending-out j table) joins
+pub parts_output : {A : Type 0} (f : A → Range) (range : Range) (parts : List A) (j : Join) (table : Table) → JoinTo range (map f parts) →
+    flat_map (λ part. pairs_within (f part) (out j table)) parts ≡ pairs_within range (out j table)
+parts_output f range parts j table joins =
+    sym (flat_map-map (λ r. pairs_within r (out j table)) f parts) ∙ parts_make_range range (map f parts) (out j table) (ascending-out j table) joins
 
 -- what a join gives in a range ascends
 pub part_ascends : (range : Range) (j : Join) (table : Table) (pairs : Table) → pairs ≡ pairs_within range (out j table) → Ascends pairs
 part_ascends range j table pairs is = subst Ascends (sym is) (ascending-pairs_within range (out j table) (ascending-out j table))
 
+-- an output over a longer history is one over the history
+pub output_over : (h more : History) (p at rank : ℕ) (range : Range) (pairs : Table) → p ≤ length h → IsPrefix h more → IsOutput more p at rank range pairs → IsOutput h p at rank range pairs
+output_over h more p at rank range pairs less prefix is = λ j stands.
+    is j (stands_over h more p at rank j less prefix stands) ∙ ap (λ l. pairs_within range (out j (below l rank))) (take_prefix p h more less prefix)
+
+-- what a function makes of one element more
+pub flat_map_more : {A B : Type 0} (f : A → List B) (xs : List A) (i : ℕ) (x : A) → i < length xs → x ≡ get_or xs i x → flat_map f (take (i + 1) xs) ≡ flat_map f (take i xs) ++ f x
+flat_map_more f xs i x less is =
+    ap (flat_map f) (take_more xs i x less ∙ ap (λ y. take i xs ++ y ∷ []) (sym is)) ∙ flat_map-append f (take i xs) (x ∷ []) ∙ ap (λ ys. flat_map f (take i xs) ++ ys) (append-nil (f x))
+
 -- ---- the cost of one join
 
--- where a ready cell is used and a gap is reserved as they should be, reading costs as it should
-pub one_spends : {V E : Type 0} (items : V → Table) (r : Result V E) (h : History) (before after : Holdings) (p : ℕ) (range : Range) (rank at : ℕ) (j : Join) (old new : ℕ) →
-    IfOk r (λ v. items v ≡ pairs_within range (out j (below (take p h) rank))) →
-    ((id : ℕ) (s : KeptRange) → is_open range ≡ true → IsReadySlot before.slots id at p range s → IfOk r (λ v. new ≡ old + 1 + length (items v))) →
-    (is_open range ≡ true → MayKeep before.slots at j range → OnOk r (KeepsJust before after rank at p range)) →
-    IfOk r (λ v. OneSpends h before after p range rank at j (new - old))
-one_spends items (Ok v) h before after p range rank at j old new output ready held = record {
-  used = λ opened holds.
-      let costs = ready holds.id holds.state opened holds.is in
-      let rows = ap length output in
-      omega (arith, costs, rows);
-  kept = held;
-}
-one_spends items (Err e) h before after p range rank at j old new output ready held = tt
+-- what one join costs, by the parts that it was read in
+pub cost_of_join : {P V E : Type 0} (items : V → Table) (r : Result V E) (covered : List P → Type 0) (took : P → ℕ → Type 0) (cost : Type 0) (parts : List P) (n : ℕ) →
+    covered parts → ((part : P) → parts ≡ part ∷ [] → IfOk r (λ v. took part (length (items v)))) → IfOk r (λ v. length (items v) ≡ n) →
+    ((part : P) → covered (part ∷ []) → took part n → cost) → ((length parts ≡ 1 → ⊥) → covered parts → cost) → IfOk r (λ _. cost)
+cost_of_join items (Err e) covered took cost parts n is part rows one other = tt
+cost_of_join items (Ok v) covered took cost [] n is part rows one other = other (λ e. omega (arith, e)) is
+cost_of_join items (Ok v) covered took cost (x ∷ []) n is part rows one other = one x is (subst (took x) rows (part x refl))
+cost_of_join items (Ok v) covered took cost (x ∷ y ∷ more) n is part rows one other = other (λ e. omega (arith, e)) is
 
 -- ---- the joins of a history by their positions
 
@@ -74,20 +73,20 @@ with_parts_more range joins table pairs i s is =
     ap (λ js. with_parts range js table pairs) (take_more joins i s (slice_get_within joins i s is) ∙ ap (λ x. take i joins ++ x ∷ []) (get_or_from_slice_get joins i s s is))
     ∙ fold-append (λ t x. merged t (part_of range table x)) pairs (take i joins) (s ∷ [])
 
-spend_cases : (h : History) (a b c : Holdings) (p : ℕ) (range : Range) (rank : ℕ) (joins : List DeclaredJoin) (s : DeclaredJoin) (n m k : ℕ) → k ≡ n + m →
-    JoinsSpend h a b p range rank joins n → OneSpends h b c p range rank s.position s.join m → JoinsSpend h a c p range rank (joins ++ s ∷ []) k
-spend_cases h a b c p range rank [] s n m k sum before one =
+spend_cases : {S : Type 0} (one : S → S → ℕ → Join → ℕ → Type 0) (a b c : S) (joins : List DeclaredJoin) (s : DeclaredJoin) (n m k : ℕ) → k ≡ n + m →
+    JoinsSpend one a b joins n → one b c s.position s.join m → JoinsSpend one a c (joins ++ s ∷ []) k
+spend_cases one a b c [] s n m k sum before spent =
     let same : m ≡ k = omega (arith, sum, before.0) in
-    subst (λ x. OneSpends h a c p range rank s.position s.join x) same (subst (λ cells. OneSpends h cells c p range rank s.position s.join m) before.1 one)
-spend_cases h a b c p range rank (t ∷ []) s n m k sum before one = tt
-spend_cases h a b c p range rank (t ∷ u ∷ more) s n m k sum before one = tt
+    subst (λ x. one a c s.position s.join x) same (subst (λ x. one x c s.position s.join m) before.1 spent)
+spend_cases one a b c (t ∷ []) s n m k sum before spent = tt
+spend_cases one a b c (t ∷ u ∷ more) s n m k sum before spent = tt
 
 -- the cost of one join more
-pub joins_spend_more : (h : History) (a b c : Holdings) (p : ℕ) (range : Range) (rank : ℕ) (joins : List DeclaredJoin) (i : ℕ) (s : DeclaredJoin) (n m k : ℕ) → k ≡ n + m → slice_get joins i ≡ Some s →
-    JoinsSpend h a b p range rank (take i joins) n → OneSpends h b c p range rank s.position s.join m → JoinsSpend h a c p range rank (take (i + 1) joins) k
-joins_spend_more h a b c p range rank joins i s n m k sum is before one =
-    subst (λ js. JoinsSpend h a c p range rank js k) (sym (take_more joins i s (slice_get_within joins i s is) ∙ ap (λ x. take i joins ++ x ∷ []) (get_or_from_slice_get joins i s s is)))
-    (spend_cases h a b c p range rank (take i joins) s n m k sum before one)
+pub joins_spend_more : {S : Type 0} (one : S → S → ℕ → Join → ℕ → Type 0) (a b c : S) (joins : List DeclaredJoin) (i : ℕ) (s : DeclaredJoin) (n m k : ℕ) → k ≡ n + m → slice_get joins i ≡ Some s →
+    JoinsSpend one a b (take i joins) n → one b c s.position s.join m → JoinsSpend one a c (take (i + 1) joins) k
+joins_spend_more one a b c joins i s n m k sum is before spent =
+    subst (λ js. JoinsSpend one a c js k) (sym (take_more joins i s (slice_get_within joins i s is) ∙ ap (λ x. take i joins ++ x ∷ []) (get_or_from_slice_get joins i s s is)))
+    (spend_cases one a b c (take i joins) s n m k sum before spent)
 
 fewer_by : (o : Ordering) (key value : Text) (e : Text × Text) (es rest : Table) → length rest ≤ length es + 1 →
     length (by_order o ((key, value) ∷ e ∷ es) ((e.0, value) ∷ es) (e ∷ rest)) ≤ length (e ∷ es) + 1
@@ -117,19 +116,6 @@ join_at_place joins ats i d is less =
 
 -- ---- what a clause says where a call succeeds
 
--- a cell that was reserved before it was read was not used by that
-pub keeps_after : (start before after : Holdings) (rank at p : ℕ) (range : Range) → before.used ≡ start.used → KeepsJust before after rank at p range → KeepsJust start after rank at p range
-keeps_after start before after rank at p range same keeps = record {
-  id = keeps.id;
-  is = keeps.is;
-  alone = λ none. keeps.alone none ∙ ap (λ used. used ++ keeps.id ∷ []) same;
-}
-
--- what a fact yields
-pub on_ok_then : {A E : Type 0} (r : Result A E) (F G : Type 0) → (F → G) → OnOk r F → OnOk r G
-on_ok_then (Ok a) F G f p = f p
-on_ok_then (Err e) F G f p = tt
-
 -- what holds for each thing of a kind holds for all
 pub ok_for_all : {A E X : Type 0} (r : Result A E) (S P : X → Type 0) → ((x : X) → S x → IfOk r (λ _. P x)) → IfOk r (λ _. (x : X) → S x → P x)
 ok_for_all (Ok a) S P f = f
@@ -152,14 +138,11 @@ listed_stands h p range rank ats i less is place =
     contains_place : (xs : List DeclaredJoin) (k : ℕ) (x : DeclaredJoin) → slice_get xs k ≡ Some x → Contains xs x
     contains_place xs k x at = contains_from_has xs x (has_from_at xs k x at)
 
--- what reading one join costs, over a list with the same first entries
-pub one_spends_over : (h more : History) (before after : Holdings) (p : ℕ) (range : Range) (rank at other : ℕ) (j : Join) (added : ℕ) → take p more ≡ take p h → other ≡ at →
-    OneSpends more before after p range rank other j added → OneSpends h before after p range rank at j added
-one_spends_over h more before after p range rank at other j added same place one =
-    subst (λ n. OneSpends h before after p range rank n j added) place (record {
-      used = λ opened holds. subst (λ l. added ≤ 1 + length (pairs_within range (out j (below l rank)))) same (one.used opened holds);
-      kept = one.kept;
-    })
+-- over a longer history they are named by the same positions
+pub listed_over : (h more : History) (p rank : ℕ) (range : Range) (ats named : List ℕ) → p ≤ length h → IsPrefix h more → named ≡ ats → ats ≡ map (λ s. s.position) (reached range rank (joins_of (take p h))) →
+    named ≡ map (λ s. s.position) (reached range rank (joins_of (take p more)))
+listed_over h more p rank range ats named less prefix same listed =
+    same ∙ listed ∙ ap (λ l. map (λ s. s.position) (reached range rank (joins_of l))) (sym (take_prefix p h more less prefix))
 
 -- what two facts of a value say together
 pub ok_both : {A E : Type 0} (r : Result A E) (P Q S : A → Type 0) → ((a : A) → P a → Q a → S a) → IfOk r P → IfOk r Q → IfOk r S

@@ -1,4 +1,4 @@
-pub mod FrameLemmas
+pub mod MoveLemmas
 pub mod PartLemmas
 pub mod JoinLemmas
 pub mod KeyLemmas

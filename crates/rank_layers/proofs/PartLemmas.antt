@@ -1,8 +1,6 @@
 -- One part of a range that is read from a cell.
-use Rattle.std.proofs.Common.{◌≡◌, ℕ, ◌+◌, ◌-◌, ◌<◌, List, [], ◌∷◌, ◌++◌, flat_map, get_or, length, take, slice_get, Some, None, sym, ap, ◌∙◌, subst, arith}
-use Rattle.std.proofs.lemmas.List.{append-nil, take_more}
-use Rattle.std.proofs.lemmas.List.Concat.{flat_map-append}
-use Rattle.semantics.specs.Texts.{Range, pairs_within}
+use Rattle.std.proofs.Common.{◌≡◌, ℕ, ◌+◌, ◌-◌, [], length, take, slice_get, Some, None, Result, Ok, Err, IfOk, OnOk, sym, ap, ◌∙◌, subst, arith}
+use Rattle.semantics.specs.Texts.{Table, Range, pairs_within}
 use Rattle.semantics.specs.Joins.{Join}
 use Rattle.semantics.specs.Histories.{History, IsPrefix, joins_of}
 use Rattle.semantics.specs.Outputs.{out}
@@ -13,23 +11,19 @@ use Rattle.growing_history.proofs.PrefixLemmas.{prefix_refl}
 use Rattle.layering.specs.Parts.{IsWithin}
 use Rattle.layering.proofs.PartLemmas.{part_of_range, within_is_kept}
 use Rattle.join_eval.specs.Moves.{Moves}
-use Rattle.join_eval.proofs.MovesLemmas.{moves_refl, moves_trans}
 use Rattle.kept_ranges.specs.Sound.{KeptRange, IsSound}
 use Rattle.range_state.specs.Held.{forgotten}
 use Rattle.range_state.specs.Ready.{HasSameSubject, IsReady}
 use Rattle.range_serving.specs.Serving.{output_within}
+use Rattle.cell_slots.specs.declared.slot.Part.{Part}
 use Rattle.cell_slots.specs.declared.slot.Slot.TheVariants.{Lent, Held}
-use Rattle.cell_slots.specs.Slots.{Holdings, with_slot, Frame, HoldsWhole, IsDeclared, IsRightFor, StandsAs, Takes}
-use Rattle.cell_slots.specs.Spending.{KeepsJust}
-use Rattle.cell_slots.specs.FrameLaws.{frame_refl, frame_trans}
+use Rattle.cell_slots.specs.Slots.{Holdings, with_slot, Frame, HoldsWhole, IsReadySlot, IsDeclared, IsRightFor, StandsAs, Takes}
+use Rattle.cell_slots.specs.Spending.{KeepsJust, Took}
 use Rattle.cell_slots.proofs.DeclaredLemmas.{declared_over_longer, declared_once, rank_declared}
-use Rattle.rank_layers.proofs.FrameLemmas.{frame_weaker, frame_around, still_lent, given_back}
+use Rattle.cell_slots.proofs.FrameLemmas.{frame_weaker, frame_around, still_lent, given_back}
+use Rattle.rank_layers.proofs.MoveLemmas.{moves_as}
 
 -- ---- how a reader goes on
-
--- what a reader goes on by may be said in weaker words
-pub moves_as : {S : Type 0} (list : S → History) (floor : S → ℕ) (went more : S → S → Type 0) (a b : S) → (went a b → more a b) → Moves list floor went a b → Moves list floor more a b
-moves_as list floor went more a b weaker moves = record { kept = moves.kept; entered = moves.entered; same_floor = moves.same_floor; on = weaker moves.on }
 
 -- how the reader below goes on, as a layer's
 pub moves_below : {S : Type 0} (list : S → History) (floor : S → ℕ) (went : S → S → Type 0) (holds : S → Holdings) (top rank : ℕ) (a b : S) → top ≡ rank → (went a b → Frame top (holds a) (holds b)) → Moves list floor went a b →
@@ -118,24 +112,15 @@ keeps_from h floor before lent mid after id at rank p part state s takes frame s
   alone = λ none. ap (λ (c : Holdings). c.used) set ∙ frame.unused none ∙ ap (λ (c : Holdings). c.used) takes.lent;
 }
 
--- ---- over longer histories
+-- ---- the cost
 
--- layers go on one after another
-pub moves_on : {S : Type 0} (list : S → History) (floor : S → ℕ) (holds : S → Holdings) (top : ℕ) (a b c : S) →
-    Moves list floor (λ x y. Frame top (holds x) (holds y)) a b → Moves list floor (λ x y. Frame top (holds x) (holds y)) b c → Moves list floor (λ x y. Frame top (holds x) (holds y)) a c
-moves_on list floor holds top a b c = moves_trans list floor (λ x y. Frame top (holds x) (holds y)) a b c (frame_trans top (holds a) (holds b) (holds c))
-
--- a reader that is not called
-pub moves_not : {S : Type 0} (list : S → History) (floor : S → ℕ) (holds : S → Holdings) (top : ℕ) (a : S) → Moves list floor (λ x y. Frame top (holds x) (holds y)) a a
-moves_not list floor holds top a = moves_refl list floor (λ x y. Frame top (holds x) (holds y)) a (frame_refl top (holds a))
-
--- what a function makes of one element more
-pub flat_map_more : {A B : Type 0} (f : A → List B) (xs : List A) (i : ℕ) (x : A) → i < length xs → x ≡ get_or xs i x → flat_map f (take (i + 1) xs) ≡ flat_map f (take i xs) ++ f x
-flat_map_more f xs i x less is =
-    ap (flat_map f) (take_more xs i x less ∙ ap (λ y. take i xs ++ y ∷ []) (sym is)) ∙ flat_map-append f (take i xs) (x ∷ []) ∙ ap (λ ys. flat_map f (take i xs) ++ ys) (append-nil (f x))
-
--- what a call of the reader below ensures, as a layer's
-pub moves_from_call : {S : Type 0} (list : S → History) (floor : S → ℕ) (went : S → S → Type 0) (holds : S → Holdings) (top rank : ℕ) (a b : S) → top ≡ rank → (went a b → Frame top (holds a) (holds b)) →
-    IsPrefix (list a) (list b) → HasEntered (list b) → floor b ≡ floor a → went a b → Moves list floor (λ x y. Frame (rank + 1) (holds x) (holds y)) a b
-moves_from_call list floor went holds top rank a b is frames kept entered floors on =
-    moves_below list floor went holds top rank a b is frames (record { kept = kept; entered = λ e. entered; same_floor = floors; on = on })
+-- a part that is read as it may be
+pub took_by : {V E : Type 0} (items : V → Table) (r : Result V E) (before after : Holdings) (at rank p : ℕ) (part : Part) (old new : ℕ) →
+    ((id : ℕ) (s : KeptRange) → part.cell ≡ Some id → s.rank ≡ rank → IsReadySlot before.slots id at p part.range s → IfOk r (λ v. new ≡ old + 1 + length (items v))) →
+    ((id : ℕ) (j : Join) → part.cell ≡ Some id → slice_get before.slots id ≡ Some (Held at (forgotten j rank part.range)) → OnOk r (KeepsJust before after rank at p part.range)) →
+    IfOk r (λ v. Took before after at rank p part (length (items v)) (new - old))
+took_by items (Ok v) before after at rank p part old new ready held = record {
+  ready = λ id s cell ranked is. let costs = ready id s cell ranked is in omega (arith, costs);
+  held = held;
+}
+took_by items (Err e) before after at rank p part old new ready held = tt

@@ -24,7 +24,6 @@ use Rattle.join_eval.specs.declared.reading.Changed.{Changed}
 use Rattle.join_eval.specs.declared.reading.Changed.TheVariants.{Keys, All}
 use Rattle.kept_ranges.specs.Sound.{KeptRange}
 use Rattle.range_serving.specs.Telling.{TellsOutput}
-use Rattle.cell_slots.specs.declared.slot.Part.{Part}
 use Rattle.cell_slots.specs.Slots.{Holdings, IsDeclared, Takes}
 use Rattle.cell_slots.proofs.DeclaredLemmas.{declared_once}
 use Rattle.rank_layers.specs.Telling.{ListsJoin, TellsJoin, ListsAdded, AddsChanges}
@@ -149,19 +148,19 @@ lists_two h q p rank j low middle high xs ys first last one two = record {
       (cases_Bool (is_below key middle));
 }
 
--- what is listed of parts that join, with what is listed of one more
-pub lists_more : (h : History) (q p rank : ℕ) (j : Join) (range : Range) (parts : List Part) (i : ℕ) (part : Part) (told more now : List Text) → i < length parts → part ≡ get_or parts i part → now ≡ told ++ more →
-    ((r : Range) → JoinTo r (map (λ x. x.range) (take i parts)) → ListsJoin h q p rank j r told) → ListsJoin h q p rank j part.range more →
-    JoinTo range (map (λ x. x.range) (take (i + 1) parts)) → ListsJoin h q p rank j range now
-lists_more h q p rank j range parts i part told more now less is added before next joins =
-    let ranges : map (λ (x : Part). x.range) (take (i + 1) parts) ≡ map (λ x. x.range) (take i parts) ++ part.range ∷ [] =
-    ap (map (λ x. x.range)) (take_more parts i part less ∙ ap (λ y. take i parts ++ y ∷ []) (sym is)) ∙ map-append (λ x. x.range) (take i parts) (part ∷ []) in
-    let last = join_last range.low range.high (map (λ x. x.range) (take i parts)) part.range (subst (JoinUpTo range.low range.high) ranges joins) in
+-- what is listed of parts that join, each of which is a thing with a range, with what is listed of one more
+pub lists_more : {A : Type 0} (f : A → Range) (h : History) (q p rank : ℕ) (j : Join) (range : Range) (parts : List A) (i : ℕ) (part : A) (told more now : List Text) → i < length parts → part ≡ get_or parts i part → now ≡ told ++ more →
+    ((r : Range) → JoinTo r (map f (take i parts)) → ListsJoin h q p rank j r told) → ListsJoin h q p rank j (f part) more →
+    JoinTo range (map f (take (i + 1) parts)) → ListsJoin h q p rank j range now
+lists_more f h q p rank j range parts i part told more now less is added before next joins =
+    let ranges : map f (take (i + 1) parts) ≡ map f (take i parts) ++ f part ∷ [] =
+    ap (map f) (take_more parts i part less ∙ ap (λ y. take i parts ++ y ∷ []) (sym is)) ∙ map-append f (take i parts) (part ∷ []) in
+    let last = join_last range.low range.high (map f (take i parts)) (f part) (subst (JoinUpTo range.low range.high) ranges joins) in
     subst (ListsJoin h q p rank j range) (sym added)
-    (lists_two h q p rank j range.low part.range.low range.high told more (join_order range.low part.range.low (map (λ x. x.range) (take i parts)) last.0)
-    (subst (λ t. is_below part.range.low t ≡ true) last.2 last.1)
-    (before (from_to range.low part.range.low) last.0)
-    (subst (λ t. ListsJoin h q p rank j (from_to part.range.low t) more) last.2 next))
+    (lists_two h q p rank j range.low (f part).low range.high told more (join_order range.low (f part).low (map f (take i parts)) last.0)
+    (subst (λ t. is_below (f part).low t ≡ true) last.2 last.1)
+    (before (from_to range.low (f part).low) last.0)
+    (subst (λ t. ListsJoin h q p rank j (from_to (f part).low t) more) last.2 next))
 
 -- ---- one join after another
 

@@ -1,4 +1,4 @@
-// Reading one rank more than a reader over cells does.
+// Reading one rank more than a reader does.
 ghost use Rattle.std.specs.Prelude.{◌≡◌, ◌+◌, ◌-◌, ◌≤◌, length, take, true, IfOk};
 ghost use Rattle.semantics.specs.Texts.{is_range, pairs_within};
 ghost use Rattle.semantics.specs.States.{below};
@@ -7,17 +7,14 @@ ghost use Rattle.growing_history.specs.Changes.{changed_keys, IsBareAt, IsBareTh
 ghost use Rattle.growing_history.specs.Entered.{HasEntered};
 ghost use Rattle.join_eval.specs.Answers.{AnswersChanges, ListsExactly, CostsOne};
 ghost use Rattle.join_eval.specs.Moves.{Moves};
-ghost use Rattle.cell_slots.specs.Slots.{Frame};
-ghost use Rattle.cell_slots.specs.Spending.{Spends};
 
 use crate::outputs::add_outputs;
+use crate::range_cache::RangeCache;
 use crate::telling::add_changes;
-use cell_slots::Cells;
-use join_eval::{Between, Changed};
+use join_eval::{Between, Changed, Reader};
 use join_types::Pair;
 use key_space::Range;
 use out_of_memory::OutOfMemory;
-use std::alloc::Global;
 use std::sync::ledger::Ledger;
 use steps::Steps;
 
@@ -35,9 +32,10 @@ fn is_open(range: &Range) -> bool
     range.lo() < range.hi()
 }
 
-/// The pairs of the range after the first p entries, with the joins up to the reader's own top rank.
-pub fn pairs_above<R: Cells, L: Ledger>(
-    alloc: Global,
+/// Reads the pairs of the range after the first p entries, with the joins up to the reader's own top rank: what the reader gives
+/// of the ranks below, and the outputs of the joins of this rank that the range reaches, from the cache.
+pub fn pairs_above<R: Reader, C: RangeCache<R>, L: Ledger>(
+    cache: &C,
     rank: u8,
     p: u64,
     range: &Range,
@@ -48,29 +46,28 @@ pub fn pairs_above<R: Cells, L: Ledger>(
     requires above { R.floor reader.old ≤ p }
     requires next { R.top ≡ rank }
     ensures exact { IfOk result (λ pairs. pairs.items ≡ pairs_within range.now (below (take p (R.list reader.old)) (rank + 1))) }
-    ensures moves { Moves R.list R.floor (λ a b. Frame (rank + 1) (R.holdings a) (R.holdings b)) reader.old reader.new }
+    ensures moves { Moves R.list R.floor (C.left (rank + 1)) reader.old reader.new }
     ensures entered { HasEntered (R.list reader.new) }
     ensures counted { steps.old ≤ steps.new }
     ensures cost { IfOk result (λ pairs. steps.old + 1 + length pairs.items ≤ steps.new) }
     ensures bare { IsBareAt (R.list reader.old) p range.now → IfOk result (λ pairs. steps.new ≡ steps.old + 1 + length pairs.items) }
-    ensures spent { IfOk result (λ _. Spends (R.list reader.old) (R.holdings reader.old) (R.holdings reader.new) p range.now (rank + 1) (steps.new - steps.old)) }
+    ensures spent { IfOk result (λ _. C.spends reader.old reader.new p range.now (rank + 1) (steps.new - steps.old)) }
 {
     look_at(range);
     let pairs = reader.pairs(p, range, rank, steps)?;
-    let ats = reader.reached(p, range, rank)?;
-    add_outputs(alloc, ats.as_slice(), rank, p, range, pairs, reader, steps)
+    let ats = cache.reached(p, range, rank, reader)?;
+    add_outputs(cache, ats.as_slice(), rank, p, range, pairs, reader, steps)
 }
 
-/// What may have changed in the range between the first q and the first p entries, with the joins up to the reader's own
-/// top rank: what the reader says of the ranks below, and what the cells keep of the outputs of the joins of this rank that
-/// the range reaches.
+/// Says what may have changed in the range between the first q and the first p entries, with the joins up to the reader's own
+/// top rank: what the reader says of the ranks below, and what the cache says of the outputs of the joins of this rank that the
+/// range reaches.
 ///
 /// Where a join is declared or dropped between, they are the reader's keys if the range is bare throughout, and otherwise
-/// it is not known which. Nor is it where the reader does not know it of the ranks below, where no cell holds some part of
-/// the range for such a join or that cell cannot be lent, and where what the cell holds does not know it: it keeps nothing,
-/// its notes start later, or slots meet the part that are pending or were noted since.
-pub fn changed_above<R: Cells, L: Ledger>(
-    alloc: Global,
+/// it is not known which. Nor is it where the reader does not know it of the ranks below, and where the cache does not know it
+/// of some part of the range for such a join.
+pub fn changed_above<R: Reader, C: RangeCache<R>, L: Ledger>(
+    cache: &C,
     rank: u8,
     q: u64,
     p: u64,
@@ -83,7 +80,7 @@ pub fn changed_above<R: Cells, L: Ledger>(
     requires above { R.floor reader.old ≤ q }
     requires next { R.top ≡ rank }
     ensures exact { IfOk result (AnswersChanges (R.list reader.old) q p (rank + 1) range.now) }
-    ensures moves { Moves R.list R.floor (λ a b. Frame (rank + 1) (R.holdings a) (R.holdings b)) reader.old reader.new }
+    ensures moves { Moves R.list R.floor (C.left (rank + 1)) reader.old reader.new }
     ensures entered { HasEntered (R.list reader.new) }
     ensures counted { steps.old ≤ steps.new }
     ensures cost { IfOk result (CostsOne steps.old steps.new) }
@@ -94,12 +91,12 @@ pub fn changed_above<R: Cells, L: Ledger>(
     let Changed::Keys(keys) = reader.changed(q, p, range, rank, steps)? else {
         return Ok(Changed::All);
     };
-    match reader.between(q, p, range)? {
+    match cache.between(q, p, range, reader)? {
         Between::Steady => {}
         Between::Bare => return Ok(Changed::Keys(keys)),
         Between::Other => return Ok(Changed::All),
     }
-    let ats = reader.reached(p, range, rank)?;
+    let ats = cache.reached(p, range, rank, reader)?;
     if ats.is_empty() {
         return Ok(Changed::Keys(keys));
     }
@@ -107,7 +104,7 @@ pub fn changed_above<R: Cells, L: Ledger>(
         return Ok(Changed::Keys(keys));
     }
     add_changes(
-        alloc,
+        cache,
         ats.as_slice(),
         rank,
         q,

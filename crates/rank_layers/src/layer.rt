@@ -5,6 +5,7 @@ ghost use Rattle.cell_slots.specs.FrameLaws.{frame_refl, frame_trans, min_small}
 ghost use Rattle.cell_slots.specs.Spending.{Spends};
 
 use crate::above::{changed_above, pairs_above};
+use crate::own_cells::OwnCells;
 use cell_slots::{Cells, Part};
 use join_eval::{Between, Changed, Reader};
 use join_types::{Join, Pair};
@@ -59,7 +60,8 @@ impl<R: Cells> Reader for Layer<R> {
         if rank <= self.inner.top_rank() {
             return self.inner.pairs(p, range, rank, steps);
         }
-        pairs_above(self.alloc, rank - 1, p, range, &mut self.inner, steps)
+        let cache = OwnCells { alloc: self.alloc };
+        pairs_above(&cache, rank - 1, p, range, &mut self.inner, steps)
     }
 
     fn changed<L: Ledger>(
@@ -73,7 +75,8 @@ impl<R: Cells> Reader for Layer<R> {
         if rank <= self.inner.top_rank() {
             return self.inner.changed(q, p, range, rank, steps);
         }
-        changed_above(self.alloc, rank - 1, q, p, range, &mut self.inner, steps)
+        let cache = OwnCells { alloc: self.alloc };
+        changed_above(&cache, rank - 1, q, p, range, &mut self.inner, steps)
     }
 }
 
@@ -84,11 +87,11 @@ impl<R: Cells> Cells for Layer<R> {
 
     ghost spends_so = { λ a b p range rank added so. so };
 
-    fn reached(&self, p: u64, range: &Range, rank: u8) -> Result<Vec<u64>, OutOfMemory> {
+    fn reached(&mut self, p: u64, range: &Range, rank: u8) -> Result<Vec<u64>, OutOfMemory> {
         self.inner.reached(p, range, rank)
     }
 
-    fn between(&self, q: u64, p: u64, range: &Range) -> Result<Between, OutOfMemory> {
+    fn between(&mut self, q: u64, p: u64, range: &Range) -> Result<Between, OutOfMemory> {
         self.inner.between(q, p, range)
     }
 

@@ -1,13 +1,21 @@
-// A reader of one rank more: it stands on a reader of the ranks below and keeps ranges of its joins' outputs in cells.
+// A reader of one rank more: it stands on a reader of the ranks below, and on a cache of ranges of its joins' outputs.
 //
-// The layers above may use `Layer`, which stands on any reader over cells; nested eight times it reads joins of all ranks.
+// What it does is written once, over `RangeCache`: `above` reads and says what changed, over `outputs` and `telling`. The
+// cache is `OwnCells`, the cells of the reader that it stands on, or cells that threads share, which the layers above give.
+// They may also use `Layer`, which stands on any reader over cells; nested eight times it reads joins of all ranks.
 #![tactic(auto)]
 
 pub mod above;
 pub mod keys;
 pub mod layer;
 pub mod outputs;
+pub mod own_cells;
 pub mod part;
+pub mod query;
+pub mod range_cache;
 pub mod telling;
 
 pub use layer::{Layer, Tower};
+pub use own_cells::OwnCells;
+pub use query::Query;
+pub use range_cache::RangeCache;

@@ -1,6 +1,6 @@
 // What joins of one rank give in a range.
-ghost use Rattle.std.specs.Prelude.{◌≡◌, ℕ, ◌+◌, ◌-◌, ◌≤◌, [], ◌++◌, flat_map, length, map, take, slice_get, IfOk, OnOk, Some};
-ghost use Rattle.semantics.specs.Texts.{Range as Bounds, pairs_within};
+ghost use Rattle.std.specs.Prelude.{◌≡◌, ◌+◌, ◌-◌, ◌≤◌, ◌++◌, ◌∷◌, [], flat_map, length, map, take, IfOk};
+ghost use Rattle.semantics.specs.Texts.{pairs_within};
 ghost use Rattle.semantics.specs.Joins.{Join as PlainJoin};
 ghost use Rattle.semantics.specs.Histories.{joins_of};
 ghost use Rattle.semantics.specs.Outputs.{out};
@@ -9,119 +9,115 @@ ghost use Rattle.growing_history.specs.Entered.{HasEntered};
 ghost use Rattle.layering.specs.Merging.{Ascends};
 ghost use Rattle.layering.specs.Reached.{reached, with_parts};
 ghost use Rattle.join_eval.specs.Moves.{Moves};
-ghost use Rattle.kept_ranges.specs.Sound.{KeptRange};
-ghost use Rattle.range_state.specs.Held.{forgotten};
-ghost use Rattle.cell_slots.specs.declared.slot.Slot.TheVariants.{Held};
-ghost use Rattle.cell_slots.specs.Slots.{Frame, IsReached, IsReadySlot, StandsAs};
-ghost use Rattle.cell_slots.specs.Spending.{JoinsSpend, KeepsJust, OneSpends, one_part};
+ghost use Rattle.cell_slots.specs.Slots.{IsOutput, IsReached, StandsAs};
+ghost use Rattle.cell_slots.specs.Spending.{JoinsSpend};
 
-use crate::part::{Asked, read_part};
-use cell_slots::{Cells, Part};
+use crate::query::Query;
+use crate::range_cache::RangeCache;
+use join_eval::Reader;
 use join_types::Pair;
 use key_space::Range;
 use out_of_memory::OutOfMemory;
 use range_serving::merge;
-use std::alloc::Global;
 use std::sync::ledger::Ledger;
 use steps::Steps;
 
-/// Adds pairs at the end.
-fn push_all(pairs: &mut Vec<Pair>, more: Vec<Pair>) -> Result<(), OutOfMemory>
-    ensures { OnOk result (pairs.new.items ≡ pairs.old.items ++ more.items) }
+/// Pairs, and others behind them. Linear in the others; where there are no pairs the others are given back.
+fn put_behind(pairs: Vec<Pair>, more: Vec<Pair>) -> Result<Vec<Pair>, OutOfMemory>
+    ensures { IfOk result (λ all. all.items ≡ pairs.items ++ more.items) }
 {
-    for pair in more {
-        pairs.push(pair)?;
+    if pairs.is_empty() {
+        return Ok(more);
     }
-    Ok(())
+    let mut all = pairs;
+    let mut rest = more;
+    all.append(&mut rest)?;
+    Ok(all)
 }
 
 /// What a join gives in parts of a range, one after another.
-fn read_each<R: Cells, L: Ledger>(
-    asked: Asked,
-    parts: &[Part],
+fn read_each<R: Reader, C: RangeCache<R>, L: Ledger>(
+    cache: &C,
+    query: Query,
+    parts: &[C::Part],
     reader: &mut R,
     steps: &mut Steps<L>,
 ) -> Result<Vec<Pair>, OutOfMemory>
-    requires within { asked.p ≤ length (R.list reader.old) }
-    requires above { R.floor reader.old ≤ asked.p }
+    requires within { query.p ≤ length (R.list reader.old) }
+    requires above { R.floor reader.old ≤ query.p }
     requires entered { HasEntered (R.list reader.old) }
-    requires stands { (j : PlainJoin) × StandsAs (R.list reader.old) asked.p asked.at asked.rank j }
-    requires next { R.top ≡ asked.rank }
-    ensures output { IfOk result (λ pairs. (j : PlainJoin) → StandsAs (R.list reader.old) asked.p asked.at asked.rank j →
-        pairs.items ≡ flat_map (λ part. pairs_within part.range (out j (below (take asked.p (R.list reader.old)) asked.rank))) parts.now) }
-    ensures moves { Moves R.list R.floor (λ a b. Frame (asked.rank + 1) (R.holdings a) (R.holdings b)) reader.old reader.new }
+    requires stands { (j : PlainJoin) × StandsAs (R.list reader.old) query.p query.at query.rank j }
+    requires next { R.top ≡ query.rank }
+    ensures output { IfOk result (λ pairs. (j : PlainJoin) → StandsAs (R.list reader.old) query.p query.at query.rank j →
+        pairs.items ≡ flat_map (λ part. pairs_within (C.range_of part) (out j (below (take query.p (R.list reader.old)) query.rank))) parts.now) }
+    ensures moves { Moves R.list R.floor (C.left (query.rank + 1)) reader.old reader.new }
     ensures counted { steps.old ≤ steps.new }
     ensures cost { IfOk result (λ pairs. steps.old + length pairs.items ≤ steps.new) }
 {
-    let mut pairs = Vec::new(asked.alloc);
+    let mut pairs = Vec::new(cache.alloc());
     for part in parts {
-        let more = read_part(asked, part, reader, steps)?;
-        push_all(&mut pairs, more)?;
+        let more = cache.read(query, part, reader, steps)?;
+        pairs = put_behind(pairs, more)?;
     }
     Ok(pairs)
 }
 
 /// What a join gives in parts of a range, one after another. The pairs of one part alone are given as they are.
-fn read_parts<R: Cells, L: Ledger>(
-    asked: Asked,
-    parts: &[Part],
+fn read_parts<R: Reader, C: RangeCache<R>, L: Ledger>(
+    cache: &C,
+    query: Query,
+    parts: &[C::Part],
     reader: &mut R,
     steps: &mut Steps<L>,
 ) -> Result<Vec<Pair>, OutOfMemory>
-    requires within { asked.p ≤ length (R.list reader.old) }
-    requires above { R.floor reader.old ≤ asked.p }
+    requires within { query.p ≤ length (R.list reader.old) }
+    requires above { R.floor reader.old ≤ query.p }
     requires entered { HasEntered (R.list reader.old) }
-    requires stands { (j : PlainJoin) × StandsAs (R.list reader.old) asked.p asked.at asked.rank j }
-    requires next { R.top ≡ asked.rank }
-    ensures output { IfOk result (λ pairs. (j : PlainJoin) → StandsAs (R.list reader.old) asked.p asked.at asked.rank j →
-        pairs.items ≡ flat_map (λ part. pairs_within part.range (out j (below (take asked.p (R.list reader.old)) asked.rank))) parts.now) }
-    ensures moves { Moves R.list R.floor (λ a b. Frame (asked.rank + 1) (R.holdings a) (R.holdings b)) reader.old reader.new }
+    requires stands { (j : PlainJoin) × StandsAs (R.list reader.old) query.p query.at query.rank j }
+    requires next { R.top ≡ query.rank }
+    ensures output { IfOk result (λ pairs. (j : PlainJoin) → StandsAs (R.list reader.old) query.p query.at query.rank j →
+        pairs.items ≡ flat_map (λ part. pairs_within (C.range_of part) (out j (below (take query.p (R.list reader.old)) query.rank))) parts.now) }
+    ensures moves { Moves R.list R.floor (C.left (query.rank + 1)) reader.old reader.new }
     ensures counted { steps.old ≤ steps.new }
     ensures cost { IfOk result (λ pairs. steps.old + length pairs.items ≤ steps.new) }
-    ensures ready { (range : Bounds) (id : ℕ) (s : KeptRange) → parts.now ≡ one_part range id → s.rank ≡ asked.rank → IsReadySlot (R.holdings reader.old).slots id asked.at asked.p range s →
-        IfOk result (λ pairs. steps.new ≡ steps.old + 1 + length pairs.items) }
-    ensures held { (range : Bounds) (id : ℕ) (j : PlainJoin) → parts.now ≡ one_part range id → slice_get (R.holdings reader.old).slots id ≡ Some (Held asked.at (forgotten j asked.rank range)) →
-        OnOk result (KeepsJust (R.holdings reader.old) (R.holdings reader.new) asked.rank asked.at asked.p range) }
+    ensures took { (part : C.Part) → parts.now ≡ part ∷ [] → IfOk result (λ pairs. C.took reader.old reader.new query.at query.rank query.p part (length pairs.items) (steps.new - steps.old)) }
 {
     if parts.len() == 1 {
-        return read_part(asked, &parts[0], reader, steps);
+        return cache.read(query, &parts[0], reader, steps);
     }
-    read_each(asked, parts, reader, steps)
+    read_each(cache, query, parts, reader, steps)
 }
 
-/// What a join gives in a range: from the cells that hold parts of it, and for the rest from cells that are free, while
-/// there are any, which hold it from then on.
-///
-/// Where one cell can be read over the whole range at once, it takes one step and one for each pair.
-fn read_join<R: Cells, L: Ledger>(
-    asked: Asked,
+/// What a join gives in a range: from where parts of it are kept, and for the rest from where it may be kept.
+fn read_join<R: Reader, C: RangeCache<R>, L: Ledger>(
+    cache: &C,
+    query: Query,
     range: &Range,
     reader: &mut R,
     steps: &mut Steps<L>,
 ) -> Result<Vec<Pair>, OutOfMemory>
-    requires within { asked.p ≤ length (R.list reader.old) }
-    requires above { R.floor reader.old ≤ asked.p }
+    requires within { query.p ≤ length (R.list reader.old) }
+    requires above { R.floor reader.old ≤ query.p }
     requires entered { HasEntered (R.list reader.old) }
-    requires reached { IsReached (R.list reader.old) asked.p asked.at asked.rank range.now }
-    requires next { R.top ≡ asked.rank }
-    ensures output { IfOk result (λ pairs. (j : PlainJoin) → StandsAs (R.list reader.old) asked.p asked.at asked.rank j →
-        pairs.items ≡ pairs_within range.now (out j (below (take asked.p (R.list reader.old)) asked.rank))) }
-    ensures moves { Moves R.list R.floor (λ a b. Frame (asked.rank + 1) (R.holdings a) (R.holdings b)) reader.old reader.new }
+    requires reached { IsReached (R.list reader.old) query.p query.at query.rank range.now }
+    requires next { R.top ≡ query.rank }
+    ensures output { IfOk result (λ pairs. IsOutput (R.list reader.old) query.p query.at query.rank range.now pairs.items) }
+    ensures moves { Moves R.list R.floor (C.left (query.rank + 1)) reader.old reader.new }
     ensures counted { steps.old ≤ steps.new }
     ensures cost { IfOk result (λ pairs. steps.old + length pairs.items ≤ steps.new) }
-    ensures spent { IfOk result (λ _. (j : PlainJoin) → StandsAs (R.list reader.old) asked.p asked.at asked.rank j →
-        OneSpends (R.list reader.old) (R.holdings reader.old) (R.holdings reader.new) asked.p range.now asked.rank asked.at j (steps.new - steps.old)) }
+    ensures spent { IfOk result (λ _. (j : PlainJoin) → StandsAs (R.list reader.old) query.p query.at query.rank j →
+        C.cost_one reader.old reader.new query.at query.rank query.p range.now j (steps.new - steps.old)) }
 {
-    let parts = reader.cover(asked.at, asked.rank, asked.p, range)?;
-    read_parts(asked, parts.as_slice(), reader, steps)
+    let parts = cache.cover(query, range, reader)?;
+    read_parts(cache, query, parts.as_slice(), reader, steps)
 }
 
-/// Pairs that stand below a rank in a range, with what the joins of this rank give in it that the range reaches: these are
-/// named by the positions of their declarations, in order.
+/// Adds to the pairs that stand below a rank in a range what the joins of this rank give in it that the range reaches: these
+/// are named by the positions of their declarations, in order.
 ///
 /// It is linear in the pairs for each of the joins, beside what reading them takes.
-pub fn add_outputs<R: Cells, L: Ledger>(
-    alloc: Global,
+pub fn add_outputs<R: Reader, C: RangeCache<R>, L: Ledger>(
+    cache: &C,
     ats: &[u64],
     rank: u8,
     p: u64,
@@ -137,21 +133,16 @@ pub fn add_outputs<R: Cells, L: Ledger>(
     requires listed { ats.now ≡ map (λ s. s.position) (reached range.now rank (joins_of (take p (R.list reader.old)))) }
     requires ascends { Ascends pairs.items }
     ensures output { IfOk result (λ all. all.items ≡ with_parts range.now (reached range.now rank (joins_of (take p (R.list reader.old)))) (below (take p (R.list reader.old)) rank) pairs.items) }
-    ensures moves { Moves R.list R.floor (λ a b. Frame (rank + 1) (R.holdings a) (R.holdings b)) reader.old reader.new }
+    ensures moves { Moves R.list R.floor (C.left (rank + 1)) reader.old reader.new }
     ensures counted { steps.old ≤ steps.new }
     ensures cost { IfOk result (λ all. length all.items + steps.old ≤ length pairs.items + steps.new) }
-    ensures spent { IfOk result (λ _. JoinsSpend (R.list reader.old) (R.holdings reader.old) (R.holdings reader.new) p range.now rank (reached range.now rank (joins_of (take p (R.list reader.old)))) (steps.new - steps.old)) }
+    ensures spent { IfOk result (λ _. JoinsSpend (λ x y at j added. C.cost_one x y at rank p range.now j added) reader.old reader.new (reached range.now rank (joins_of (take p (R.list reader.old)))) (steps.new - steps.old)) }
 {
     let mut all = pairs;
     for at in ats {
-        let asked = Asked {
-            alloc,
-            at: *at,
-            rank,
-            p,
-        };
-        let more = read_join(asked, range, reader, steps)?;
-        all = merge(alloc, all, more)?;
+        let query = Query { at: *at, rank, p };
+        let more = read_join(cache, query, range, reader, steps)?;
+        all = merge(cache.alloc(), all, more)?;
     }
     Ok(all)
 }

@@ -15,8 +15,8 @@ use Rattle.cell_slots.specs.declared.slot.Slot.TheVariants.{Free, Lent, Held}
 use Rattle.cell_slots.specs.Slots.{Holdings, with_slot, place_of, Frame, HasFree, HoldsReady, IsRankAt, IsRightFor, MeetsNone, StandsAs}
 use Rattle.cell_slots.specs.Spending.{row_count}
 use Rattle.cell_slots.proofs.DeclaredLemmas.{declared_once, has_rank, rank_declared, stands_as}
+use Rattle.cell_slots.proofs.FrameLemmas.{get-set_same, get-set_other}
 use Rattle.cell_table.specs.Moves.{Evicts, IsEvicted}
-use Rattle.cell_table.proofs.SlotLemmas.{get-set_same, get-set_other}
 use Rattle.scan_core.specs.Cells.{HoldsAt}
 use Rattle.scan_core.specs.LettingGo.{IsLetGo, LetsGo}
 use Rattle.scan_core.specs.Rights.{AreRight}

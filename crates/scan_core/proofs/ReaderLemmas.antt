@@ -17,7 +17,7 @@ use Rattle.cell_slots.specs.declared.slot.Slot.TheVariants.{Lent, Held}
 use Rattle.cell_slots.specs.Slots.{Holdings, with_slot, Frame, HasFree, MeetsNone, HoldsReady, IsDeclared, IsRightFor}
 use Rattle.cell_slots.specs.Spending.{Spends}
 use Rattle.cell_slots.proofs.DeclaredLemmas.{declared_over_longer}
-use Rattle.cell_table.proofs.SlotLemmas.{get-set_same, get-set_other}
+use Rattle.cell_slots.proofs.FrameLemmas.{get-set_same, get-set_other}
 use Rattle.scan_core.specs.Bringing.{HasSamePlace}
 use Rattle.scan_core.specs.Cells.{HoldsAt, IsTaken, IsTakenOut, KeepsLast}
 use Rattle.scan_core.specs.Rights.{AreRight, Contents}

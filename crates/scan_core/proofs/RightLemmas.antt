@@ -25,9 +25,10 @@ use Rattle.cell_slots.specs.declared.slot.Slot.{Slot}
 use Rattle.cell_slots.specs.declared.slot.Slot.TheVariants.{Free, Lent, Held}
 use Rattle.cell_slots.specs.Slots.{Holdings, place_of, IsDeclared, IsReached, IsReadySlot, IsRightFor, IsSoundSlot}
 use Rattle.cell_slots.proofs.DeclaredLemmas.{declared_over_longer, declared_once, has_rank}
+use Rattle.cell_slots.proofs.FrameLemmas.{get-set_other}
 use Rattle.cell_table.specs.Stores.{AreOfTable}
 use Rattle.cell_table.specs.Moves.{Evicts, ReservesParts}
-use Rattle.cell_table.proofs.SlotLemmas.{get-set_other, keeper}
+use Rattle.cell_table.proofs.SlotLemmas.{keeper}
 use Rattle.scan_core.specs.Rights.{IsRightPlace, AreRight}
 
 -- ---- the table of an output

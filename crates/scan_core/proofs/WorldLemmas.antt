@@ -9,7 +9,7 @@ use Rattle.cell_slots.specs.declared.slot.Slot.{Slot}
 use Rattle.cell_slots.specs.declared.slot.Slot.TheVariants.{Free, Lent, Held}
 use Rattle.cell_slots.specs.Slots.{IsRankAt, IsRightFor}
 use Rattle.cell_slots.proofs.DeclaredLemmas.{has_rank, stands_ranked}
-use Rattle.cell_table.proofs.SlotLemmas.{get-set_other}
+use Rattle.cell_slots.proofs.FrameLemmas.{get-set_other}
 use Rattle.scan_core.specs.Cells.{HoldsAt}
 use Rattle.scan_core.specs.Worlds.{CoreWorld, NoneLent, IsRankTo}
 use Rattle.scan_core.proofs.RightLemmas.{free_there, set_here}

@@ -1,45 +1,21 @@
 // What is done to one cell's kept range.
-ghost use Rattle.std.specs.Prelude.{◌≡◌, ◌≤◌, length, take, true, false, IsSome, OnErr, OnOk};
+ghost use Rattle.std.specs.Prelude.{◌≡◌, ◌≤◌, length, take, false, IsSome, OnOk};
 ghost use Rattle.semantics.specs.Histories.{joins_of};
 ghost use Rattle.growing_history.specs.Entered.{HasEntered, HasRank};
 ghost use Rattle.join_eval.specs.Moves.{Moves};
 ghost use Rattle.kept_ranges.specs.Sound.{IsSound};
 ghost use Rattle.range_serving.specs.Serving.{IsPast};
-ghost use Rattle.range_state.specs.Held.{forgotten};
 ghost use Rattle.range_state.specs.Ready.{StandsAt, pending_meets};
 ghost use Rattle.scan_core.specs.Bringing.{HasSamePlace};
 
 use join_eval::Reader;
 use key_space::Range;
 use out_of_memory::OutOfMemory;
+use range_serving::{reach, renew};
 use range_state::RangeState;
 use std::alloc::Global;
 use std::sync::ledger::Ledger;
 use steps::Steps;
-
-/// Whether a kept range stands past a position.
-pub fn stands_past(state: &RangeState, to: u64) -> bool
-    ensures yes { result ≡ true → IsPast to state.now }
-    ensures no { result ≡ false → IsPast to state.now → ⊥ }
-{
-    match state.position() {
-        None => false,
-        Some(at) => to < at,
-    }
-}
-
-/// Makes a kept range anew with another rank of its join: nothing is kept for it yet.
-///
-/// On `OutOfMemory` it is unchanged.
-fn renew(alloc: Global, state: &mut RangeState, rank: u8) -> Result<(), OutOfMemory>
-    ensures ok { OnOk result (state.new ≡ forgotten state.old.join rank state.old.range) }
-    ensures err { OnErr result (state.new ≡ state.old) }
-{
-    let join = state.join().copy(alloc)?;
-    let range = state.range().copy()?;
-    *state = RangeState::new(alloc, join, rank, range);
-    Ok(())
-}
 
 /// Brings a kept range that does not stand past a position to it: it is filled where it stands nowhere, or where its join
 /// has another rank there, and advanced where it stands below.
@@ -67,13 +43,10 @@ pub fn bring<R: Reader, L: Ledger>(
     ensures counted { steps.old ≤ steps.new }
 {
     if state.rank() != rank {
-        renew(alloc, state, rank)?;
+        *state = renew(alloc, state, rank)?;
+        return state.fill(to, reader, steps);
     }
-    match state.position() {
-        None => state.fill(to, reader, steps),
-        Some(at) if at < to => state.advance(to, reader, steps),
-        Some(_) => Ok(()),
-    }
+    reach(state, to, reader, steps)
 }
 
 /// Finds anew what is pending in a range of a kept range. Where it stands nowhere, nothing is pending.

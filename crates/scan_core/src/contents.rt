@@ -17,6 +17,7 @@ ghost use Rattle.scan_core.specs.LettingGo.{LetsGo};
 ghost use Rattle.scan_core.specs.Reading.{SpendsBase};
 
 use base_reader::BaseReader;
+use base_reader::lowest::{lowest_between, lowest_reached};
 use cell_slots::{Cells, Part, Slot};
 use cell_table::CellTable;
 use join_eval::{Between, Changed, Reader};
@@ -282,12 +283,12 @@ impl Cells for Core {
 
     ghost spends_so = { λ a b p range rank added so. bottom_spends a b p range rank added so };
 
-    fn reached(&self, p: u64, range: &Range, rank: u8) -> Result<Vec<u64>, OutOfMemory> {
-        self.base.reached(p, range, rank)
+    fn reached(&mut self, p: u64, range: &Range, rank: u8) -> Result<Vec<u64>, OutOfMemory> {
+        lowest_reached(&mut self.base, p, range, rank)
     }
 
-    fn between(&self, q: u64, p: u64, range: &Range) -> Result<Between, OutOfMemory> {
-        self.base.between(q, p, range)
+    fn between(&mut self, q: u64, p: u64, range: &Range) -> Result<Between, OutOfMemory> {
+        lowest_between(&mut self.base, q, p, range)
     }
 
     fn join_at(&self, at: u64) -> Result<Join, OutOfMemory> {

@@ -44,9 +44,9 @@ fn read_all<L: Ledger>(
     found
 }
 
-/// The pairs of a range after the first p entries. Before the first such read after a declaration or a drop the cells of former
-/// joins and former ranks are freed. The book is told of the cells that were used, and frees those that have to go. The history
-/// stays.
+/// Reads the pairs of a range after the first p entries. After a declaration or a drop the cells of former joins and former
+/// ranks are freed before the first read that stands at or behind the last declaration or drop. The book is told of the cells
+/// that were used, and frees those that have to go. The history stays.
 pub fn read_piece<L: Ledger>(
     reader: &mut Stack,
     p: u64,

@@ -10,7 +10,6 @@ ghost use Rattle.scan_core.specs.Rights.{AreRight};
 ghost use Rattle.scan_core.specs.Worlds.{CellSteps, IsRankTo, StepsAs, StepSpends, without_scan};
 
 use crate::ScanTable;
-use crate::cell_events::stands_past;
 use crate::contents::Core;
 use crate::reading::{advance_cell, mend_cell, read_piece};
 use crate::stack::Stack;
@@ -19,6 +18,7 @@ use core_events::{Done, Event, ScanBound};
 use join_types::{Entry, Write};
 use key_space::Range;
 use out_of_memory::OutOfMemory;
+use range_serving::is_past;
 use std::alloc::Global;
 use std::marker::Model;
 use std::sync::ledger::Ledger;
@@ -155,7 +155,7 @@ impl World {
         let Some(Slot::Held(at, state)) = self.reader.slot(cell) else {
             return Ok(None);
         };
-        if stands_past(state, to) {
+        if is_past(state, to) {
             return Ok(None);
         }
         if to > self.reader.length() {

@@ -1,17 +1,13 @@
 -- A cell as contracts see it, and what is true of it whenever its lock is free.
-use Rattle.std.specs.Prelude.{◌≡◌, ℕ, Option, IfSome, Some, take}
+use Rattle.std.specs.Prelude.{◌≡◌, ℕ, Option, IfSome, Some}
 use Rattle.atomic_table.specs.Seated.{TableId}
-use Rattle.semantics.specs.Texts.{Table, Range, pairs_within}
-use Rattle.semantics.specs.Joins.{Join}
-use Rattle.semantics.specs.Histories.{History}
-use Rattle.semantics.specs.Outputs.{out}
-use Rattle.semantics.specs.States.{below}
+use Rattle.semantics.specs.Texts.{Range}
 use Rattle.layering.specs.Parts.{IsWithin}
 use Rattle.write_history.specs.Passes.{PassView}
 use Rattle.kept_ranges.specs.Sound.{KeptRange}
 use Rattle.range_state.specs.Ready.{IsReady}
 use Rattle.range_serving.specs.Serving.{IsPast}
-use Rattle.cell_slots.specs.Slots.{IsRightFor, StandsAs}
+use Rattle.cell_slots.specs.Slots.{IsRightFor}
 
 -- the position of the join's declaration, the rank and the range that the cell is for, what is kept of it, and the cell's pass
 pub record CellView : Type 0 where
@@ -37,10 +33,6 @@ pub record HasSamePlace (old new : CellView) : Type 0 where
   pub at : new.at ≡ old.at
   pub rank : new.rank ≡ old.rank
   pub range : new.range ≡ old.range
-
--- the output of the join that was declared at a position in a range, after the first p entries
-abbrev pub IsOutput : History → ℕ → ℕ → ℕ → Range → Table → Type 0
-IsOutput h p at rank range pairs = (j : Join) → StandsAs h p at rank j → pairs ≡ pairs_within range (out j (below (take p h) rank))
 
 -- a cell is for the join that was declared at a position while it has this rank, and for a range that has the whole part
 pub record IsCellFor (cell : CellView) (at rank : ℕ) (part : Range) : Type 0 where

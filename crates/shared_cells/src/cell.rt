@@ -2,20 +2,16 @@
 ghost use Rattle.std.specs.Prelude.{◌≡◌, ◌+◌, ◌≤◌, length, take, false, true, IfOk, IfSome, MatchOption, OnOk, Some, None};
 ghost use Rattle.std.specs.Option.{IsSomeAnd};
 ghost use Rattle.semantics.specs.Joins.{Join as PlainJoin};
-ghost use Rattle.semantics.specs.Histories.{joins_of};
-ghost use Rattle.semantics.specs.Outputs.{out};
-ghost use Rattle.semantics.specs.States.{below};
-ghost use Rattle.growing_history.specs.Entered.{HasEntered, HasRank};
+ghost use Rattle.growing_history.specs.Entered.{HasEntered};
 ghost use Rattle.layering.specs.Parts.{IsWithin};
 ghost use Rattle.join_eval.specs.Moves.{Moves};
-ghost use Rattle.kept_ranges.specs.Sound.{IsSound, KeptRange};
-ghost use Rattle.range_state.specs.Ready.{HasSameSubject, IsReady};
+ghost use Rattle.kept_ranges.specs.Sound.{KeptRange};
 ghost use Rattle.range_state.specs.Since.{AnswersSince};
-ghost use Rattle.range_serving.specs.Serving.{IsBroughtTo, IsPast, StandsFrom, output_within};
-ghost use Rattle.cell_slots.specs.Slots.{IsDeclared, IsRankAt, IsRightFor, StandsAs};
+ghost use Rattle.range_serving.specs.Serving.{IsBroughtTo, IsPast};
+ghost use Rattle.cell_slots.specs.Slots.{IsDeclared, IsOutput, IsRankAt, IsRightFor, StandsAs};
 ghost use Rattle.rank_layers.specs.Telling.{TellsJoin};
 ghost use Rattle.shared_cells.specs.Bringing.{BringsCell};
-ghost use Rattle.shared_cells.specs.Cells.{CanBeLent, CanServe, HasSamePlace, IsLentFor, IsOutput, IsReadyCell, IsRightIn};
+ghost use Rattle.shared_cells.specs.Cells.{CanBeLent, CanServe, HasSamePlace, IsLentFor, IsReadyCell, IsRightIn};
 
 use crate::ranked_join::RankedJoin;
 use base_shards::Naming;
@@ -24,37 +20,15 @@ use join_types::Pair;
 use key_space::Range;
 use out_of_memory::OutOfMemory;
 use pq_io::Gate;
-use range_serving::{catch_up, is_past, reach, tell};
+use range_serving::{catch_up, is_past, serve, tell};
 use range_state::RangeState;
+use rank_layers::Query;
 use shared_reader::{Followed, Stacked};
 use std::alloc::Global;
 use std::marker::{Model, PhantomData};
 use std::sync::ledger::Ledger;
 use steps::Steps;
 use write_history::Pass;
-
-/// The join whose output is asked for, by the position of its declaration and with its rank, and the number of entries after
-/// which it is read.
-#[derive(Clone, Copy)]
-pub struct Asked {
-    pub alloc: Global,
-    pub at: u64,
-    pub rank: u8,
-    pub p: u64,
-}
-
-impl Asked {
-    /// The join with its rank.
-    pub fn join(self) -> RankedJoin
-        ensures at { result.at ≡ self.at }
-        ensures rank { result.rank ≡ self.rank }
-    {
-        RankedJoin {
-            at: self.at,
-            rank: self.rank,
-        }
-    }
-}
 
 /// A cell for a range of the output of a join while it has one rank: what is kept of it, and a pass. What is kept is kept with
 /// that rank, and is right for what the pass has seen: that is true whenever the lock is free. The cell is for this rank of
@@ -87,76 +61,6 @@ fn is_within(part: &Range, range: &Range) -> bool
     ensures no { IsWithin part.now range.now → result ≡ true }
 {
     range.lo() <= part.lo() && part.hi() <= range.hi()
-}
-
-/// Brings it to where p entries stand, and mends it where something pending meets the part. The gate is passed before it is
-/// filled, and before it is mended.
-fn make_ready<R: Reader, G: Gate, L: Ledger>(
-    state: &mut RangeState,
-    p: u64,
-    part: &Range,
-    gate: &G,
-    reader: &mut R,
-    steps: &mut Steps<L>,
-) -> Result<(), OutOfMemory>
-    requires before { IsPast p state.old → ⊥ }
-    requires within { p ≤ length (R.list reader.old) }
-    requires above { R.floor reader.old ≤ p }
-    requires from { StandsFrom (R.floor reader.old) state.old }
-    requires entered { HasEntered (R.list reader.old) }
-    requires stands { HasRank (joins_of (take p (R.list reader.old))) state.old.join state.old.rank }
-    requires ranked { state.old.rank ≤ R.top }
-    requires sound { IsSound state.old (R.list reader.old) }
-    ensures same { HasSameSubject state.old state.new }
-    ensures ready { OnOk result (IsReady p part.now state.new) }
-    ensures still { IsReady p part.now state.old → state.new ≡ state.old }
-    ensures free { IsReady p part.now state.old → steps.new ≡ steps.old }
-    ensures sound { IsSound state.new (R.list reader.new) }
-    ensures moves { Moves R.list R.floor R.went reader.old reader.new }
-    ensures counted { steps.old ≤ steps.new }
-{
-    if state.position().is_none() {
-        gate.pass(part.table());
-    }
-    reach(state, p, reader, steps)?;
-    if state.pending_meets(part) {
-        gate.pass(part.table());
-        return state.mend(part, reader, steps);
-    }
-    Ok(())
-}
-
-/// A part of a kept range's output after p entries, past which it does not stand. Before it is filled, and before it is mended,
-/// the gate is passed.
-///
-/// On `OutOfMemory` it stands where it stood, or at p, or is forgotten, and is right for the reader's list.
-fn read_kept<R: Reader, G: Gate, L: Ledger>(
-    state: &mut RangeState,
-    p: u64,
-    part: &Range,
-    gate: &G,
-    reader: &mut R,
-    steps: &mut Steps<L>,
-) -> Result<Vec<Pair>, OutOfMemory>
-    requires before { IsPast p state.old → ⊥ }
-    requires within { p ≤ length (R.list reader.old) }
-    requires above { R.floor reader.old ≤ p }
-    requires from { StandsFrom (R.floor reader.old) state.old }
-    requires entered { HasEntered (R.list reader.old) }
-    requires stands { HasRank (joins_of (take p (R.list reader.old))) state.old.join state.old.rank }
-    requires ranked { state.old.rank ≤ R.top }
-    requires sound { IsSound state.old (R.list reader.old) }
-    ensures same { HasSameSubject state.old state.new }
-    ensures ready { OnOk result (IsReady p part.now state.new) }
-    ensures output { IfOk result (λ pairs. pairs.items ≡ output_within state.old (R.list reader.old) p part.now) }
-    ensures sound { IsSound state.new (R.list reader.new) }
-    ensures moves { Moves R.list R.floor R.went reader.old reader.new }
-    ensures counted { steps.old ≤ steps.new }
-    ensures cost { IfOk result (λ pairs. steps.old + 1 + length pairs.items ≤ steps.new) }
-    ensures at_once { IsReady p part.now state.old → IfOk result (λ pairs. steps.new ≡ steps.old + 1 + length pairs.items) }
-{
-    make_ready(state, p, part, gate, reader, steps)?;
-    state.read(part, steps)
 }
 
 impl<N: Naming> Cell<N> {
@@ -239,14 +143,14 @@ impl<N: Naming> Cell<N> {
 
     /// Whether it is for the join that is asked for and for its rank, for a range that has the whole part, and keeps nothing
     /// that stands past the position.
-    fn can_serve(&self, asked: Asked, part: &Range) -> bool
-        ensures yes { result ≡ true → CanServe self.now asked.at asked.rank asked.p part.now }
-        ensures no { CanServe self.now asked.at asked.rank asked.p part.now → result ≡ true }
+    fn can_serve(&self, query: Query, part: &Range) -> bool
+        ensures yes { result ≡ true → CanServe self.now query.at query.rank query.p part.now }
+        ensures no { CanServe self.now query.at query.rank query.p part.now → result ≡ true }
     {
-        self.at == asked.at
-            && self.rank == asked.rank
+        self.at == query.at
+            && self.rank == query.rank
             && is_within(part, &self.range)
-            && !self.is_past(asked.p)
+            && !self.is_past(query.p)
     }
 
     /// The pass and the reader see what either has seen.
@@ -308,30 +212,31 @@ impl<N: Naming> Cell<N> {
     /// On `OutOfMemory` nothing is kept.
     fn lend<R: Stacked<N>>(
         &mut self,
-        asked: Asked,
+        alloc: Global,
+        query: Query,
         part: &Range,
         reader: &mut R,
     ) -> Result<Option<RangeState>, OutOfMemory>
-        requires { (j : PlainJoin) × IsDeclared (R.list reader.old) asked.at j }
-        ensures lent { IfOk result (λ found. IfSome found (IsLentFor self.new asked.at asked.rank asked.p part.now)) }
-        ensures kept { (s : KeptRange) → CanBeLent self.old asked.at asked.rank asked.p part.now s → IfOk result (λ found. found ≡ Some s) }
-        ensures served { CanServe self.old asked.at asked.rank asked.p part.now → IfOk result (λ found. found ≡ None → ⊥) }
-        ensures none { (CanServe self.old asked.at asked.rank asked.p part.now → ⊥) → IfOk result (λ found. found ≡ None) }
-        ensures left { (CanServe self.old asked.at asked.rank asked.p part.now → ⊥) → self.new.held ≡ self.old.held }
-        ensures ready { IsReadyCell self.old asked.at asked.rank asked.p part.now → IfOk result (λ found. found ≡ self.old.held) }
+        requires { (j : PlainJoin) × IsDeclared (R.list reader.old) query.at j }
+        ensures lent { IfOk result (λ found. IfSome found (IsLentFor self.new query.at query.rank query.p part.now)) }
+        ensures kept { (s : KeptRange) → CanBeLent self.old query.at query.rank query.p part.now s → IfOk result (λ found. found ≡ Some s) }
+        ensures served { CanServe self.old query.at query.rank query.p part.now → IfOk result (λ found. found ≡ None → ⊥) }
+        ensures none { (CanServe self.old query.at query.rank query.p part.now → ⊥) → IfOk result (λ found. found ≡ None) }
+        ensures left { (CanServe self.old query.at query.rank query.p part.now → ⊥) → self.new.held ≡ self.old.held }
+        ensures ready { IsReadyCell self.old query.at query.rank query.p part.now → IfOk result (λ found. found ≡ self.old.held) }
         ensures same_place { HasSamePlace self.old self.new }
         ensures met { self.new.pass.view ≡ R.list reader.new }
         ensures entered { HasEntered (R.list reader.new) }
         ensures moves { Moves R.list R.floor R.went reader.old reader.new }
     {
         self.meet(reader);
-        if !self.can_serve(asked, part) {
+        if !self.can_serve(query, part) {
             return Ok(None);
         }
         if let Some(state) = self.take_held() {
             return Ok(Some(state));
         }
-        let state = self.begin(asked.alloc, reader)?;
+        let state = self.begin(alloc, reader)?;
         Ok(Some(state))
     }
 
@@ -361,33 +266,34 @@ impl<N: Naming> Cell<N> {
     /// On `OutOfMemory` what is kept stands where it stood, or at p, or nothing is kept.
     pub fn serve<R: Stacked<N>, G: Gate, L: Ledger>(
         &mut self,
-        asked: Asked,
+        alloc: Global,
+        query: Query,
         part: &Range,
         gate: &G,
         reader: &mut R,
         steps: &mut Steps<L>,
     ) -> Result<Option<Vec<Pair>>, OutOfMemory>
-        requires within { asked.p ≤ length (R.list reader.old) }
-        requires stands { (j : PlainJoin) × StandsAs (R.list reader.old) asked.p asked.at asked.rank j }
-        requires ranked { asked.rank ≤ R.top }
-        ensures output { IfOk result (λ found. IfSome found (λ pairs. IsOutput (R.list reader.old) asked.p asked.at asked.rank part.now pairs.items)) }
-        ensures served { CanServe self.old asked.at asked.rank asked.p part.now → IfOk result (λ found. found ≡ None → ⊥) }
-        ensures none { (CanServe self.old asked.at asked.rank asked.p part.now → ⊥) → IfOk result (λ found. found ≡ None) }
-        ensures left { (CanServe self.old asked.at asked.rank asked.p part.now → ⊥) → self.new.held ≡ self.old.held }
-        ensures idle { (CanServe self.old asked.at asked.rank asked.p part.now → ⊥) → steps.new ≡ steps.old }
-        ensures ready { IfOk result (λ found. IfSome found (λ _. IsReadyCell self.new asked.at asked.rank asked.p part.now)) }
+        requires within { query.p ≤ length (R.list reader.old) }
+        requires stands { (j : PlainJoin) × StandsAs (R.list reader.old) query.p query.at query.rank j }
+        requires ranked { query.rank ≤ R.top }
+        ensures output { IfOk result (λ found. IfSome found (λ pairs. IsOutput (R.list reader.old) query.p query.at query.rank part.now pairs.items)) }
+        ensures served { CanServe self.old query.at query.rank query.p part.now → IfOk result (λ found. found ≡ None → ⊥) }
+        ensures none { (CanServe self.old query.at query.rank query.p part.now → ⊥) → IfOk result (λ found. found ≡ None) }
+        ensures left { (CanServe self.old query.at query.rank query.p part.now → ⊥) → self.new.held ≡ self.old.held }
+        ensures idle { (CanServe self.old query.at query.rank query.p part.now → ⊥) → steps.new ≡ steps.old }
+        ensures ready { IfOk result (λ found. IfSome found (λ _. IsReadyCell self.new query.at query.rank query.p part.now)) }
         ensures same_place { HasSamePlace self.old self.new }
         ensures met { self.new.pass.view ≡ R.list reader.new }
         ensures moves { Moves R.list R.floor R.went reader.old reader.new }
         ensures counted { steps.old ≤ steps.new }
         ensures cost { IfOk result (λ found. IfSome found (λ pairs. steps.old + 1 + length pairs.items ≤ steps.new)) }
-        ensures at_once { IsReadyCell self.old asked.at asked.rank asked.p part.now → IfOk result (λ found. IsSomeAnd found (λ pairs. steps.new ≡ steps.old + 1 + length pairs.items)) }
+        ensures at_once { IsReadyCell self.old query.at query.rank query.p part.now → IfOk result (λ found. IsSomeAnd found (λ pairs. steps.new ≡ steps.old + 1 + length pairs.items)) }
     {
-        let Some(state) = self.lend(asked, part, reader)? else {
+        let Some(state) = self.lend(alloc, query, part, reader)? else {
             return Ok(None);
         };
         let mut state = state;
-        let read = read_kept(&mut state, asked.p, part, gate, reader, steps);
+        let read = serve(&mut state, query.p, part, gate, reader, steps);
         self.give_back(state, reader);
         Ok(Some(read?))
     }
@@ -403,33 +309,34 @@ impl<N: Naming> Cell<N> {
     /// On `OutOfMemory` what is kept stands where it stood, or at the later position, or nothing is kept.
     pub fn tell<R: Stacked<N>, L: Ledger>(
         &mut self,
-        asked: Asked,
+        alloc: Global,
+        query: Query,
         since: u64,
         part: &Range,
         reader: &mut R,
         steps: &mut Steps<L>,
     ) -> Result<Changed, OutOfMemory>
-        requires order { since ≤ asked.p }
-        requires within { asked.p ≤ length (R.list reader.old) }
-        requires stands { (j : PlainJoin) × StandsAs (R.list reader.old) asked.p asked.at asked.rank j }
-        requires ranked { asked.rank ≤ R.top }
-        ensures told { IfOk result (λ told. (j : PlainJoin) → StandsAs (R.list reader.old) asked.p asked.at asked.rank j →
-            TellsJoin (R.list reader.old) since asked.p asked.rank j part.now told) }
-        ensures brought { (s : KeptRange) → CanBeLent self.old asked.at asked.rank asked.p part.now s → OnOk result (IsSomeAnd self.new.held (IsBroughtTo asked.p s)) }
-        ensures since { (s : KeptRange) → CanBeLent self.old asked.at asked.rank asked.p part.now s →
+        requires order { since ≤ query.p }
+        requires within { query.p ≤ length (R.list reader.old) }
+        requires stands { (j : PlainJoin) × StandsAs (R.list reader.old) query.p query.at query.rank j }
+        requires ranked { query.rank ≤ R.top }
+        ensures told { IfOk result (λ told. (j : PlainJoin) → StandsAs (R.list reader.old) query.p query.at query.rank j →
+            TellsJoin (R.list reader.old) since query.p query.rank j part.now told) }
+        ensures brought { (s : KeptRange) → CanBeLent self.old query.at query.rank query.p part.now s → OnOk result (IsSomeAnd self.new.held (IsBroughtTo query.p s)) }
+        ensures since { (s : KeptRange) → CanBeLent self.old query.at query.rank query.p part.now s →
             IfOk result (λ told. IsSomeAnd self.new.held (λ after. AnswersSince since part.now after told)) }
-        ensures left { (CanServe self.old asked.at asked.rank asked.p part.now → ⊥) → self.new.held ≡ self.old.held }
-        ensures idle { (CanServe self.old asked.at asked.rank asked.p part.now → ⊥) → steps.new ≡ steps.old }
+        ensures left { (CanServe self.old query.at query.rank query.p part.now → ⊥) → self.new.held ≡ self.old.held }
+        ensures idle { (CanServe self.old query.at query.rank query.p part.now → ⊥) → steps.new ≡ steps.old }
         ensures same_place { HasSamePlace self.old self.new }
         ensures met { self.new.pass.view ≡ R.list reader.new }
         ensures moves { Moves R.list R.floor R.went reader.old reader.new }
         ensures counted { steps.old ≤ steps.new }
     {
-        let Some(state) = self.lend(asked, part, reader)? else {
+        let Some(state) = self.lend(alloc, query, part, reader)? else {
             return Ok(Changed::All);
         };
         let mut state = state;
-        let told = tell(&mut state, since, asked.p, part, reader, steps);
+        let told = tell(&mut state, since, query.p, part, reader, steps);
         self.give_back(state, reader);
         told
     }

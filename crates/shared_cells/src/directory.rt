@@ -11,6 +11,7 @@ use crate::followed::Followed;
 use crate::idle::IdlePass;
 use crate::ranked_join::RankedJoin;
 use base_shards::Naming;
+use cell_slots::are_too_many;
 use join_set::JoinSet;
 use key_space::Range;
 use out_of_memory::OutOfMemory;
@@ -72,9 +73,6 @@ pub struct Directory<N: Naming> {
     /// Of each number, after how many uses its cell was last used, with that use.
     last_uses: Vec<u64>,
 }
-
-/// A range in more parts than this is read as one: to evaluate it once takes less than to evaluate so many gaps.
-const MOST_PARTS: usize = 64;
 
 impl Listing {
     /// No ranges, of the table of this one.
@@ -219,7 +217,7 @@ impl<N: Naming> Directory<N> {
         ensures { IfOk result (λ parts. JoinTo range.now (map (λ part. part.range) parts.items)) }
     {
         let pieces = self.pieces(join, range)?;
-        if range.lo() < range.hi() && pieces.len() > MOST_PARTS {
+        if are_too_many(pieces.len(), range) {
             return whole(self.alloc, range);
         }
         let mut parts = Vec::with_capacity(self.alloc, pieces.len())?;

@@ -14,7 +14,7 @@ pub struct Followed {
 }
 
 impl Followed {
-    /// Makes one of no joins, before any declaration.
+    /// Makes it of no joins, as before any declaration.
     pub fn new(alloc: Global) -> Followed {
         Followed {
             changed: 0,
@@ -22,7 +22,7 @@ impl Followed {
         }
     }
 
-    /// Takes over the joins of a set with their ranks, at a search for each.
+    /// Takes the joins of a set with their ranks, at a search for each.
     pub fn of(alloc: Global, joins: &JoinSet) -> Result<Followed, OutOfMemory> {
         let mut ranked = BTreeSet::new(alloc);
         for i in 0..joins.len() {
@@ -37,7 +37,7 @@ impl Followed {
         })
     }
 
-    /// Returns the position of the last declaration or drop.
+    /// Tells the position of the last declaration or drop that was followed, 0 where there was none.
     pub fn changed_at(&self) -> u64 {
         self.changed
     }

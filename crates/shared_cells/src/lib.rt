@@ -14,7 +14,7 @@ mod idle;
 pub mod ranked_join;
 pub mod store;
 
-pub use cell::{Asked, Cell};
+pub use cell::Cell;
 pub use directory::{Part, SharedCell};
 pub use ranked_join::RankedJoin;
 pub use store::SharedCells;

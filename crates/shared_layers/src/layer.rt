@@ -2,13 +2,13 @@
 ghost use Rattle.std.specs.Prelude.{◌+◌, min};
 ghost use Rattle.cell_slots.specs.FrameLaws.{min_small};
 
-use crate::above::{changed_above, pairs_above};
 use base_shards::Naming;
 use join_eval::{Between, Changed, Reader};
 use join_types::{Join, Pair};
 use key_space::Range;
 use out_of_memory::OutOfMemory;
 use pq_io::Gate;
+use rank_layers::above::{changed_above, pairs_above};
 use shared_cells::SharedCells;
 use shared_reader::{Followed, Stacked, Use};
 use std::alloc::Global;
@@ -17,7 +17,7 @@ use std::sync::ledger::Ledger;
 use steps::Steps;
 use write_history::Pass;
 
-/// What all layers of a reader have in common.
+/// The cells that threads share, in which all layers of a reader keep ranges, and what they need for that.
 #[derive(Drop)]
 pub struct Room<'a, N: Naming, W, G> {
     /// By which kept ranges grow.

@@ -1,19 +1,21 @@
-// One part of a range, from the cell that has it or from a kept range of its own.
+// One part of a range, from the cell that has it, which threads share, or from a kept range of its own.
 ghost use Rattle.std.specs.Prelude.{◌≡◌, ◌+◌, ◌≤◌, length, IfOk, IfSome};
 ghost use Rattle.semantics.specs.Joins.{Join as PlainJoin};
 ghost use Rattle.growing_history.specs.Entered.{HasEntered};
 ghost use Rattle.join_eval.specs.Moves.{Moves};
-ghost use Rattle.cell_slots.specs.Slots.{StandsAs};
-ghost use Rattle.shared_cells.specs.Cells.{IsOutput};
+ghost use Rattle.cell_slots.specs.Slots.{IsOutput, StandsAs};
+ghost use Rattle.rank_layers.specs.Telling.{TellsJoin};
 
 use crate::layer::Room;
 use base_shards::Naming;
+use join_eval::Changed;
 use join_types::Pair;
 use key_space::Range;
 use out_of_memory::OutOfMemory;
 use pq_io::Gate;
 use range_serving::serve_alone;
-use shared_cells::{Asked, Part};
+use rank_layers::Query;
+use shared_cells::Part;
 use shared_reader::{Stacked, Use};
 use std::sync::Wait;
 use std::sync::ledger::Ledger;
@@ -22,24 +24,25 @@ use steps::Steps;
 /// What the join gives in the part, from a kept range of its own that is let go. The gate is passed before it is filled.
 fn read_alone<N: Naming, W, G: Gate, R: Stacked<N>, L: Ledger>(
     room: &Room<'_, N, W, G>,
-    asked: Asked,
+    query: Query,
     part: &Range,
     reader: &mut R,
     steps: &mut Steps<L>,
 ) -> Result<Vec<Pair>, OutOfMemory>
-    requires within { asked.p ≤ length (R.list reader.old) }
+    requires within { query.p ≤ length (R.list reader.old) }
     requires entered { HasEntered (R.list reader.old) }
-    requires stands { (j : PlainJoin) × StandsAs (R.list reader.old) asked.p asked.at asked.rank j }
-    requires next { R.top ≡ asked.rank }
-    ensures output { IfOk result (λ pairs. IsOutput (R.list reader.old) asked.p asked.at asked.rank part.now pairs.items) }
+    requires stands { (j : PlainJoin) × StandsAs (R.list reader.old) query.p query.at query.rank j }
+    requires next { R.top ≡ query.rank }
+    ensures output { IfOk result (λ pairs. IsOutput (R.list reader.old) query.p query.at query.rank part.now pairs.items) }
     ensures moves { Moves R.list R.floor R.went reader.old reader.new }
     ensures counted { steps.old ≤ steps.new }
     ensures cost { IfOk result (λ pairs. steps.old + 1 + length pairs.items ≤ steps.new) }
 {
-    let join = reader.join_at(asked.at)?;
+    let join = reader.join_at(query.at)?;
     let range = part.copy()?;
-    room.gate.pass(part.table());
-    serve_alone(asked.alloc, join, asked.rank, asked.p, range, reader, steps)
+    serve_alone(
+        room.alloc, join, query.rank, query.p, range, room.gate, reader, steps,
+    )
 }
 
 /// What the join gives in the part, from the cell that has it. None where no cell has it any more, where the cell is for another
@@ -51,15 +54,15 @@ fn read_alone<N: Naming, W, G: Gate, R: Stacked<N>, L: Ledger>(
 /// reader's own top rank: so only cells of lower ranks are asked for under its lock.
 fn read_cell<N: Naming, W: Wait, G: Gate, R: Stacked<N>, L: Ledger>(
     room: &Room<'_, N, W, G>,
-    asked: Asked,
+    query: Query,
     part: &Part<N>,
     reader: &mut R,
     steps: &mut Steps<L>,
 ) -> Result<Option<Vec<Pair>>, OutOfMemory>
-    requires within { asked.p ≤ length (R.list reader.old) }
-    requires stands { (j : PlainJoin) × StandsAs (R.list reader.old) asked.p asked.at asked.rank j }
-    requires next { R.top ≡ asked.rank }
-    ensures output { IfOk result (λ found. IfSome found (λ pairs. IsOutput (R.list reader.old) asked.p asked.at asked.rank part.now.range pairs.items)) }
+    requires within { query.p ≤ length (R.list reader.old) }
+    requires stands { (j : PlainJoin) × StandsAs (R.list reader.old) query.p query.at query.rank j }
+    requires next { R.top ≡ query.rank }
+    ensures output { IfOk result (λ found. IfSome found (λ pairs. IsOutput (R.list reader.old) query.p query.at query.rank part.now.range pairs.items)) }
     ensures moves { Moves R.list R.floor R.went reader.old reader.new }
     ensures counted { steps.old ≤ steps.new }
     ensures cost { IfOk result (λ found. IfSome found (λ pairs. steps.old + 1 + length pairs.items ≤ steps.new)) }
@@ -72,7 +75,7 @@ fn read_cell<N: Naming, W: Wait, G: Gate, R: Stacked<N>, L: Ledger>(
         return Ok(None);
     };
     let since = reader.start_noting();
-    let found = own.serve(asked, &part.range, room.gate, reader, steps);
+    let found = own.serve(room.alloc, query, &part.range, room.gate, reader, steps);
     own.follow(*id, since, reader);
     reader.note_use(Use {
         id: *id,
@@ -81,26 +84,64 @@ fn read_cell<N: Naming, W: Wait, G: Gate, R: Stacked<N>, L: Ledger>(
     found
 }
 
-/// What the join gives in the part: from the cell that has it, while there is the cell and what it keeps does not stand past the
+/// Reads what the join gives in the part: from the cell that has it, while there is the cell and what it keeps does not stand past the
 /// position, and otherwise from a kept range of its own.
 pub fn read_part<N: Naming, W: Wait, G: Gate, R: Stacked<N>, L: Ledger>(
     room: &Room<'_, N, W, G>,
-    asked: Asked,
+    query: Query,
     part: &Part<N>,
     reader: &mut R,
     steps: &mut Steps<L>,
 ) -> Result<Vec<Pair>, OutOfMemory>
-    requires within { asked.p ≤ length (R.list reader.old) }
+    requires within { query.p ≤ length (R.list reader.old) }
     requires entered { HasEntered (R.list reader.old) }
-    requires stands { (j : PlainJoin) × StandsAs (R.list reader.old) asked.p asked.at asked.rank j }
-    requires next { R.top ≡ asked.rank }
-    ensures output { IfOk result (λ pairs. IsOutput (R.list reader.old) asked.p asked.at asked.rank part.now.range pairs.items) }
+    requires stands { (j : PlainJoin) × StandsAs (R.list reader.old) query.p query.at query.rank j }
+    requires next { R.top ≡ query.rank }
+    ensures output { IfOk result (λ pairs. IsOutput (R.list reader.old) query.p query.at query.rank part.now.range pairs.items) }
     ensures moves { Moves R.list R.floor R.went reader.old reader.new }
     ensures counted { steps.old ≤ steps.new }
     ensures cost { IfOk result (λ pairs. steps.old + 1 + length pairs.items ≤ steps.new) }
 {
-    if let Some(pairs) = read_cell(room, asked, part, reader, steps)? {
+    if let Some(pairs) = read_cell(room, query, part, reader, steps)? {
         return Ok(pairs);
     }
-    read_alone(room, asked, &part.range, reader, steps)
+    read_alone(room, query, &part.range, reader, steps)
+}
+
+/// Says what changed in the join's output in the part since a position, as the cell that has the part says. The cell follows the
+/// ranges of base pairs that were read for it. While another thread has it, this one sleeps.
+///
+/// While this one has it, the reader below reads for it only where the cell is for the rank that is asked for, which is the
+/// reader's own top rank: so only cells of lower ranks are asked for under its lock.
+///
+/// `All` comes where no cell has the part any more, and where what the cell keeps does not know it once it stands at the later
+/// position.
+pub fn tell_part<N: Naming, W: Wait, G: Gate, R: Stacked<N>, L: Ledger>(
+    room: &Room<'_, N, W, G>,
+    query: Query,
+    since: u64,
+    part: &Part<N>,
+    reader: &mut R,
+    steps: &mut Steps<L>,
+) -> Result<Changed, OutOfMemory>
+    requires order { since ≤ query.p }
+    requires within { query.p ≤ length (R.list reader.old) }
+    requires stands { (j : PlainJoin) × StandsAs (R.list reader.old) query.p query.at query.rank j }
+    requires next { R.top ≡ query.rank }
+    ensures told { IfOk result (λ told. (j : PlainJoin) → StandsAs (R.list reader.old) query.p query.at query.rank j →
+        TellsJoin (R.list reader.old) since query.p query.rank j part.now.range told) }
+    ensures moves { Moves R.list R.floor R.went reader.old reader.new }
+    ensures counted { steps.old ≤ steps.new }
+{
+    let Some((id, cell)) = &part.cell else {
+        return Ok(Changed::All);
+    };
+    let mut guard = cell.lock(room.rt);
+    let Some(own) = &mut *guard else {
+        return Ok(Changed::All);
+    };
+    let noted = reader.start_noting();
+    let told = own.tell(room.alloc, query, since, &part.range, reader, steps);
+    own.follow(*id, noted, reader);
+    told
 }

@@ -1,2 +1,2 @@
-pub mod VisibleLemmas
+pub mod GivenLemmas
 pub mod FollowedLemmas

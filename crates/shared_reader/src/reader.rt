@@ -1,11 +1,7 @@
 // The lowest reader of a history that threads share.
-ghost use Rattle.std.specs.Prelude.{◌≡◌, ◌≤◌, length, not, take, true, IfOk, refl};
+ghost use Rattle.std.specs.Prelude.{◌≡◌, IfOk, refl};
 ghost use Rattle.std.proofs.Common.{rules};
-ghost use Rattle.semantics.specs.Texts.{is_range, pairs_where};
 ghost use Rattle.semantics.specs.Joins.{Join as PlainJoin};
-ghost use Rattle.semantics.specs.Histories.{is_computed, joins_of};
-ghost use Rattle.join_set.specs.Sets.{AreJoins};
-ghost use Rattle.join_eval.specs.Answers.{TellsBetween};
 ghost use Rattle.cell_slots.specs.Slots.{IsDeclared};
 ghost use Rattle.base_shards.specs.Reading.{ReadsOn};
 ghost use Rattle.base_shards.proofs.ReadingLemmas.{reads_on-refl, reads_on-trans};
@@ -14,13 +10,14 @@ ghost use Rattle.shared_reader.specs.Readable.{IsReadable};
 use crate::followed::Followed;
 use crate::noted::Noted;
 use crate::stacked::{Stacked, Use};
-use base_reader::hiding::hide_computed;
-use base_reader::reaching::{between, join_of, reached_in};
+use base_reader::BaseSource;
+use base_reader::lowest::{lowest_between, lowest_changed, lowest_pairs, lowest_reached};
+use base_reader::reaching::join_of;
 use base_shards::{BaseShards, Naming};
 use join_eval::{Between, Changed, Reader};
 use join_set::JoinSet;
 use join_types::{Join, Kind, Pair, Write};
-use key_space::Range;
+use key_space::{Key, Range};
 use out_of_memory::OutOfMemory;
 use std::alloc::Global;
 use std::marker::Model;
@@ -94,16 +91,6 @@ impl<'a, N: Naming, W> SharedReader<'a, N, W> {
 }
 
 impl<'a, N: Naming, W: Wait> SharedReader<'a, N, W> {
-    /// The joins after the first p entries. It takes the history's turn, and is linear in the joins that were declared; each that
-    /// stands then is compared with each.
-    fn joins_at(&mut self, p: u64) -> Result<JoinSet, OutOfMemory>
-        requires { p ≤ length self.old.view }
-        ensures joins { IfOk result (λ joins. AreJoins 0 joins (take p self.old.view)) }
-        ensures same { self.new ≡ self.old }
-    {
-        self.history.joins_at(self.rt, &mut self.pass, p)
-    }
-
     /// A copy of the join that was declared at a position, out of the history's entries. It takes the history's turn, and is
     /// linear in the join.
     fn declared(&mut self, at: u64) -> Result<Join, OutOfMemory>
@@ -136,40 +123,57 @@ impl<'a, N: Naming, W: Wait> SharedReader<'a, N, W> {
         self.shards
             .follow(self.rt, &mut self.pass, id, fresh.as_slice())
     }
-
-    /// Says what is so of the joins between the first q and the first p entries, for the range.
-    fn say_between(&mut self, q: u64, p: u64, range: &Range) -> Result<Between, OutOfMemory>
-        requires order { q ≤ p }
-        requires within { p ≤ length self.old.view }
-        ensures said { IfOk result (TellsBetween self.old.view q p range.now) }
-        ensures same { self.new ≡ self.old }
-    {
-        if p == self.p {
-            return Ok(between(self.joins, q, range));
-        }
-        let joins = self.joins_at(p)?;
-        Ok(between(&joins, q, range))
-    }
-
-    /// Those of the base pairs after the first p entries that no output hides.
-    fn visible(&mut self, p: u64, pairs: Vec<Pair>) -> Result<Vec<Pair>, OutOfMemory>
-        requires { p ≤ length self.old.view }
-        ensures visible { IfOk result (λ left. left.items ≡ pairs_where (λ key. not (is_computed (joins_of (take p self.old.view)) key)) pairs.items) }
-        ensures same { self.new ≡ self.old }
-    {
-        if p == self.p {
-            return hide_computed(self.alloc, self.joins, pairs);
-        }
-        let joins = self.joins_at(p)?;
-        hide_computed(self.alloc, &joins, pairs)
-    }
 }
 
-/// Looks at the range, and so knows that its bounds are those of a range.
-fn look_at(range: &Range)
-    ensures { is_range range.now.low range.now.high ≡ true }
-{
-    let _low = range.lo();
+impl<'a, N: Naming, W: Wait> BaseSource for SharedReader<'a, N, W> {
+    ghost list = { λ r. r.view };
+
+    ghost floor = { λ _. 0 };
+
+    ghost went = { λ a b. ReadsOn a b };
+
+    ghost went_trans = { λ a b c first next. reads_on-trans a b c first next };
+
+    ghost went_refl = { λ a. reads_on-refl a };
+
+    fn alloc(&self) -> Global {
+        self.alloc
+    }
+
+    fn base_pairs<L: Ledger>(
+        &mut self,
+        p: u64,
+        range: &Range,
+        steps: &mut Steps<L>,
+    ) -> Result<Vec<Pair>, OutOfMemory> {
+        self.noted.note(range);
+        self.shards
+            .pairs_at(self.rt, &mut self.pass, p, range, steps)
+    }
+
+    fn base_changes<L: Ledger>(
+        &mut self,
+        q: u64,
+        p: u64,
+        range: &Range,
+        steps: &mut Steps<L>,
+    ) -> Result<Vec<Key>, OutOfMemory> {
+        self.noted.note(range);
+        let ranges = slice::from_ref(range);
+        self.shards
+            .changed(self.rt, &mut self.pass, q, p, ranges, steps)
+    }
+
+    fn joins_at_hand(&self, p: u64) -> Option<&JoinSet> {
+        if p == self.p {
+            return Some(self.joins);
+        }
+        None
+    }
+
+    fn make_joins(&mut self, p: u64) -> Result<JoinSet, OutOfMemory> {
+        self.history.joins_at(self.rt, &mut self.pass, p)
+    }
 }
 
 impl<'a, N: Naming, W: Wait> Reader for SharedReader<'a, N, W> {
@@ -199,15 +203,10 @@ impl<'a, N: Naming, W: Wait> Reader for SharedReader<'a, N, W> {
         &mut self,
         p: u64,
         range: &Range,
-        _rank: u8,
+        rank: u8,
         steps: &mut Steps<L>,
     ) -> Result<Vec<Pair>, OutOfMemory> {
-        look_at(range);
-        self.noted.note(range);
-        let pairs = self
-            .shards
-            .pairs_at(self.rt, &mut self.pass, p, range, steps)?;
-        self.visible(p, pairs)
+        lowest_pairs(self, p, range, rank, steps)
     }
 
     fn changed<L: Ledger>(
@@ -215,20 +214,10 @@ impl<'a, N: Naming, W: Wait> Reader for SharedReader<'a, N, W> {
         q: u64,
         p: u64,
         range: &Range,
-        _rank: u8,
+        rank: u8,
         steps: &mut Steps<L>,
     ) -> Result<Changed, OutOfMemory> {
-        look_at(range);
-        self.noted.note(range);
-        let ranges = slice::from_ref(range);
-        let keys = self
-            .shards
-            .changed(self.rt, &mut self.pass, q, p, ranges, steps)?;
-        match self.say_between(q, p, range)? {
-            Between::Steady => Ok(Changed::Keys(keys)),
-            Between::Bare => Ok(Changed::Keys(keys)),
-            Between::Other => Ok(Changed::All),
-        }
+        lowest_changed(self, q, p, range, rank, steps)
     }
 }
 
@@ -240,15 +229,11 @@ impl<'a, N: Naming, W: Wait> Stacked<N> for SharedReader<'a, N, W> {
     }
 
     fn reached(&mut self, p: u64, range: &Range, rank: u8) -> Result<Vec<u64>, OutOfMemory> {
-        if p == self.p {
-            return reached_in(self.alloc, self.joins, rank, range);
-        }
-        let joins = self.joins_at(p)?;
-        reached_in(self.alloc, &joins, rank, range)
+        lowest_reached(self, p, range, rank)
     }
 
     fn between(&mut self, q: u64, p: u64, range: &Range) -> Result<Between, OutOfMemory> {
-        self.say_between(q, p, range)
+        lowest_between(self, q, p, range)
     }
 
     fn join_at(&mut self, at: u64) -> Result<Join, OutOfMemory> {

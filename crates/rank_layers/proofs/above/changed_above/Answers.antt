@@ -1,58 +1,115 @@
-use Rattle.std.proofs.Common.{◌≡◌, ◌+◌, [], length, take, true, false, inl, inr, subst, arith}
+use Rattle.std.proofs.Common.{◌≡◌, ◌+◌, ◌≤◌, [], length, take, true, false, inl, inr, sym, ◌∙◌, subst, arith}
 use Rattle.std.proofs.lemmas.Grind.{common_steps}
 use Rattle.std.proofs.lemmas.Result.{IfOk-weaker}
 use Rattle.semantics.specs.Histories.{joins_of}
 use Rattle.key_ranges.specs.Ranges.{is_open}
-use Rattle.growing_history.proofs.PrefixLemmas.{take_prefix}
+use Rattle.growing_history.proofs.PrefixLemmas.{prefix_length, prefix_trans, take_prefix}
+use Rattle.layering.specs.Reached.{reached}
 use Rattle.join_eval.specs.declared.between.Between.TheVariants.{Steady, Other}
 use Rattle.join_eval.specs.Answers.{AnswersChanges, TellsBetween}
 use Rattle.growing_history.proofs.BareLemmas.{bare_over}
 use Rattle.join_eval.proofs.BetweenLemmas.{between_over}
-use Rattle.layering.specs.Reached.{reached}
-use Rattle.rank_layers.proofs.PartLemmas.{moves_from_call, moves_on}
+use Rattle.join_eval.proofs.MovesLemmas.{moves_trans}
 use Rattle.rank_layers.proofs.TellingLemmas.{adds_over}
 use Rattle.rank_layers.proofs.AboveLemmas.{answers_with, entered_before, lists_above, lists_bare, never_bare, no_positions, some_positions}
+use Rattle.rank_layers.proofs.MoveLemmas.{moves_as, moves_by_call, moves_looked, up_one}
+use Rattle.rank_layers.proofs.JoinLemmas.{listed_over}
 use Rattle.rank_layers.proofs.above.changed_above.Goals as goal
 
 pub returns-in_err-keys-clause-moves : goal.returns-in_err-keys-clause-moves
 returns-in_err-keys-clause-moves g c =
-    moves_from_call g.R.Reader.list g.R.Reader.floor g.R.Reader.went g.R.Cells.holdings g.R.Reader.top c.args.rank c.args.reader.now c.changed.new.self c.requires.next
-    (g.met.R.Cells.went_frame c.args.reader.now c.changed.new.self) c.changed.ensures.kept c.changed.ensures.entered c.changed.ensures.same_floor c.changed.ensures.on
+    moves_by_call g.R.Reader.list g.R.Reader.floor g.R.Reader.went (g.C.RangeCache.left (c.args.rank + 1)) c.args.reader.now c.changed.new.self (g.met.C.RangeCache.left_below (c.args.rank + 1) c.args.reader.now c.changed.new.self (up_one g.R.Reader.top c.args.rank c.requires.next))
+    c.changed.ensures.kept c.changed.ensures.entered c.changed.ensures.same_floor c.changed.ensures.on
 
 pub returns-in_default-clause-moves : goal.returns-in_default-clause-moves
 returns-in_default-clause-moves g c =
-    moves_from_call g.R.Reader.list g.R.Reader.floor g.R.Reader.went g.R.Cells.holdings g.R.Reader.top c.args.rank c.args.reader.now c.changed.new.self c.requires.next
-    (g.met.R.Cells.went_frame c.args.reader.now c.changed.new.self) c.changed.ensures.kept c.changed.ensures.entered c.changed.ensures.same_floor c.changed.ensures.on
+    moves_by_call g.R.Reader.list g.R.Reader.floor g.R.Reader.went (g.C.RangeCache.left (c.args.rank + 1)) c.args.reader.now c.changed.new.self (g.met.C.RangeCache.left_below (c.args.rank + 1) c.args.reader.now c.changed.new.self (up_one g.R.Reader.top c.args.rank c.requires.next))
+    c.changed.ensures.kept c.changed.ensures.entered c.changed.ensures.same_floor c.changed.ensures.on
 
 pub returns-in_err-between-clause-moves : goal.returns-in_err-between-clause-moves
 returns-in_err-between-clause-moves g c =
-    moves_from_call g.R.Reader.list g.R.Reader.floor g.R.Reader.went g.R.Cells.holdings g.R.Reader.top c.args.rank c.args.reader.now c.changed.new.self c.requires.next
-    (g.met.R.Cells.went_frame c.args.reader.now c.changed.new.self) c.changed.ensures.kept c.changed.ensures.entered c.changed.ensures.same_floor c.changed.ensures.on
+    moves_looked g.R.Reader.list g.R.Reader.floor g.R.Reader.went g.C.RangeCache.looked (g.C.RangeCache.left (c.args.rank + 1)) c.args.reader.now c.changed.new.self c.between.new.reader (g.met.C.RangeCache.left_below (c.args.rank + 1) c.args.reader.now c.changed.new.self (up_one g.R.Reader.top c.args.rank c.requires.next))
+    (g.met.C.RangeCache.left_looked (c.args.rank + 1) c.changed.new.self c.between.new.reader) (g.met.C.RangeCache.left_trans (c.args.rank + 1) c.args.reader.now c.changed.new.self c.between.new.reader)
+    c.changed.ensures.kept c.changed.ensures.entered c.changed.ensures.same_floor c.changed.ensures.on c.between.ensures.moves
 
 pub returns-in-Bare-clause-moves : goal.returns-in-Bare-clause-moves
 returns-in-Bare-clause-moves g c =
-    moves_from_call g.R.Reader.list g.R.Reader.floor g.R.Reader.went g.R.Cells.holdings g.R.Reader.top c.args.rank c.args.reader.now c.changed.new.self c.requires.next
-    (g.met.R.Cells.went_frame c.args.reader.now c.changed.new.self) c.changed.ensures.kept c.changed.ensures.entered c.changed.ensures.same_floor c.changed.ensures.on
+    moves_looked g.R.Reader.list g.R.Reader.floor g.R.Reader.went g.C.RangeCache.looked (g.C.RangeCache.left (c.args.rank + 1)) c.args.reader.now c.changed.new.self c.between.new.reader (g.met.C.RangeCache.left_below (c.args.rank + 1) c.args.reader.now c.changed.new.self (up_one g.R.Reader.top c.args.rank c.requires.next))
+    (g.met.C.RangeCache.left_looked (c.args.rank + 1) c.changed.new.self c.between.new.reader) (g.met.C.RangeCache.left_trans (c.args.rank + 1) c.args.reader.now c.changed.new.self c.between.new.reader)
+    c.changed.ensures.kept c.changed.ensures.entered c.changed.ensures.same_floor c.changed.ensures.on c.between.ensures.moves
 
 pub returns-in-Other-clause-moves : goal.returns-in-Other-clause-moves
 returns-in-Other-clause-moves g c =
-    moves_from_call g.R.Reader.list g.R.Reader.floor g.R.Reader.went g.R.Cells.holdings g.R.Reader.top c.args.rank c.args.reader.now c.changed.new.self c.requires.next
-    (g.met.R.Cells.went_frame c.args.reader.now c.changed.new.self) c.changed.ensures.kept c.changed.ensures.entered c.changed.ensures.same_floor c.changed.ensures.on
+    moves_looked g.R.Reader.list g.R.Reader.floor g.R.Reader.went g.C.RangeCache.looked (g.C.RangeCache.left (c.args.rank + 1)) c.args.reader.now c.changed.new.self c.between.new.reader (g.met.C.RangeCache.left_below (c.args.rank + 1) c.args.reader.now c.changed.new.self (up_one g.R.Reader.top c.args.rank c.requires.next))
+    (g.met.C.RangeCache.left_looked (c.args.rank + 1) c.changed.new.self c.between.new.reader) (g.met.C.RangeCache.left_trans (c.args.rank + 1) c.args.reader.now c.changed.new.self c.between.new.reader)
+    c.changed.ensures.kept c.changed.ensures.entered c.changed.ensures.same_floor c.changed.ensures.on c.between.ensures.moves
 
 pub returns-in_err-ats-clause-moves : goal.returns-in_err-ats-clause-moves
 returns-in_err-ats-clause-moves g c =
-    moves_from_call g.R.Reader.list g.R.Reader.floor g.R.Reader.went g.R.Cells.holdings g.R.Reader.top c.args.rank c.args.reader.now c.changed.new.self c.requires.next
-    (g.met.R.Cells.went_frame c.args.reader.now c.changed.new.self) c.changed.ensures.kept c.changed.ensures.entered c.changed.ensures.same_floor c.changed.ensures.on
+    moves_trans g.R.Reader.list g.R.Reader.floor (g.C.RangeCache.left (c.args.rank + 1)) c.args.reader.now c.between.new.reader c.reached.new.reader (g.met.C.RangeCache.left_trans (c.args.rank + 1) c.args.reader.now c.between.new.reader c.reached.new.reader)
+    (moves_looked g.R.Reader.list g.R.Reader.floor g.R.Reader.went g.C.RangeCache.looked (g.C.RangeCache.left (c.args.rank + 1)) c.args.reader.now c.changed.new.self c.between.new.reader (g.met.C.RangeCache.left_below (c.args.rank + 1) c.args.reader.now c.changed.new.self (up_one g.R.Reader.top c.args.rank c.requires.next))
+    (g.met.C.RangeCache.left_looked (c.args.rank + 1) c.changed.new.self c.between.new.reader) (g.met.C.RangeCache.left_trans (c.args.rank + 1) c.args.reader.now c.changed.new.self c.between.new.reader)
+    c.changed.ensures.kept c.changed.ensures.entered c.changed.ensures.same_floor c.changed.ensures.on c.between.ensures.moves)
+    (moves_as g.R.Reader.list g.R.Reader.floor g.C.RangeCache.looked (g.C.RangeCache.left (c.args.rank + 1)) c.between.new.reader c.reached.new.reader (g.met.C.RangeCache.left_looked (c.args.rank + 1) c.between.new.reader c.reached.new.reader) c.reached.ensures.moves)
 
 pub returns-then-is_empty-clause-moves : goal.returns-then-is_empty-clause-moves
 returns-then-is_empty-clause-moves g c =
-    moves_from_call g.R.Reader.list g.R.Reader.floor g.R.Reader.went g.R.Cells.holdings g.R.Reader.top c.args.rank c.args.reader.now c.changed.new.self c.requires.next
-    (g.met.R.Cells.went_frame c.args.reader.now c.changed.new.self) c.changed.ensures.kept c.changed.ensures.entered c.changed.ensures.same_floor c.changed.ensures.on
+    moves_trans g.R.Reader.list g.R.Reader.floor (g.C.RangeCache.left (c.args.rank + 1)) c.args.reader.now c.between.new.reader c.reached.new.reader (g.met.C.RangeCache.left_trans (c.args.rank + 1) c.args.reader.now c.between.new.reader c.reached.new.reader)
+    (moves_looked g.R.Reader.list g.R.Reader.floor g.R.Reader.went g.C.RangeCache.looked (g.C.RangeCache.left (c.args.rank + 1)) c.args.reader.now c.changed.new.self c.between.new.reader (g.met.C.RangeCache.left_below (c.args.rank + 1) c.args.reader.now c.changed.new.self (up_one g.R.Reader.top c.args.rank c.requires.next))
+    (g.met.C.RangeCache.left_looked (c.args.rank + 1) c.changed.new.self c.between.new.reader) (g.met.C.RangeCache.left_trans (c.args.rank + 1) c.args.reader.now c.changed.new.self c.between.new.reader)
+    c.changed.ensures.kept c.changed.ensures.entered c.changed.ensures.same_floor c.changed.ensures.on c.between.ensures.moves)
+    (moves_as g.R.Reader.list g.R.Reader.floor g.C.RangeCache.looked (g.C.RangeCache.left (c.args.rank + 1)) c.between.new.reader c.reached.new.reader (g.met.C.RangeCache.left_looked (c.args.rank + 1) c.between.new.reader c.reached.new.reader) c.reached.ensures.moves)
 
 pub returns-then-not-is_open-clause-moves : goal.returns-then-not-is_open-clause-moves
 returns-then-not-is_open-clause-moves g c =
-    moves_from_call g.R.Reader.list g.R.Reader.floor g.R.Reader.went g.R.Cells.holdings g.R.Reader.top c.args.rank c.args.reader.now c.changed.new.self c.requires.next
-    (g.met.R.Cells.went_frame c.args.reader.now c.changed.new.self) c.changed.ensures.kept c.changed.ensures.entered c.changed.ensures.same_floor c.changed.ensures.on
+    moves_trans g.R.Reader.list g.R.Reader.floor (g.C.RangeCache.left (c.args.rank + 1)) c.args.reader.now c.between.new.reader c.reached.new.reader (g.met.C.RangeCache.left_trans (c.args.rank + 1) c.args.reader.now c.between.new.reader c.reached.new.reader)
+    (moves_looked g.R.Reader.list g.R.Reader.floor g.R.Reader.went g.C.RangeCache.looked (g.C.RangeCache.left (c.args.rank + 1)) c.args.reader.now c.changed.new.self c.between.new.reader (g.met.C.RangeCache.left_below (c.args.rank + 1) c.args.reader.now c.changed.new.self (up_one g.R.Reader.top c.args.rank c.requires.next))
+    (g.met.C.RangeCache.left_looked (c.args.rank + 1) c.changed.new.self c.between.new.reader) (g.met.C.RangeCache.left_trans (c.args.rank + 1) c.args.reader.now c.changed.new.self c.between.new.reader)
+    c.changed.ensures.kept c.changed.ensures.entered c.changed.ensures.same_floor c.changed.ensures.on c.between.ensures.moves)
+    (moves_as g.R.Reader.list g.R.Reader.floor g.C.RangeCache.looked (g.C.RangeCache.left (c.args.rank + 1)) c.between.new.reader c.reached.new.reader (g.met.C.RangeCache.left_looked (c.args.rank + 1) c.between.new.reader c.reached.new.reader) c.reached.ensures.moves)
+
+pub returns-clause-moves : goal.returns-clause-moves
+returns-clause-moves g c =
+    moves_trans g.R.Reader.list g.R.Reader.floor (g.C.RangeCache.left (c.args.rank + 1)) c.args.reader.now c.reached.new.reader c.add_changes.new.reader (g.met.C.RangeCache.left_trans (c.args.rank + 1) c.args.reader.now c.reached.new.reader c.add_changes.new.reader)
+    (moves_trans g.R.Reader.list g.R.Reader.floor (g.C.RangeCache.left (c.args.rank + 1)) c.args.reader.now c.between.new.reader c.reached.new.reader (g.met.C.RangeCache.left_trans (c.args.rank + 1) c.args.reader.now c.between.new.reader c.reached.new.reader)
+    (moves_looked g.R.Reader.list g.R.Reader.floor g.R.Reader.went g.C.RangeCache.looked (g.C.RangeCache.left (c.args.rank + 1)) c.args.reader.now c.changed.new.self c.between.new.reader (g.met.C.RangeCache.left_below (c.args.rank + 1) c.args.reader.now c.changed.new.self (up_one g.R.Reader.top c.args.rank c.requires.next))
+    (g.met.C.RangeCache.left_looked (c.args.rank + 1) c.changed.new.self c.between.new.reader) (g.met.C.RangeCache.left_trans (c.args.rank + 1) c.args.reader.now c.changed.new.self c.between.new.reader)
+    c.changed.ensures.kept c.changed.ensures.entered c.changed.ensures.same_floor c.changed.ensures.on c.between.ensures.moves)
+    (moves_as g.R.Reader.list g.R.Reader.floor g.C.RangeCache.looked (g.C.RangeCache.left (c.args.rank + 1)) c.between.new.reader c.reached.new.reader (g.met.C.RangeCache.left_looked (c.args.rank + 1) c.between.new.reader c.reached.new.reader) c.reached.ensures.moves))
+    c.add_changes.ensures.moves
+
+pub between-requires-clause-within : goal.between-requires-clause-within
+between-requires-clause-within g c = omega (arith, c.requires.within, prefix_length (g.R.Reader.list c.args.reader.now) (g.R.Reader.list c.changed.new.self) c.changed.ensures.kept)
+
+pub between-requires-clause-above : goal.between-requires-clause-above
+between-requires-clause-above g c = subst (λ n. n ≤ c.args.q) (sym c.changed.ensures.same_floor) c.requires.above
+
+pub reached-requires-clause-within : goal.reached-requires-clause-within
+reached-requires-clause-within g c =
+    let list = g.R.Reader.list in
+    omega (arith, c.requires.within, prefix_length (list c.args.reader.now) (list c.changed.new.self) c.changed.ensures.kept, prefix_length (list c.changed.new.self) (list c.between.new.reader) c.between.ensures.moves.kept)
+
+pub reached-requires-clause-above : goal.reached-requires-clause-above
+reached-requires-clause-above g c = let floor = subst (λ n. n ≤ c.args.q) (sym (c.between.ensures.moves.same_floor ∙ c.changed.ensures.same_floor)) c.requires.above in omega (arith, floor, c.requires.order)
+
+pub add_changes-requires-clause-above : goal.add_changes-requires-clause-above
+add_changes-requires-clause-above g c =
+    let floor = subst (λ n. n ≤ c.args.q) (sym (c.reached.ensures.moves.same_floor ∙ c.between.ensures.moves.same_floor ∙ c.changed.ensures.same_floor)) c.requires.above in
+    omega (arith, floor, c.requires.order)
+
+pub add_changes-requires-clause-within : goal.add_changes-requires-clause-within
+add_changes-requires-clause-within g c =
+    let list = g.R.Reader.list in
+    omega (arith, c.requires.within, prefix_length (list c.args.reader.now) (list c.changed.new.self) c.changed.ensures.kept, prefix_length (list c.changed.new.self) (list c.between.new.reader) c.between.ensures.moves.kept, prefix_length (list c.between.new.reader) (list c.reached.new.reader) c.reached.ensures.moves.kept)
+
+pub add_changes-requires-clause-entered : goal.add_changes-requires-clause-entered
+add_changes-requires-clause-entered g c = c.reached.ensures.moves.entered (c.between.ensures.moves.entered c.changed.ensures.entered)
+
+pub add_changes-requires-clause-listed : goal.add_changes-requires-clause-listed
+add_changes-requires-clause-listed g c =
+    let list = g.R.Reader.list in
+    listed_over (list c.between.new.reader) (list c.reached.new.reader) c.args.p c.args.rank c.args.range.now c.in_ok-ats.ats.items c.as_slice.result.now
+    (omega (arith, c.requires.within, prefix_length (list c.args.reader.now) (list c.changed.new.self) c.changed.ensures.kept, prefix_length (list c.changed.new.self) (list c.between.new.reader) c.between.ensures.moves.kept)) c.reached.ensures.moves.kept c.as_slice.ensures.value c.in_ok-ats.ensures.reached
 
 pub returns-in-Bare-clause-exact : goal.returns-in-Bare-clause-exact
 returns-in-Bare-clause-exact g c =
@@ -60,46 +117,48 @@ returns-in-Bare-clause-exact g c =
     let same = take_prefix c.args.p (list c.args.reader.now) (list c.changed.new.self) c.requires.within c.changed.ensures.kept in
     let lists = subst (AnswersChanges (list c.args.reader.now) c.args.q c.args.p c.args.rank c.args.range.now) c.in-Keys.is c.in_ok-keys.ensures.exact in
     lists_bare (list c.args.reader.now) c.args.q c.args.p c.args.rank c.args.range.now c.in-Keys.keys.items (entered_before (list c.args.reader.now) (list c.changed.new.self) c.changed.ensures.kept c.changed.ensures.entered) c.look_at.ensures
-    (bare_over (list c.args.reader.now) (list c.changed.new.self) c.args.q c.args.p c.args.range.now same (subst (TellsBetween (list c.changed.new.self) c.args.q c.args.p c.args.range.now) c.in-Bare.is c.in_ok-between.ensures)) lists
+    (bare_over (list c.args.reader.now) (list c.changed.new.self) c.args.q c.args.p c.args.range.now same (subst (TellsBetween (list c.changed.new.self) c.args.q c.args.p c.args.range.now) c.in-Bare.is c.in_ok-between.ensures.said)) lists
 
 pub returns-in-Other-clause-exact : goal.returns-in-Other-clause-exact
 returns-in-Other-clause-exact g c =
     let list = g.R.Reader.list in
     let same = take_prefix c.args.p (list c.args.reader.now) (list c.changed.new.self) c.requires.within c.changed.ensures.kept in
-    let other = between_over (list c.args.reader.now) (list c.changed.new.self) c.args.q c.args.p c.args.range.now Other same (subst (TellsBetween (list c.changed.new.self) c.args.q c.args.p c.args.range.now) c.in-Other.is c.in_ok-between.ensures) in
+    let other = between_over (list c.args.reader.now) (list c.changed.new.self) c.args.q c.args.p c.args.range.now Other same (subst (TellsBetween (list c.changed.new.self) c.args.q c.args.p c.args.range.now) c.in-Other.is c.in_ok-between.ensures.said) in
     record { computed = other.1; why = inl other.0 }
 
 pub returns-in-Other-clause-bare : goal.returns-in-Other-clause-bare
 returns-in-Other-clause-bare g c = λ bare.
     let list = g.R.Reader.list in
     let same = take_prefix c.args.p (list c.args.reader.now) (list c.changed.new.self) c.requires.within c.changed.ensures.kept in
-    let other = between_over (list c.args.reader.now) (list c.changed.new.self) c.args.q c.args.p c.args.range.now Other same (subst (TellsBetween (list c.changed.new.self) c.args.q c.args.p c.args.range.now) c.in-Other.is c.in_ok-between.ensures) in
+    let other = between_over (list c.args.reader.now) (list c.changed.new.self) c.args.q c.args.p c.args.range.now Other same (subst (TellsBetween (list c.changed.new.self) c.args.q c.args.p c.args.range.now) c.in-Other.is c.in_ok-between.ensures.said) in
     absurd (other.1 bare)
 
 pub returns-in-Other-clause-bare_cost : goal.returns-in-Other-clause-bare_cost
 returns-in-Other-clause-bare_cost g c = λ bare.
     let list = g.R.Reader.list in
     let same = take_prefix c.args.p (list c.args.reader.now) (list c.changed.new.self) c.requires.within c.changed.ensures.kept in
-    let other = between_over (list c.args.reader.now) (list c.changed.new.self) c.args.q c.args.p c.args.range.now Other same (subst (TellsBetween (list c.changed.new.self) c.args.q c.args.p c.args.range.now) c.in-Other.is c.in_ok-between.ensures) in
+    let other = between_over (list c.args.reader.now) (list c.changed.new.self) c.args.q c.args.p c.args.range.now Other same (subst (TellsBetween (list c.changed.new.self) c.args.q c.args.p c.args.range.now) c.in-Other.is c.in_ok-between.ensures.said) in
     absurd (other.1 bare)
 
 pub returns-then-is_empty-clause-exact : goal.returns-then-is_empty-clause-exact
 returns-then-is_empty-clause-exact g c =
     let list = g.R.Reader.list in
     let same = take_prefix c.args.p (list c.args.reader.now) (list c.changed.new.self) c.requires.within c.changed.ensures.kept in
+    let to_two = prefix_trans (list c.args.reader.now) (list c.changed.new.self) (list c.between.new.reader) c.changed.ensures.kept c.between.ensures.moves.kept in
+    let same_two = take_prefix c.args.p (list c.args.reader.now) (list c.between.new.reader) c.requires.within to_two in
     let lists = subst (AnswersChanges (list c.args.reader.now) c.args.q c.args.p c.args.rank c.args.range.now) c.in-Keys.is c.in_ok-keys.ensures.exact in
-    let steady = between_over (list c.args.reader.now) (list c.changed.new.self) c.args.q c.args.p c.args.range.now Steady same (subst (TellsBetween (list c.changed.new.self) c.args.q c.args.p c.args.range.now) c.in-Steady.is c.in_ok-between.ensures) in
+    let steady = between_over (list c.args.reader.now) (list c.changed.new.self) c.args.q c.args.p c.args.range.now Steady same (subst (TellsBetween (list c.changed.new.self) c.args.q c.args.p c.args.range.now) c.in-Steady.is c.in_ok-between.ensures.said) in
     let empty : length c.in_ok-ats.ats.items ≡ 0 = grind (arith, common_steps) in
-    let none = no_positions (reached c.args.range.now c.args.rank (joins_of (take c.args.p (list c.changed.new.self)))) c.in_ok-ats.ats.items c.in_ok-ats.ensures empty in
+    let none = no_positions (reached c.args.range.now c.args.rank (joins_of (take c.args.p (list c.between.new.reader)))) c.in_ok-ats.ats.items c.in_ok-ats.ensures.reached empty in
     lists_above (list c.args.reader.now) c.args.q c.args.p c.args.rank c.args.range.now c.in-Keys.keys.items (entered_before (list c.args.reader.now) (list c.changed.new.self) c.changed.ensures.kept c.changed.ensures.entered) c.look_at.ensures c.requires.order steady
-    (inl (subst (λ h. reached c.args.range.now c.args.rank (joins_of h) ≡ []) same none)) lists
+    (inl (subst (λ h. reached c.args.range.now c.args.rank (joins_of h) ≡ []) same_two none)) lists
 
 pub returns-then-not-is_open-clause-exact : goal.returns-then-not-is_open-clause-exact
 returns-then-not-is_open-clause-exact g c =
     let list = g.R.Reader.list in
     let same = take_prefix c.args.p (list c.args.reader.now) (list c.changed.new.self) c.requires.within c.changed.ensures.kept in
     let lists = subst (AnswersChanges (list c.args.reader.now) c.args.q c.args.p c.args.rank c.args.range.now) c.in-Keys.is c.in_ok-keys.ensures.exact in
-    let steady = between_over (list c.args.reader.now) (list c.changed.new.self) c.args.q c.args.p c.args.range.now Steady same (subst (TellsBetween (list c.changed.new.self) c.args.q c.args.p c.args.range.now) c.in-Steady.is c.in_ok-between.ensures) in
+    let steady = between_over (list c.args.reader.now) (list c.changed.new.self) c.args.q c.args.p c.args.range.now Steady same (subst (TellsBetween (list c.changed.new.self) c.args.q c.args.p c.args.range.now) c.in-Steady.is c.in_ok-between.ensures.said) in
     let empty : is_open c.args.range.now ≡ false = grind (arith, common_steps) in
     lists_above (list c.args.reader.now) c.args.q c.args.p c.args.rank c.args.range.now c.in-Keys.keys.items (entered_before (list c.args.reader.now) (list c.changed.new.self) c.changed.ensures.kept c.changed.ensures.entered) c.look_at.ensures c.requires.order steady (inr empty) lists
 
@@ -107,34 +166,32 @@ pub returns-clause-exact : goal.returns-clause-exact
 returns-clause-exact g c =
     let list = g.R.Reader.list in
     let same = take_prefix c.args.p (list c.args.reader.now) (list c.changed.new.self) c.requires.within c.changed.ensures.kept in
+    let to_two = prefix_trans (list c.args.reader.now) (list c.changed.new.self) (list c.between.new.reader) c.changed.ensures.kept c.between.ensures.moves.kept in
+    let same_two = take_prefix c.args.p (list c.args.reader.now) (list c.between.new.reader) c.requires.within to_two in
+    let to_three = prefix_trans (list c.args.reader.now) (list c.between.new.reader) (list c.reached.new.reader) to_two c.reached.ensures.moves.kept in
     let lists = subst (AnswersChanges (list c.args.reader.now) c.args.q c.args.p c.args.rank c.args.range.now) c.in-Keys.is c.in_ok-keys.ensures.exact in
-    let steady = between_over (list c.args.reader.now) (list c.changed.new.self) c.args.q c.args.p c.args.range.now Steady same (subst (TellsBetween (list c.changed.new.self) c.args.q c.args.p c.args.range.now) c.in-Steady.is c.in_ok-between.ensures) in
+    let steady = between_over (list c.args.reader.now) (list c.changed.new.self) c.args.q c.args.p c.args.range.now Steady same (subst (TellsBetween (list c.changed.new.self) c.args.q c.args.p c.args.range.now) c.in-Steady.is c.in_ok-between.ensures.said) in
     let opened : is_open c.args.range.now ≡ true = grind (arith, common_steps) in
     let listed : length c.in_ok-ats.ats.items ≡ 0 → ⊥ = λ none. grind (arith, common_steps, none) in
     let some : reached c.args.range.now c.args.rank (joins_of (take c.args.p (list c.args.reader.now))) ≡ [] → ⊥ =
-    subst (λ h. reached c.args.range.now c.args.rank (joins_of h) ≡ [] → ⊥) same
-    (some_positions (reached c.args.range.now c.args.rank (joins_of (take c.args.p (list c.changed.new.self)))) c.in_ok-ats.ats.items c.in_ok-ats.ensures listed) in
+    subst (λ h. reached c.args.range.now c.args.rank (joins_of h) ≡ [] → ⊥) same_two
+    (some_positions (reached c.args.range.now c.args.rank (joins_of (take c.args.p (list c.between.new.reader)))) c.in_ok-ats.ats.items c.in_ok-ats.ensures.reached listed) in
     IfOk-weaker c.add_changes.result _ _ (λ answer added.
     answers_with (list c.args.reader.now) c.args.q c.args.p c.args.rank c.args.range.now c.in-Keys.keys.items answer (entered_before (list c.args.reader.now) (list c.changed.new.self) c.changed.ensures.kept c.changed.ensures.entered) c.look_at.ensures c.requires.order steady opened some lists
-    (adds_over (list c.args.reader.now) (list c.changed.new.self) c.args.q c.args.p c.args.rank c.args.range.now c.in-Keys.keys.items answer c.requires.order c.requires.within c.changed.ensures.kept added)) c.add_changes.ensures.told
-
-pub returns-clause-moves : goal.returns-clause-moves
-returns-clause-moves g c =
-    moves_on g.R.Reader.list g.R.Reader.floor g.R.Cells.holdings (c.args.rank + 1) c.args.reader.now c.changed.new.self c.add_changes.new.reader
-    (moves_from_call g.R.Reader.list g.R.Reader.floor g.R.Reader.went g.R.Cells.holdings g.R.Reader.top c.args.rank c.args.reader.now c.changed.new.self c.requires.next
-    (g.met.R.Cells.went_frame c.args.reader.now c.changed.new.self) c.changed.ensures.kept c.changed.ensures.entered c.changed.ensures.same_floor c.changed.ensures.on)
-    c.add_changes.ensures.moves
+    (adds_over (list c.args.reader.now) (list c.reached.new.reader) c.args.q c.args.p c.args.rank c.args.range.now c.in-Keys.keys.items answer c.requires.order c.requires.within to_three added)) c.add_changes.ensures.told
 
 pub returns-clause-bare : goal.returns-clause-bare
 returns-clause-bare g c = λ bare.
     let list = g.R.Reader.list in
+    let to_two = prefix_trans (list c.args.reader.now) (list c.changed.new.self) (list c.between.new.reader) c.changed.ensures.kept c.between.ensures.moves.kept in
     let listed : length c.in_ok-ats.ats.items ≡ 0 → ⊥ = λ none. grind (arith, common_steps, none) in
-    absurd (never_bare (list c.args.reader.now) (list c.changed.new.self) c.args.q c.args.p c.args.rank c.args.range.now c.in_ok-ats.ats.items c.requires.order c.requires.within c.changed.ensures.kept c.changed.ensures.entered
-    c.look_at.ensures c.in_ok-ats.ensures listed bare)
+    absurd (never_bare (list c.args.reader.now) (list c.between.new.reader) c.args.q c.args.p c.args.rank c.args.range.now c.in_ok-ats.ats.items c.requires.order c.requires.within to_two
+    (c.between.ensures.moves.entered c.changed.ensures.entered) c.look_at.ensures c.in_ok-ats.ensures.reached listed bare)
 
 pub returns-clause-bare_cost : goal.returns-clause-bare_cost
 returns-clause-bare_cost g c = λ bare.
     let list = g.R.Reader.list in
+    let to_two = prefix_trans (list c.args.reader.now) (list c.changed.new.self) (list c.between.new.reader) c.changed.ensures.kept c.between.ensures.moves.kept in
     let listed : length c.in_ok-ats.ats.items ≡ 0 → ⊥ = λ none. grind (arith, common_steps, none) in
-    absurd (never_bare (list c.args.reader.now) (list c.changed.new.self) c.args.q c.args.p c.args.rank c.args.range.now c.in_ok-ats.ats.items c.requires.order c.requires.within c.changed.ensures.kept c.changed.ensures.entered
-    c.look_at.ensures c.in_ok-ats.ensures listed bare)
+    absurd (never_bare (list c.args.reader.now) (list c.between.new.reader) c.args.q c.args.p c.args.rank c.args.range.now c.in_ok-ats.ats.items c.requires.order c.requires.within to_two
+    (c.between.ensures.moves.entered c.changed.ensures.entered) c.look_at.ensures c.in_ok-ats.ensures.reached listed bare)

@@ -5,7 +5,6 @@ use Rattle.growing_history.specs.Entered.{HasEntered}
 use Rattle.layering.specs.Merging.{Ascends}
 use Rattle.layering.specs.Reached.{reached, with_parts}
 use Rattle.join_eval.specs.Moves.{Moves}
-use Rattle.cell_slots.specs.Slots.{Frame}
 use Rattle.cell_slots.specs.Spending.{JoinsSpend}
 use Rattle.rank_layers.proofs.outputs.add_outputs.Given as goal
 
@@ -14,10 +13,10 @@ abbrev pub invariant-loop-at : goal.invariant-loop-at
 invariant-loop-at g l = record {
   output : l.all.items ≡ with_parts l.fn.range (take l.at-index (reached l.fn.range l.fn.rank (joins_of (take l.fn.p (g.R.Reader.list l.fn.reader))))) (below (take l.fn.p (g.R.Reader.list l.fn.reader)) l.fn.rank) l.fn.pairs.items;
   ascends : Ascends l.all.items;
-  moves : Moves g.R.Reader.list g.R.Reader.floor (λ a b. Frame (l.fn.rank + 1) (g.R.Cells.holdings a) (g.R.Cells.holdings b)) l.fn.reader l.reader;
+  moves : Moves g.R.Reader.list g.R.Reader.floor (g.C.RangeCache.left (l.fn.rank + 1)) l.fn.reader l.reader;
   entered : HasEntered (g.R.Reader.list l.reader);
   counted : l.fn.steps ≤ l.steps;
   cost : length l.all.items + l.fn.steps ≤ length l.fn.pairs.items + l.steps;
-  spent : JoinsSpend (g.R.Reader.list l.fn.reader) (g.R.Cells.holdings l.fn.reader) (g.R.Cells.holdings l.reader) l.fn.p l.fn.range l.fn.rank
+  spent : JoinsSpend (λ x y at j added. g.C.RangeCache.cost_one x y at l.fn.rank l.fn.p l.fn.range j added) l.fn.reader l.reader
       (take l.at-index (reached l.fn.range l.fn.rank (joins_of (take l.fn.p (g.R.Reader.list l.fn.reader))))) (l.steps - l.fn.steps);
 }

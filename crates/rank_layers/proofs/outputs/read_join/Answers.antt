@@ -1,47 +1,55 @@
-use Rattle.std.proofs.Common.{◌-◌, flat_map, take, slice_get, sym, ap, ◌∙◌, subst}
-use Rattle.std.proofs.lemmas.Option.{slice_get_within}
+use Rattle.std.proofs.Common.{◌+◌, ◌-◌, ◌≤◌, flat_map, length, take, refl, sym, ap, ◌∙◌, subst, arith}
 use Rattle.std.proofs.lemmas.Result.{IfOk-weaker}
+use Rattle.growing_history.proofs.PrefixLemmas.{prefix_length, take_prefix}
 use Rattle.semantics.specs.Texts.{pairs_within}
 use Rattle.semantics.specs.Outputs.{out}
 use Rattle.semantics.specs.States.{below}
-use Rattle.range_state.specs.Held.{forgotten}
-use Rattle.cell_slots.specs.declared.slot.Slot.TheVariants.{Free, Held}
-use Rattle.cell_slots.specs.Slots.{Holdings, IsReadySlot, StandsAs}
-use Rattle.cell_slots.specs.Spending.{KeepsJust, OneSpends}
-use Rattle.rank_layers.proofs.FrameLemmas.{get-set_same}
-use Rattle.rank_layers.proofs.JoinLemmas.{parts_output, one_spends, keeps_after, on_ok_then, ok_for_all}
+use Rattle.cell_slots.specs.Slots.{StandsAs}
+use Rattle.join_eval.proofs.MovesLemmas.{moves_trans}
+use Rattle.cell_slots.proofs.DeclaredLemmas.{stands_over}
+use Rattle.rank_layers.proofs.JoinLemmas.{cost_of_join, ok_for_all, parts_output}
 use Rattle.rank_layers.proofs.outputs.read_join.Goals as goal
+
+pub read_parts-requires-clause-within : goal.read_parts-requires-clause-within
+read_parts-requires-clause-within g c = omega (arith, c.requires.within, prefix_length (g.R.Reader.list c.args.reader.now) (g.R.Reader.list c.cover.new.reader) c.cover.ensures.moves.kept)
+
+pub read_parts-requires-clause-above : goal.read_parts-requires-clause-above
+read_parts-requires-clause-above g c = subst (λ n. n ≤ c.args.query.p) (sym c.cover.ensures.moves.same_floor) c.requires.above
+
+pub read_parts-requires-clause-entered : goal.read_parts-requires-clause-entered
+read_parts-requires-clause-entered g c = c.cover.ensures.moves.entered c.requires.entered
+
+pub read_parts-requires-clause-stands : goal.read_parts-requires-clause-stands
+read_parts-requires-clause-stands g c =
+    let list = g.R.Reader.list in
+    (c.requires.reached.join, stands_over (list c.args.reader.now) (list c.cover.new.reader) c.args.query.p c.args.query.at c.args.query.rank c.requires.reached.join c.requires.within c.cover.ensures.moves.kept c.requires.reached.stands)
 
 pub returns-clause-output : goal.returns-clause-output
 returns-clause-output g c =
     let list = g.R.Reader.list in
     IfOk-weaker c.read_parts.result _ _ (λ pairs is j stands.
-    is j (subst (λ h. StandsAs h c.args.asked.p c.args.asked.at c.args.asked.rank j) (sym c.in_ok-parts.ensures.list) stands)
-    ∙ (λ i. flat_map (λ part. pairs_within part.range (out j (below (take c.args.asked.p (c.in_ok-parts.ensures.list i)) c.args.asked.rank))) (c.as_slice.ensures.value i))
-    ∙ parts_output c.args.range.now c.in_ok-parts.parts.items j (below (take c.args.asked.p (list c.args.reader.now)) c.args.asked.rank) c.in_ok-parts.ensures.parts) c.read_parts.ensures.output
+    is j (stands_over (list c.args.reader.now) (list c.cover.new.reader) c.args.query.p c.args.query.at c.args.query.rank j c.requires.within c.cover.ensures.moves.kept stands)
+    ∙ ap (flat_map (λ part. pairs_within (g.C.RangeCache.range_of part) (out j (below (take c.args.query.p (list c.cover.new.reader)) c.args.query.rank)))) c.as_slice.ensures.value
+    ∙ parts_output g.C.RangeCache.range_of c.args.range.now c.in_ok-parts.parts.items j (below (take c.args.query.p (list c.cover.new.reader)) c.args.query.rank) c.in_ok-parts.ensures.parts
+    ∙ ap (λ l. pairs_within c.args.range.now (out j (below l c.args.query.rank))) (take_prefix c.args.query.p (list c.args.reader.now) (list c.cover.new.reader) c.requires.within c.cover.ensures.moves.kept)) c.read_parts.ensures.output
+
+pub returns-clause-moves : goal.returns-clause-moves
+returns-clause-moves g c =
+    moves_trans g.R.Reader.list g.R.Reader.floor (g.C.RangeCache.left (c.args.query.rank + 1)) c.args.reader.now c.cover.new.reader c.read_parts.new.reader
+    (g.met.C.RangeCache.left_trans (c.args.query.rank + 1) c.args.reader.now c.cover.new.reader c.read_parts.new.reader) c.cover.ensures.moves c.read_parts.ensures.moves
 
 pub returns-clause-spent : goal.returns-clause-spent
 returns-clause-spent g c =
     let list = g.R.Reader.list in
-    let holds = g.R.Cells.holdings in
-    ok_for_all c.read_parts.result (StandsAs (list c.args.reader.now) c.args.asked.p c.args.asked.at c.args.asked.rank)
-    (λ j. OneSpends (list c.args.reader.now) (holds c.args.reader.now) (holds c.read_parts.new.reader) c.args.asked.p c.args.range.now c.args.asked.rank c.args.asked.at j (c.read_parts.new.steps - c.args.steps.now))
+    let a = c.args.reader.now in let b = c.cover.new.reader in let d = c.read_parts.new.reader in
+    let at = c.args.query.at in let rank = c.args.query.rank in let p = c.args.query.p in let range = c.args.range.now in
+    let added = c.read_parts.new.steps - c.args.steps.now in
+    ok_for_all c.read_parts.result (StandsAs (list a) p at rank) (λ j. g.C.RangeCache.cost_one a d at rank p range j added)
     (λ j stands.
-    one_spends (λ v. v.items) c.read_parts.result (list c.args.reader.now) (holds c.args.reader.now) (holds c.read_parts.new.reader) c.args.asked.p c.args.range.now c.args.asked.rank c.args.asked.at j c.args.steps.now c.read_parts.new.steps
-    (IfOk-weaker c.read_parts.result _ _ (λ pairs is. is j stands) (returns-clause-output g c))
-    (λ id s opened ready.
-    let covers = c.in_ok-parts.ensures.ready id s opened ready in
-    c.read_parts.ensures.ready c.args.range.now id s (c.as_slice.ensures.value ∙ covers.one) (c.in_ok-parts.ensures.ranked id s ready)
-    (subst (λ cells. IsReadySlot cells.slots id c.args.asked.at c.args.asked.p c.args.range.now s) (sym covers.still) ready))
-    (λ opened may.
-    let reserves = c.in_ok-parts.ensures.reserved j stands opened may in
-    on_ok_then c.read_parts.result (KeepsJust (holds c.cover.new.self) (holds c.read_parts.new.reader) c.args.asked.rank c.args.asked.at c.args.asked.p c.args.range.now)
-    (KeepsJust (holds c.args.reader.now) (holds c.read_parts.new.reader) c.args.asked.rank c.args.asked.at c.args.asked.p c.args.range.now)
-    (keeps_after (holds c.args.reader.now) (holds c.cover.new.self) (holds c.read_parts.new.reader) c.args.asked.rank c.args.asked.at c.args.asked.p c.args.range.now (ap (λ (cells : Holdings). cells.used) reserves.set))
-    (c.read_parts.ensures.held c.args.range.now reserves.id j (c.as_slice.ensures.value ∙ reserves.one)
-    (ap (λ (cells : Holdings). slice_get cells.slots reserves.id) reserves.set
-    ∙ get-set_same (holds c.args.reader.now).slots reserves.id (Held c.args.asked.at (forgotten j c.args.asked.rank c.args.range.now)) (slice_get_within (holds c.args.reader.now).slots reserves.id Free reserves.free)))))
-
-pub read_parts-requires-clause-stands : goal.read_parts-requires-clause-stands
-read_parts-requires-clause-stands g c =
-    (c.requires.reached.join, subst (λ h. StandsAs h c.args.asked.p c.args.asked.at c.args.asked.rank c.requires.reached.join) (sym c.in_ok-parts.ensures.list) c.requires.reached.stands)
+    let rows = length (pairs_within range (out j (below (take p (list a)) rank))) in
+    cost_of_join (λ v. v.items) c.read_parts.result (g.C.RangeCache.covered a b at rank p range) (λ part n. g.C.RangeCache.took b d at rank p part n added) (g.C.RangeCache.cost_one a d at rank p range j added) c.in_ok-parts.parts.items rows
+    c.in_ok-parts.ensures.covered
+    (λ part is. c.read_parts.ensures.took part (c.as_slice.ensures.value ∙ is))
+    (IfOk-weaker c.read_parts.result _ _ (λ pairs is. ap length (is j stands)) (returns-clause-output g c))
+    (λ part covered took. g.met.C.RangeCache.cost_of_part a b d at rank p range part j rows added stands refl covered took)
+    (λ several covered. g.met.C.RangeCache.cost_of_parts a b d at rank p range c.in_ok-parts.parts.items j added stands covered several))

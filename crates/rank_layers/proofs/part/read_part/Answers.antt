@@ -1,29 +1,31 @@
-use Rattle.std.proofs.Common.{◌≡◌, slice_get, IfSome, refl, sym, ap, ◌∙◌, subst}
+use Rattle.std.proofs.Common.{◌≡◌, slice_get, refl, sym, ap, ◌∙◌, subst}
 use Rattle.std.proofs.lemmas.Option.{MatchOption-at_some, none-some, same_Some}
+use Rattle.std.proofs.lemmas.Result.{IfOk-weaker}
 use Rattle.semantics.specs.Histories.{IsPrefix}
+use Rattle.kept_ranges.specs.Sound.{KeptRange}
 use Rattle.range_state.specs.Held.{forgotten}
-use Rattle.range_state.specs.Ready.{IsReady}
 use Rattle.cell_slots.specs.Slots.{Frame}
+use Rattle.rank_layers.proofs.JoinLemmas.{ok_both}
 use Rattle.rank_layers.proofs.PartLemmas.{moves_part, right_after, place_lent, output_of_part, within_itself, whole_from, keeps_from, rank_of_part}
 use Rattle.rank_layers.proofs.part.read_part.Goals as goal
 
 pub returns-in_default-2-clause-held : goal.returns-in_default-2-clause-held
 returns-in_default-2-clause-held g c = λ id j cell held.
     let same : c.in-Some.id ≡ id = same_Some c.in-Some.id id (sym c.in-Some.is ∙ cell) in
-    let found = c.in_ok-state.ensures.held (forgotten j c.args.asked.rank c.args.part.now.range) (ap (slice_get (g.R.Cells.holdings c.args.reader.now).slots) same ∙ held) refl (λ past. past) (within_itself c.args.part.now.range) in
-    absurd (none-some (forgotten j c.args.asked.rank c.args.part.now.range) (sym c.in_default-2.is ∙ found))
+    let found = c.in_ok-state.ensures.held (forgotten j c.args.query.rank c.args.part.now.range) (ap (slice_get (g.R.Cells.holdings c.args.reader.now).slots) same ∙ held) refl (λ past. past) (within_itself c.args.part.now.range) in
+    absurd (none-some (forgotten j c.args.query.rank c.args.part.now.range) (sym c.in_default-2.is ∙ found))
 
 pub serve-served-requires-clause-stands : goal.serve-served-requires-clause-stands
 serve-served-requires-clause-stands g c =
     let takes = MatchOption-at_some _ _ c.in-Some-2.state c.in-Some-2.is c.in_ok-state.ensures.taken in
     rank_of_part (g.R.Reader.list c.args.reader.now) (g.R.Reader.list c.lend.new.self) (g.R.Reader.floor c.args.reader.now) (g.R.Cells.holdings c.args.reader.now) (g.R.Cells.holdings c.lend.new.self)
-    c.in-Some.id c.args.asked.at c.args.asked.rank c.args.asked.p c.args.part.now.range c.in-Some-2.state c.requires.stands.0 takes c.in_ok-state.ensures.list c.requires.stands.1
+    c.in-Some.id c.args.query.at c.args.query.rank c.args.query.p c.args.part.now.range c.in-Some-2.state c.requires.stands.0 takes c.in_ok-state.ensures.list c.requires.stands.1
 
 pub give_back-requires-clause-lent : goal.give_back-requires-clause-lent
 give_back-requires-clause-lent g c =
     let takes = MatchOption-at_some _ _ c.in-Some-2.state c.in-Some-2.is c.in_ok-state.ensures.taken in
     place_lent (g.R.Reader.list c.args.reader.now) (g.R.Reader.floor c.args.reader.now) (g.R.Cells.holdings c.args.reader.now) (g.R.Cells.holdings c.lend.new.self) (g.R.Cells.holdings c.serve-served.new.reader)
-    c.in-Some.id c.args.asked.at c.args.asked.rank c.args.asked.p c.args.part.now.range c.in-Some-2.state c.serve-served.new.state takes
+    c.in-Some.id c.args.query.at c.args.query.rank c.args.query.p c.args.part.now.range c.in-Some-2.state c.serve-served.new.state takes
     (subst (λ t. Frame t (g.R.Cells.holdings c.lend.new.self) (g.R.Cells.holdings c.serve-served.new.reader)) c.requires.next (g.met.R.Cells.went_frame c.lend.new.self c.serve-served.new.reader c.serve-served.ensures.moves.on))
     c.serve-served.ensures.same
 
@@ -31,40 +33,35 @@ pub give_back-requires-clause-right : goal.give_back-requires-clause-right
 give_back-requires-clause-right g c =
     let takes = MatchOption-at_some _ _ c.in-Some-2.state c.in-Some-2.is c.in_ok-state.ensures.taken in
     let list = g.R.Reader.list in
-    right_after (list c.args.reader.now) (list c.serve-served.new.reader) c.args.asked.at c.in-Some-2.state c.serve-served.new.state
+    right_after (list c.args.reader.now) (list c.serve-served.new.reader) c.args.query.at c.in-Some-2.state c.serve-served.new.state
     (subst (λ l. IsPrefix l (list c.serve-served.new.reader)) c.in_ok-state.ensures.list c.serve-served.ensures.moves.kept) takes.right c.serve-served.ensures.same c.serve-served.ensures.sound
-
-pub returns-in_err-pairs-clause-moves : goal.returns-in_err-pairs-clause-moves
-returns-in_err-pairs-clause-moves g c =
-    let takes = MatchOption-at_some _ _ c.in-Some-2.state c.in-Some-2.is c.in_ok-state.ensures.taken in
-    moves_part g.R.Reader.list g.R.Reader.floor g.R.Reader.went g.R.Cells.holdings g.R.Reader.top c.args.asked.rank c.args.reader.now c.lend.new.self c.serve-served.new.reader c.give_back.new.self
-    c.in-Some.id c.args.asked.at c.args.asked.p c.args.part.now.range c.in-Some-2.state c.serve-served.new.state c.requires.next takes c.in_ok-state.ensures.list c.in_ok-state.ensures.same_floor
-    (g.met.R.Cells.went_frame c.lend.new.self c.serve-served.new.reader) c.serve-served.ensures.moves c.give_back.ensures.held c.give_back.ensures.list c.give_back.ensures.same_floor
 
 pub returns-clause-moves : goal.returns-clause-moves
 returns-clause-moves g c =
     let takes = MatchOption-at_some _ _ c.in-Some-2.state c.in-Some-2.is c.in_ok-state.ensures.taken in
-    moves_part g.R.Reader.list g.R.Reader.floor g.R.Reader.went g.R.Cells.holdings g.R.Reader.top c.args.asked.rank c.args.reader.now c.lend.new.self c.serve-served.new.reader c.give_back.new.self
-    c.in-Some.id c.args.asked.at c.args.asked.p c.args.part.now.range c.in-Some-2.state c.serve-served.new.state c.requires.next takes c.in_ok-state.ensures.list c.in_ok-state.ensures.same_floor
+    moves_part g.R.Reader.list g.R.Reader.floor g.R.Reader.went g.R.Cells.holdings g.R.Reader.top c.args.query.rank c.args.reader.now c.lend.new.self c.serve-served.new.reader c.give_back.new.self
+    c.in-Some.id c.args.query.at c.args.query.p c.args.part.now.range c.in-Some-2.state c.serve-served.new.state c.requires.next takes c.in_ok-state.ensures.list c.in_ok-state.ensures.same_floor
     (g.met.R.Cells.went_frame c.lend.new.self c.serve-served.new.reader) c.serve-served.ensures.moves c.give_back.ensures.held c.give_back.ensures.list c.give_back.ensures.same_floor
 
 pub returns-clause-output : goal.returns-clause-output
-returns-clause-output g c = λ j stands.
+returns-clause-output g c =
     let takes = MatchOption-at_some _ _ c.in-Some-2.state c.in-Some-2.is c.in_ok-state.ensures.taken in
-    MatchOption-at_some _ _ c.in-Some-3.pairs c.in-Some-3.is c.in_ok-pairs.ensures.served
+    IfOk-weaker c.serve-served.result _ _ (λ pairs is j stands.
+    is
     ∙ output_of_part (g.R.Reader.list c.args.reader.now) (g.R.Reader.list c.lend.new.self) (g.R.Reader.floor c.args.reader.now) (g.R.Cells.holdings c.args.reader.now) (g.R.Cells.holdings c.lend.new.self)
-    c.in-Some.id c.args.asked.at c.args.asked.rank c.args.asked.p c.args.part.now.range c.in-Some-2.state j takes c.in_ok-state.ensures.list stands.declared
+    c.in-Some.id c.args.query.at c.args.query.rank c.args.query.p c.args.part.now.range c.in-Some-2.state j takes c.in_ok-state.ensures.list stands.declared) c.serve-served.ensures.output
 
 pub returns-clause-held : goal.returns-clause-held
 returns-clause-held g c = λ id j cell held.
     let same : c.in-Some.id ≡ id = same_Some c.in-Some.id id (sym c.in-Some.is ∙ cell) in
-    let found = c.in_ok-state.ensures.held (forgotten j c.args.asked.rank c.args.part.now.range) (ap (slice_get (g.R.Cells.holdings c.args.reader.now).slots) same ∙ held) refl (λ past. past) (within_itself c.args.part.now.range) in
-    let is : c.in-Some-2.state ≡ forgotten j c.args.asked.rank c.args.part.now.range = same_Some c.in-Some-2.state (forgotten j c.args.asked.rank c.args.part.now.range) (sym c.in-Some-2.is ∙ found) in
+    let found = c.in_ok-state.ensures.held (forgotten j c.args.query.rank c.args.part.now.range) (ap (slice_get (g.R.Cells.holdings c.args.reader.now).slots) same ∙ held) refl (λ past. past) (within_itself c.args.part.now.range) in
+    let is : c.in-Some-2.state ≡ forgotten j c.args.query.rank c.args.part.now.range = same_Some c.in-Some-2.state (forgotten j c.args.query.rank c.args.part.now.range) (sym c.in-Some-2.is ∙ found) in
     let takes = MatchOption-at_some _ _ c.in-Some-2.state c.in-Some-2.is c.in_ok-state.ensures.taken in
     let frame = subst (λ t. Frame t (g.R.Cells.holdings c.lend.new.self) (g.R.Cells.holdings c.serve-served.new.reader)) c.requires.next (g.met.R.Cells.went_frame c.lend.new.self c.serve-served.new.reader c.serve-served.ensures.moves.on) in
+    ok_both c.serve-served.result _ _ _ (λ pairs ready clear.
     keeps_from (g.R.Reader.list c.args.reader.now) (g.R.Reader.floor c.args.reader.now) (g.R.Cells.holdings c.args.reader.now) (g.R.Cells.holdings c.lend.new.self) (g.R.Cells.holdings c.serve-served.new.reader) (g.R.Cells.holdings c.give_back.new.self)
-    c.in-Some.id c.args.asked.at c.args.asked.rank c.args.asked.p c.args.part.now.range c.in-Some-2.state c.serve-served.new.state takes frame c.give_back.ensures.held
-    (whole_from (g.R.Cells.holdings c.serve-served.new.reader) (g.R.Cells.holdings c.give_back.new.self) c.in-Some.id c.args.asked.at c.args.asked.rank c.args.asked.p c.args.part.now.range j c.in-Some-2.state c.serve-served.new.state is
+    c.in-Some.id c.args.query.at c.args.query.rank c.args.query.p c.args.part.now.range c.in-Some-2.state c.serve-served.new.state takes frame c.give_back.ensures.held
+    (whole_from (g.R.Cells.holdings c.serve-served.new.reader) (g.R.Cells.holdings c.give_back.new.self) c.in-Some.id c.args.query.at c.args.query.rank c.args.query.p c.args.part.now.range j c.in-Some-2.state c.serve-served.new.state is
     (place_lent (g.R.Reader.list c.args.reader.now) (g.R.Reader.floor c.args.reader.now) (g.R.Cells.holdings c.args.reader.now) (g.R.Cells.holdings c.lend.new.self) (g.R.Cells.holdings c.serve-served.new.reader)
-    c.in-Some.id c.args.asked.at c.args.asked.rank c.args.asked.p c.args.part.now.range c.in-Some-2.state c.serve-served.new.state takes frame c.serve-served.ensures.same) c.give_back.ensures.held c.serve-served.ensures.same
-    (subst (λ o. IfSome o (λ _. IsReady c.args.asked.p c.args.part.now.range c.serve-served.new.state)) c.in-Some-3.is c.in_ok-pairs.ensures.ready) c.in_ok-pairs.ensures.filled)
+    c.in-Some.id c.args.query.at c.args.query.rank c.args.query.p c.args.part.now.range c.in-Some-2.state c.serve-served.new.state takes frame c.serve-served.ensures.same) c.give_back.ensures.held c.serve-served.ensures.same
+    ready (λ nowhere. clear))) c.serve-served.ensures.ready (c.serve-served.ensures.filled (ap (λ (s : KeptRange). s.position) is))

@@ -1,10 +1,10 @@
-use Rattle.std.proofs.Common.{◌+◌, take, get_or, subst, arith}
+use Rattle.std.proofs.Common.{◌+◌, ◌≤◌, sym, take, get_or, subst, arith}
 use Rattle.semantics.specs.Histories.{joins_of}
 use Rattle.growing_history.proofs.PrefixLemmas.{prefix_length}
 use Rattle.layering.specs.Reached.{reached}
+use Rattle.join_eval.proofs.MovesLemmas.{moves_refl, moves_trans}
 use Rattle.rank_layers.specs.Telling.{TellsJoin}
 use Rattle.cell_slots.proofs.DeclaredLemmas.{stands_over}
-use Rattle.rank_layers.proofs.PartLemmas.{moves_on, moves_not}
 use Rattle.rank_layers.proofs.JoinLemmas.{listed_stands}
 use Rattle.rank_layers.proofs.TellingLemmas.{added_none, added_more, added_all, lists_over}
 use Rattle.rank_layers.proofs.telling.add_changes.Goals as goal
@@ -12,10 +12,13 @@ use Rattle.rank_layers.proofs.telling.add_changes.Goals as goal
 pub loop-at-init : goal.loop-at-init
 loop-at-init g c = record {
   lists = added_none (g.R.Reader.list c.args.reader.now) c.args.since c.args.p c.args.rank c.args.range.now (reached c.args.range.now c.args.rank (joins_of (take c.args.p (g.R.Reader.list c.args.reader.now)))) c.args.keys.items c.requires.ascends c.requires.inside;
-  moves = moves_not g.R.Reader.list g.R.Reader.floor g.R.Cells.holdings (c.args.rank + 1) c.args.reader.now;
+  moves = moves_refl g.R.Reader.list g.R.Reader.floor (g.C.RangeCache.left (c.args.rank + 1)) c.args.reader.now (g.met.C.RangeCache.left_refl (c.args.rank + 1) c.args.reader.now);
   entered = c.requires.entered;
   counted = omega arith;
 }
+
+pub tell_join-requires-clause-above : goal.tell_join-requires-clause-above
+tell_join-requires-clause-above g c = subst (λ n. n ≤ c.args.p) (sym c.loop-at.invariant.moves.same_floor) c.requires.above
 
 pub tell_join-requires-clause-within : goal.tell_join-requires-clause-within
 tell_join-requires-clause-within g c = omega (arith, c.requires.within, prefix_length (g.R.Reader.list c.args.reader.now) (g.R.Reader.list c.loop-at.reader) c.loop-at.invariant.moves.kept)
@@ -47,7 +50,7 @@ loop-at-preserved g c =
           c.args.keys.items c.loop-at.all.items c.in-Keys.more.items c.in_ok-all-in-Keys.all.items w.1 before.lists
           (lists_over (list c.args.reader.now) (list c.loop-at.reader) c.args.since c.args.p c.args.rank w.0.join c.args.range.now c.in-Keys.more.items c.requires.order c.requires.within before.moves.kept lists)
           c.in_ok-all-in-Keys.ensures.ascend c.in_ok-all-in-Keys.ensures.same;
-      moves = moves_on list g.R.Reader.floor g.R.Cells.holdings (c.args.rank + 1) c.args.reader.now c.loop-at.reader c.tell_join.new.reader before.moves c.tell_join.ensures.moves;
+      moves = moves_trans list g.R.Reader.floor (g.C.RangeCache.left (c.args.rank + 1)) c.args.reader.now c.loop-at.reader c.tell_join.new.reader (g.met.C.RangeCache.left_trans (c.args.rank + 1) c.args.reader.now c.loop-at.reader c.tell_join.new.reader) before.moves c.tell_join.ensures.moves;
       entered = c.tell_join.ensures.moves.entered before.entered;
       counted = omega (arith, before.counted, c.tell_join.ensures.counted);
     }
@@ -60,12 +63,12 @@ returns-clause-told g c =
 
 pub returns-in_err-more-clause-moves : goal.returns-in_err-more-clause-moves
 returns-in_err-more-clause-moves g c =
-    moves_on g.R.Reader.list g.R.Reader.floor g.R.Cells.holdings (c.args.rank + 1) c.args.reader.now c.loop-at.reader c.tell_join.new.reader c.loop-at.invariant.moves c.tell_join.ensures.moves
+    moves_trans g.R.Reader.list g.R.Reader.floor (g.C.RangeCache.left (c.args.rank + 1)) c.args.reader.now c.loop-at.reader c.tell_join.new.reader (g.met.C.RangeCache.left_trans (c.args.rank + 1) c.args.reader.now c.loop-at.reader c.tell_join.new.reader) c.loop-at.invariant.moves c.tell_join.ensures.moves
 
 pub returns-in_err-all-in-Keys-clause-moves : goal.returns-in_err-all-in-Keys-clause-moves
 returns-in_err-all-in-Keys-clause-moves g c =
-    moves_on g.R.Reader.list g.R.Reader.floor g.R.Cells.holdings (c.args.rank + 1) c.args.reader.now c.loop-at.reader c.tell_join.new.reader c.loop-at.invariant.moves c.tell_join.ensures.moves
+    moves_trans g.R.Reader.list g.R.Reader.floor (g.C.RangeCache.left (c.args.rank + 1)) c.args.reader.now c.loop-at.reader c.tell_join.new.reader (g.met.C.RangeCache.left_trans (c.args.rank + 1) c.args.reader.now c.loop-at.reader c.tell_join.new.reader) c.loop-at.invariant.moves c.tell_join.ensures.moves
 
 pub returns-in-All-clause-moves : goal.returns-in-All-clause-moves
 returns-in-All-clause-moves g c =
-    moves_on g.R.Reader.list g.R.Reader.floor g.R.Cells.holdings (c.args.rank + 1) c.args.reader.now c.loop-at.reader c.tell_join.new.reader c.loop-at.invariant.moves c.tell_join.ensures.moves
+    moves_trans g.R.Reader.list g.R.Reader.floor (g.C.RangeCache.left (c.args.rank + 1)) c.args.reader.now c.loop-at.reader c.tell_join.new.reader (g.met.C.RangeCache.left_trans (c.args.rank + 1) c.args.reader.now c.loop-at.reader c.tell_join.new.reader) c.loop-at.invariant.moves c.tell_join.ensures.moves

@@ -13,7 +13,7 @@ serve_alone-requires-clause-within g c =
     omega (arith, c.requires.within, prefix_length (g.R.Reader.list c.args.reader.now) (g.R.Reader.list c.join_at.new.self) c.join_at.ensures.moves.kept)
 
 pub serve_alone-requires-clause-above : goal.serve_alone-requires-clause-above
-serve_alone-requires-clause-above g c = subst (λ n. n ≤ c.args.asked.p) (sym (g.met.R.Stacked.no_floor c.join_at.new.self)) (omega arith)
+serve_alone-requires-clause-above g c = subst (λ n. n ≤ c.args.query.p) (sym (g.met.R.Stacked.no_floor c.join_at.new.self)) (omega arith)
 
 pub serve_alone-requires-clause-entered : goal.serve_alone-requires-clause-entered
 serve_alone-requires-clause-entered g c = c.join_at.ensures.moves.entered c.requires.entered
@@ -21,14 +21,14 @@ serve_alone-requires-clause-entered g c = c.join_at.ensures.moves.entered c.requ
 pub serve_alone-requires-clause-stands : goal.serve_alone-requires-clause-stands
 serve_alone-requires-clause-stands g c =
     let list = g.R.Reader.list in
-    ranked_over (list c.args.reader.now) (list c.join_at.new.self) c.args.asked.p c.args.asked.at c.args.asked.rank c.requires.stands.0 c.in_ok-join.join c.requires.within c.join_at.ensures.moves.kept
+    ranked_over (list c.args.reader.now) (list c.join_at.new.self) c.args.query.p c.args.query.at c.args.query.rank c.requires.stands.0 c.in_ok-join.join c.requires.within c.join_at.ensures.moves.kept
     c.requires.stands.1 c.in_ok-join.ensures.declared
 
 pub returns-clause-output : goal.returns-clause-output
 returns-clause-output g c =
     let list = g.R.Reader.list in
     IfOk-weaker c.serve_alone.result _ _ (λ pairs is.
-    output_alone (list c.args.reader.now) (list c.join_at.new.self) c.args.asked.p c.args.asked.at c.args.asked.rank c.in_ok-range.range c.args.part.now c.in_ok-join.join pairs.items c.requires.within c.join_at.ensures.moves.kept
+    output_alone (list c.args.reader.now) (list c.join_at.new.self) c.args.query.p c.args.query.at c.args.query.rank c.in_ok-range.range c.args.part.now c.in_ok-join.join pairs.items c.requires.within c.join_at.ensures.moves.kept
     c.in_ok-join.ensures.declared c.in_ok-range.ensures is) c.serve_alone.ensures.output
 
 pub returns-clause-moves : goal.returns-clause-moves

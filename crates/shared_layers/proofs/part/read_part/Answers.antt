@@ -3,7 +3,7 @@ use Rattle.std.proofs.lemmas.Result.{IfOk-weaker}
 use Rattle.growing_history.proofs.PrefixLemmas.{prefix_length}
 use Rattle.join_eval.proofs.MovesLemmas.{moves_trans}
 use Rattle.cell_slots.proofs.DeclaredLemmas.{stands_over}
-use Rattle.shared_layers.proofs.LayerLemmas.{output_over}
+use Rattle.rank_layers.proofs.JoinLemmas.{output_over}
 use Rattle.shared_layers.proofs.part.read_part.Goals as goal
 
 pub read_alone-requires-clause-within : goal.read_alone-requires-clause-within
@@ -16,13 +16,13 @@ read_alone-requires-clause-entered g c = c.read_cell.ensures.moves.entered c.req
 pub read_alone-requires-clause-stands : goal.read_alone-requires-clause-stands
 read_alone-requires-clause-stands g c =
     let list = g.R.Reader.list in
-    (c.requires.stands.0, stands_over (list c.args.reader.now) (list c.read_cell.new.reader) c.args.asked.p c.args.asked.at c.args.asked.rank c.requires.stands.0 c.requires.within c.read_cell.ensures.moves.kept c.requires.stands.1)
+    (c.requires.stands.0, stands_over (list c.args.reader.now) (list c.read_cell.new.reader) c.args.query.p c.args.query.at c.args.query.rank c.requires.stands.0 c.requires.within c.read_cell.ensures.moves.kept c.requires.stands.1)
 
 pub returns-clause-output : goal.returns-clause-output
 returns-clause-output g c =
     let list = g.R.Reader.list in
     IfOk-weaker c.read_alone.result _ _ (λ pairs is.
-    output_over (list c.args.reader.now) (list c.read_cell.new.reader) c.args.asked.p c.args.asked.at c.args.asked.rank c.args.part.now.range pairs.items c.requires.within c.read_cell.ensures.moves.kept is) c.read_alone.ensures.output
+    output_over (list c.args.reader.now) (list c.read_cell.new.reader) c.args.query.p c.args.query.at c.args.query.rank c.args.part.now.range pairs.items c.requires.within c.read_cell.ensures.moves.kept is) c.read_alone.ensures.output
 
 pub returns-clause-moves : goal.returns-clause-moves
 returns-clause-moves g c =

@@ -1,4 +1,4 @@
-use Rattle.std.proofs.Common.{◌≡◌, ◌<◌, length, List, refl, sym, ap, ◌∙◌, subst, arith}
+use Rattle.std.proofs.Common.{◌≡◌, ◌<◌, length, List, refl, sym, ap, subst, arith}
 use Rattle.std.proofs.lemmas.Result.{IfOk-weaker}
 use Rattle.semantics.specs.Texts.{Range as Bounds}
 use Rattle.layering.specs.Parts.{JoinTo}
@@ -10,8 +10,8 @@ use Rattle.cell_table.proofs.table.CellTable.cover.Goals as goal
 pub returns-then-are_too_many-clause-ready : goal.returns-then-are_too_many-clause-ready
 returns-then-are_too_many-clause-ready c =
     IfOk-weaker c.one_gap.result _ _ (λ parts is id not_empty lies.
-    let many : 1 < length c.as_slice.result.now = c.are_too_many.ensures.many c.if-are_too_many.true in
-    let one : length c.as_slice.result.now ≡ 1 = ap length (c.as_slice.ensures.value ∙ c.in_ok-parts.ensures.whole id not_empty lies) in
+    let many : 64 < length c.in_ok-parts.parts.items = c.are_too_many.ensures.many c.if-are_too_many.true in
+    let one : length c.in_ok-parts.parts.items ≡ 1 = ap length (c.in_ok-parts.ensures.whole id not_empty lies) in
     absurd (omega (arith, many, one))) c.one_gap.ensures
 
 pub returns-in-Pull-clause-ready : goal.returns-in-Pull-clause-ready

@@ -15,4 +15,4 @@ returns c =
     subst (λ (v : CoreWorld). IfOk c.rank_at.result (IsRankTo v c.args.cell c.args.to)) c.self.view_is
     (IfOk-weaker c.rank_at.result _ _ (λ found is.
     rank_to_from (record { world = world_of c.self.inside.reader.history c.self.inside.scans; cells = c.self.inside.reader.cells }) c.args.cell c.args.to c.in-Some-Held.at c.in-Some-Held.state found held right
-    (c.stands_past.ensures.no c.if-stands_past.false) (omega arith) is) c.rank_at.ensures)
+    (c.is_past.ensures.no c.if-is_past.false) (omega arith) is) c.rank_at.ensures)

@@ -13,23 +13,23 @@ use Rattle.shared_cells.proofs.cell.Cell.tell.Goals as goal
 
 pub tell-told-requires-clause-stands : goal.tell-told-requires-clause-stands
 tell-told-requires-clause-stands g c =
-    let lent = subst (λ o. IfSome o (IsLentFor c.lend.new.self c.args.asked.at c.args.asked.rank c.args.asked.p c.args.part.now)) c.in-Some.is c.in_ok-state.ensures.lent in
-    rank_of_lent c.lend.new.self (g.R.Reader.list c.args.reader.now) (g.R.Reader.list c.lend.new.reader) c.args.asked.at c.args.asked.rank c.args.asked.p c.args.part.now c.in-Some.state c.requires.stands.0
+    let lent = subst (λ o. IfSome o (IsLentFor c.lend.new.self c.args.query.at c.args.query.rank c.args.query.p c.args.part.now)) c.in-Some.is c.in_ok-state.ensures.lent in
+    rank_of_lent c.lend.new.self (g.R.Reader.list c.args.reader.now) (g.R.Reader.list c.lend.new.reader) c.args.query.at c.args.query.rank c.args.query.p c.args.part.now c.in-Some.state c.requires.stands.0
     c.requires.within c.lend.ensures.moves.kept c.lend.ensures.met lent c.requires.stands.1
 
 pub give_back-requires-clause-right : goal.give_back-requires-clause-right
 give_back-requires-clause-right g c =
     let list = g.R.Reader.list in
-    let lent = subst (λ o. IfSome o (IsLentFor c.lend.new.self c.args.asked.at c.args.asked.rank c.args.asked.p c.args.part.now)) c.in-Some.is c.in_ok-state.ensures.lent in
+    let lent = subst (λ o. IfSome o (IsLentFor c.lend.new.self c.args.query.at c.args.query.rank c.args.query.p c.args.part.now)) c.in-Some.is c.in_ok-state.ensures.lent in
     right_after (list c.lend.new.reader) (list c.tell-told.new.reader) c.lend.new.self.at c.in-Some.state c.tell-told.new.state c.tell-told.ensures.moves.kept
-    (right_of_lent c.lend.new.self (list c.lend.new.reader) c.args.asked.at c.args.asked.rank c.args.asked.p c.args.part.now c.in-Some.state c.lend.ensures.met lent)
+    (right_of_lent c.lend.new.self (list c.lend.new.reader) c.args.query.at c.args.query.rank c.args.query.p c.args.part.now c.in-Some.state c.lend.ensures.met lent)
     c.tell-told.ensures.same c.tell-told.ensures.sound
 
 pub returns-clause-told : goal.returns-clause-told
 returns-clause-told g c =
-    let lent = subst (λ o. IfSome o (IsLentFor c.lend.new.self c.args.asked.at c.args.asked.rank c.args.asked.p c.args.part.now)) c.in-Some.is c.in_ok-state.ensures.lent in
+    let lent = subst (λ o. IfSome o (IsLentFor c.lend.new.self c.args.query.at c.args.query.rank c.args.query.p c.args.part.now)) c.in-Some.is c.in_ok-state.ensures.lent in
     IfOk-weaker c.tell-told.result _ _ (λ told is j stands.
-    told_of_lent c.lend.new.self (g.R.Reader.list c.args.reader.now) (g.R.Reader.list c.lend.new.reader) c.args.asked.at c.args.asked.rank c.args.since c.args.asked.p c.args.part.now c.in-Some.state j told
+    told_of_lent c.lend.new.self (g.R.Reader.list c.args.reader.now) (g.R.Reader.list c.lend.new.reader) c.args.query.at c.args.query.rank c.args.since c.args.query.p c.args.part.now c.in-Some.state j told
     c.requires.order c.requires.within c.lend.ensures.moves.kept c.lend.ensures.met lent stands is) c.tell-told.ensures.told
 
 pub returns-clause-moves : goal.returns-clause-moves
@@ -50,8 +50,8 @@ pub returns-clause-brought : goal.returns-clause-brought
 returns-clause-brought g c = λ s can.
     let lent : c.in-Some.state ≡ s = same_Some c.in-Some.state s (sym c.in-Some.is ∙ c.in_ok-state.ensures.kept s can) in
     on_ok_weaker c.tell-told.result (λ brought.
-    subst (λ held. IsSomeAnd held (IsBroughtTo c.args.asked.p s)) (sym c.give_back.ensures.held)
-    (subst (λ (t : KeptRange). IsBroughtTo c.args.asked.p t c.tell-told.new.state) lent brought)) c.tell-told.ensures.brought
+    subst (λ held. IsSomeAnd held (IsBroughtTo c.args.query.p s)) (sym c.give_back.ensures.held)
+    (subst (λ (t : KeptRange). IsBroughtTo c.args.query.p t c.tell-told.new.state) lent brought)) c.tell-told.ensures.brought
 
 pub returns-clause-left : goal.returns-clause-left
 returns-clause-left g c = λ cannot. absurd (none-some c.in-Some.state (sym (c.in_ok-state.ensures.none cannot) ∙ c.in-Some.is))

@@ -2,7 +2,7 @@ use Rattle.std.proofs.Common.{refl, sym, subst}
 use Rattle.std.proofs.lemmas.Result.{IfOk-weaker}
 use Rattle.cell_slots.specs.Slots.{IsDeclared}
 use Rattle.base_reader.proofs.RankLemmas.{join_declared}
-use Rattle.shared_reader.proofs.VisibleLemmas.{given_joins}
+use Rattle.shared_reader.proofs.GivenLemmas.{given_joins}
 use Rattle.shared_reader.proofs.reader.SharedReaderStacked.join_at.Goals as goal
 
 pub returns-in-Some-clause-declared : goal.returns-in-Some-clause-declared

@@ -10,9 +10,9 @@ use Rattle.cell_table.proofs.table.CellTable.cover.Goals as goal
 pub returns-then-are_too_many-clause-ready : goal.returns-then-are_too_many-clause-ready
 returns-then-are_too_many-clause-ready c =
     IfOk-weaker c.one_gap.result _ _ (λ parts is id not_empty lies.
-    let many : 64 < length c.in_ok-parts.parts.items = c.are_too_many.ensures.many c.if-are_too_many.true in
+    let many : 64 < c.len.result = c.are_too_many.ensures.many c.if-are_too_many.true in
     let one : length c.in_ok-parts.parts.items ≡ 1 = ap length (c.in_ok-parts.ensures.whole id not_empty lies) in
-    absurd (omega (arith, many, one))) c.one_gap.ensures
+    absurd (omega (arith, many, one, c.len.ensures))) c.one_gap.ensures
 
 pub returns-in-Pull-clause-ready : goal.returns-in-Pull-clause-ready
 returns-in-Pull-clause-ready c = λ id not_empty lies. record { one = c.in_ok-parts.ensures.whole id not_empty lies; still = refl }

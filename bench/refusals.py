@@ -4,7 +4,7 @@
 Usage: bench/refusals.py PROGRAM
 
 PROGRAM is the built program. What is run: each file of requests and each script under examples/, and a server that two clients
-use at once. Needs a C compiler, `cc`, for the few lines that refuse. Some thousands of runs, a minute or two.
+use at once. Needs a C compiler, `cc`, for the few lines that refuse. Some thousands of runs, a few minutes.
 
 A run of requests is right where it ends with the status of memory and has written nothing, or where some lines are answered
 `memory` and the other replies are those that the program gives to the other lines alone. A run of a script is right where it ends
@@ -215,7 +215,7 @@ def main() -> int:
         for name, is_right in plans:
             count, wrong = tried(refuser, is_right)
             print(f"{name}: {count} refused in turn, wrong: {wrong or 'none'}", flush=True)
-            failed = failed or bool(wrong)
+            failed = failed or bool(wrong) or not count
     return int(failed)
 
 

@@ -2,3 +2,4 @@ pub mod PlacedLemmas
 pub mod FittingLemmas
 mod NeedLemmas
 mod OrderLemmas
+mod KeyLemmas

@@ -7,6 +7,7 @@
 // order take memory until `forget_order` is called, or needs are dropped or replaced.
 #![tactic(auto)]
 
+mod key_set;
 pub mod need;
 mod need_list;
 mod need_order;

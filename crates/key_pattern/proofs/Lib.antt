@@ -8,3 +8,6 @@ pub mod WalkLemmas
 pub mod RestLemmas
 pub mod NarrowingLemmas
 pub mod NarrowedLemmas
+pub mod SlotOrderLemmas
+pub mod AmongLemmas
+pub mod SlotPlaceLemmas

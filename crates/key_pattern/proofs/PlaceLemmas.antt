@@ -5,12 +5,12 @@ use Rattle.std.specs.Option.{option_copied, option_flatten}
 use Rattle.std.specs.String.{string_bytes}
 use Rattle.std.specs.declared.alloc.Global.{Global}
 use Rattle.std.proofs.lemmas.List.{length-set, length-map, length-take-le, map-set, get_or-map, take_more, take_all, take-map, same_lists}
-use Rattle.std.proofs.lemmas.Bool.{true≢false}
-use Rattle.std.proofs.lemmas.Option.{slice_get-get_or}
+use Rattle.std.proofs.lemmas.Bool.{cases_eq, true≢false}
+use Rattle.std.proofs.lemmas.Option.{none-some, slice_get-get_or}
 use Rattle.semantics.specs.Texts.{Text, has_bar}
 use Rattle.semantics.specs.Patterns.{Pattern, Slots, no_slots, text_at, is_pattern, segments, bind, Fits}
 use Rattle.semantics.proofs.BindLemmas.{text_at-set_cases, texts-no_slots, length-bind, texts_bind}
-use Rattle.semantics.proofs.PatternLemmas.{length-no_slots, bind_some, segments_of_pattern, take_segment_texts}
+use Rattle.semantics.proofs.PatternLemmas.{text_at-set_same, text_at-set_other, length-no_slots, bind_some, segments_of_pattern, take_segment_texts}
 use Rattle.key_pattern.specs.Places.{AreSlots, IsSegmentText, CanFill, lent_texts, owned_texts, padded}
 
 -- slots stay slots where a segment's text is given to a place
@@ -21,6 +21,20 @@ AreSlots-set given place text are is = record {
       (λ (q : (other ≡ place) × (text ≡ u)). (subst (λ v. nat_le 1 (length v) ≡ true) q.1 is.long, subst (λ v. has_bar v ≡ false) q.1 is.lacks))
       (λ at. are.texts other u at)
       (text_at-set_cases given place other text u e);
+}
+
+-- a text that is left after another one was taken away
+left_after : (given : Slots) (place other : ℕ) (u : Text) → place < length given → text_at other (slice_set given place None) ≡ Some u → text_at other given ≡ Some u
+left_after given place other u less e = ⊎_elim
+    (λ (q : other ≡ place). absurd (none-some u (sym (text_at-set_same given place None less) ∙ ap (λ k. text_at k (slice_set given place None)) (sym q) ∙ e)))
+    (λ q. sym (text_at-set_other given place other None q) ∙ e)
+    (cases_eq other place)
+
+-- and where the text at a place is taken away
+pub AreSlots-clear : (given : Slots) (place : ℕ) → place < 16 → AreSlots given → AreSlots (slice_set given place None)
+AreSlots-clear given place less are = record {
+  places = length-set given place None ∙ are.places;
+  texts = λ other u e. are.texts other u (left_after given place other u (omega (arith, are.places)) e);
 }
 
 -- no slots are slots

@@ -4,3 +4,5 @@ pub mod Pieces
 pub mod Shared
 pub mod Fixed
 pub mod Narrowing
+pub mod SlotOrder
+pub mod SlotPlaces

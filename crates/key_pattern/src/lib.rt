@@ -10,6 +10,8 @@ mod narrowing;
 pub mod pattern;
 mod ranging;
 pub mod segment;
+mod slot_order;
+mod slot_places;
 pub mod slots;
 
 pub use pattern::Pattern;

@@ -1,5 +1,5 @@
 // Texts for the slots of patterns, by place.
-ghost use Rattle.std.specs.Prelude.{◌≡◌, ◌↔◌, IfOk, IsTrue, IsSome, Some, ◌<◌, ◌≤◌, ◌+◌, ℕ, take, slice_set, option_map, true};
+ghost use Rattle.std.specs.Prelude.{◌≡◌, ◌↔◌, IfOk, IsTrue, IsSome, Some, None, ◌<◌, ◌≤◌, ◌+◌, ℕ, take, slice_set, option_map, true};
 ghost use Rattle.std.specs.Option.{option_copied};
 ghost use Rattle.std.specs.String.{string_bytes};
 ghost use Rattle.semantics.specs.Patterns.{no_slots, text_at, is_segment};
@@ -81,6 +81,14 @@ impl<'a> Slots<'a> {
         ensures { self.new ≡ slice_set self.old place (Some text.now) }
     {
         self.texts[usize::from(place)] = Some(text);
+    }
+
+    /// Leaves no text at the place.
+    pub(crate) fn clear(&mut self, place: u8)
+        requires { place < 16 }
+        ensures { self.new ≡ slice_set self.old place None }
+    {
+        self.texts[usize::from(place)] = None;
     }
 
     /// The texts at the places of the slots of `out`, and no text at any other place. Linear in the segments of `out`,

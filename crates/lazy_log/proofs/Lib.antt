@@ -1,1 +1,2 @@
 pub mod PendingLemmas
+mod IndexLemmas

@@ -1,3 +1,4 @@
 pub mod Pending
 pub mod Held
 pub mod Laws
+pub mod Index

@@ -5,6 +5,7 @@
 // question takes memory.
 #![tactic(auto)]
 
+mod index;
 pub mod laws;
 pub mod log;
 

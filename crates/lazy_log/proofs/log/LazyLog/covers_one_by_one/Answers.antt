@@ -7,7 +7,7 @@ use Rattle.semantics.specs.Patterns.{Slots, bind}
 use Rattle.lazy_log.specs.Pending.{PendingSlots}
 use Rattle.lazy_log.specs.declared.log.Noted.{Noted}
 use Rattle.lazy_log.proofs.PendingLemmas.{any_noted}
-use Rattle.lazy_log.proofs.log.LazyLog.covers.Goals as goal
+use Rattle.lazy_log.proofs.log.LazyLog.covers_one_by_one.Goals as goal
 
 pub returns : goal.returns
 returns c =

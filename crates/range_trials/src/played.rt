@@ -113,6 +113,11 @@ d|1
 h|1=W
 d|1=";
 
+const AGAIN: &str =
+    "o|<k> = check a|<k> check a|<k> check a|<k> check a|<k> check a|<k> check a|<k> check a|<k> copy a|<k>
+a|1=V
+a|2=W";
+
 /// A history by its lines, the bounds of the range that is kept, calls, and what they answer.
 struct Row {
     lines: &'static str,
@@ -122,7 +127,15 @@ struct Row {
     wanted: &'static str,
 }
 
-const ROWS: [Row; 18] = [
+const ROWS: [Row; 19] = [
+    Row {
+        // Three for both keys together, and two for each key, whose range is read once of seven times.
+        lines: AGAIN,
+        low: "o|",
+        high: "o}",
+        script: "fill 3, count, read",
+        wanted: " 7; o|1=V o|2=W;",
+    },
     Row {
         lines: DROPPED,
         low: "t|ann|",
@@ -389,6 +402,38 @@ fn worked_narrow_steps(rt: HostRuntime) -> Result<(), Fail> {
     let script = "fill 102, count, advance 103, count, advance 104, count, forget, fill 104, count";
     let shown = play::<Brand>(&rt, alloc, told, (&range, &range, script), Blank::new(1))?;
     assert_eq!(rt; shown.as_str(), " 13; 2; 5; 13;");
+    Ok(())
+}
+
+/// Where many slots are pending, a new value goes to the one row that they do not cover; the others are found when they are
+/// mended.
+#[test]
+fn worked_pending(rt: HostRuntime) -> Result<(), Fail> {
+    let alloc = rt.alloc();
+    let mut lines = String::new(alloc);
+    let mut later = String::new(alloc);
+    let mut wanted = String::new(alloc);
+    lines.push_str(
+        "t|<u>|<k> = check s|<u>|<g> check g|<g>|<k> copy p|<k>\ng|a|1=\np|1=Hi\ns|zoe|a=1\n",
+    )?;
+    // For the fill one and one for each of 41 users, and two for the one group and for the one value, which are read once. For the
+    // advance one for the need of users and one for each of 40 keys, one for each need of the group, two for each of the value, and
+    // two to read that. For the mend of each of 40 users three for both groups, two for what the one has, two for the value, and one
+    // for what the other has.
+    wanted.push_str(" 46; 166; 320;")?;
+    for number in 10..50_u64 {
+        lines.push_str(format!(in alloc; "s|u{number}|a=1\n")?.as_str())?;
+        later.push_str(format!(in alloc; "s|u{number}|b=1\n")?.as_str())?;
+        wanted.push_str(format!(in alloc; " t|u{number}|1=Ho")?.as_str())?;
+    }
+    lines.push_str(later.as_str())?;
+    lines.push_str("p|1=Ho\n")?;
+    wanted.push_str(" t|zoe|1=Ho;")?;
+    let range = read_range(&rt, alloc, "t|", "t}");
+    let told = tell(&rt, alloc, lines.as_str())?;
+    let script = "fill 44, count, advance 85, count, mend, count, read";
+    let shown = play::<Brand>(&rt, alloc, told, (&range, &range, script), Blank::new(1))?;
+    assert_eq!(rt; shown.as_str(), wanted.as_str());
     Ok(())
 }
 

@@ -27,7 +27,7 @@ use Rattle.base_versions.specs.declared.changes.Change.{Change}
 -- ---- tables in a map
 
 -- a look-up by text finds the table of the name
-lookup_named : {A : Type 0} (q : Text) (es : List (String A × TableKept)) → lookup (is_at (text_cmp q)) (named es) ≡ lookup (is_at (λ k. slice_cmp nat_cmp q (string_bytes k))) es
+pub lookup_named : {A : Type 0} (q : Text) (es : List (String A × TableKept)) → lookup (is_at (text_cmp q)) (named es) ≡ lookup (is_at (λ k. slice_cmp nat_cmp q (string_bytes k))) es
 lookup_named q [] = refl
 lookup_named q (e ∷ es) = ap (cond (is_eq (slice_cmp nat_cmp q (string_bytes e.0))) (Some e.1)) (lookup_named q es)
 
@@ -57,7 +57,7 @@ set-from_updates name table m n u = λ q.
     ∙ found_either (same name q) table (get_by_text m q)
     ∙ ap (λ x. cond (same name q) table (unwrap_or x empty_table)) (sym (lookup_named q m.entries))
 
-here : (name : Text) (table : TableKept) (old new : Tables) → IsSetTable name table old new → table_among name new ≡ table
+pub here : (name : Text) (table : TableKept) (old new : Tables) → IsSetTable name table old new → table_among name new ≡ table
 here name table old new set = set name ∙ ap (λ b. cond b table (table_among name old)) (same_by_equal name name refl)
 
 elsewhere : (name q : Text) (table : TableKept) (old new : Tables) → IsSetTable name table old new → same name q ≡ false → table_among q new ≡ table_among q old
@@ -127,7 +127,7 @@ stands-nil kept position tables =
     }
 
 -- a table of the one shard is of the other
-same_shard : (old new : Kept) (table : Text) → new.shard ≡ old.shard → new.shards ≡ old.shards → has_table new table ≡ true → has_table old table ≡ true
+pub same_shard : (old new : Kept) (table : Text) → new.shard ≡ old.shard → new.shards ≡ old.shards → has_table new table ≡ true → has_table old table ≡ true
 same_shard old new table shard shards own =
     ap (λ n. shard_of n table == old.shard) (sym shards) ∙ ap (λ n. shard_of new.shards table == n) (sym shard) ∙ own
 
@@ -205,7 +205,7 @@ more_changes position key value old new table false e change own =
 
 -- one position further
 abbrev pub raised : Kept → Kept
-raised kept = record { shard = kept.shard; shards = kept.shards; position = kept.position + 1; tables = kept.tables }
+raised kept = record { shard = kept.shard; shards = kept.shards; start = kept.start; position = kept.position + 1; tables = kept.tables }
 
 -- a write that gives a key a value, or none
 abbrev pub Gives : Write → Text → Option Text → Type 0

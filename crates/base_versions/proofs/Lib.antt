@@ -1,9 +1,12 @@
 pub mod PositionLemmas
 pub mod VersionLemmas
+pub mod TrimLemmas
 pub mod ChangeLemmas
 pub mod OrderLemmas
 pub mod MapLemmas
 pub mod StandsLemmas
 pub mod EnterLemmas
+pub mod TableTrims
+pub mod OwnLemmas
 pub mod ChangedLemmas
 pub mod NewestLemmas

@@ -19,7 +19,7 @@ abbrev pub IsSet : Text → List Version → Tracks → Tracks → Type 0
 IsSet key vs old new = (q : Text) → lookup (is_at (text_cmp q)) new ≡ cond (is_at (text_cmp key) q) (Some vs) (lookup (is_at (text_cmp q)) old)
 
 -- a key that is the same, or another
-set_by : (key : Text) (vs : List Version) (old new : Tracks) (q : Text) (b : Bool) → same key q ≡ b → IsSet key vs old new → versions_at q new ≡ cond b vs (versions_at q old)
+pub set_by : (key : Text) (vs : List Version) (old new : Tracks) (q : Text) (b : Bool) → same key q ≡ b → IsSet key vs old new → versions_at q new ≡ cond b vs (versions_at q old)
 set_by key vs old new q true e set = ap (λ o. unwrap_or o []) (set q ∙ ap (λ x. cond x (Some vs) (lookup (is_at (text_cmp q)) old)) (sym (same_is_tie key q) ∙ e))
 set_by key vs old new q false e set = ap (λ o. unwrap_or o []) (set q ∙ ap (λ x. cond x (Some vs) (lookup (is_at (text_cmp q)) old)) (sym (same_is_tie key q) ∙ e))
 

@@ -1,5 +1,5 @@
 -- Lists in order of position, and where they are cut.
-use Rattle.std.proofs.Common.{◌≡◌, ℕ, zero, suc, ◌+◌, ◌<◌, ◌≤◌, List, [], ◌∷◌, ◌++◌, length, length-append, append_assoc, subst, take, drop, filter, nat_le, get_or, Bool, true, false, cond, not, refl, sym, ap, ◌∙◌, arith}
+use Rattle.std.proofs.Common.{◌≡◌, ℕ, zero, suc, ◌+◌, ◌-◌, ◌<◌, ◌≤◌, List, [], ◌∷◌, ◌++◌, length, length-append, append_assoc, subst, take, drop, filter, nat_le, get_or, Bool, true, false, cond, not, refl, sym, ap, ◌∙◌, arith}
 use Rattle.std.proofs.Math.Seq.{take-nil}
 use Rattle.std.proofs.lemmas.Bool.{le-leb, leb-true}
 use Rattle.std.proofs.lemmas.Bool.Decides.{nat_tests}
@@ -69,6 +69,13 @@ dropped-cut test [] zero c = refl
 dropped-cut test [] (suc n) c = refl
 dropped-cut test (x ∷ xs) zero c = let w = cut_none test x xs c in sym (kept_some (not (test x)) x (filter (λ y. not (test y)) xs) xs (ap not w.0) (sym (dropped-cut test xs zero w.1)))
 dropped-cut test (x ∷ xs) (suc n) c = let w = cut_some test x xs n c in sym (kept_none (not (test x)) x (filter (λ y. not (test y)) xs) (drop n xs) (ap not w.0) (sym (dropped-cut test xs n w.1)))
+
+-- without some first elements it is cut so many places earlier
+pub cut_drop : {X : Type 0} (test : X → Bool) (xs : List X) (n m : ℕ) → IsCut test xs m → IsCut test (drop n xs) (m - n)
+cut_drop test xs zero m c = subst (IsCut test xs) (omega arith) c
+cut_drop test [] (suc n) m c = ((λ k d h g. c.0 k d h (omega arith)), (λ k d h g. absurd (omega arith)))
+cut_drop test (x ∷ xs) (suc n) zero c = subst (IsCut test (drop n xs)) (omega arith) (cut_drop test xs n zero (cut_none test x xs c).1)
+cut_drop test (x ∷ xs) (suc n) (suc m) c = subst (IsCut test (drop n xs)) (omega arith) (cut_drop test xs n m (cut_some test x xs m c).1)
 
 -- ---- what the writes of entries make
 

@@ -1,5 +1,5 @@
 -- The versions of a key, and the base pair at it.
-use Rattle.std.proofs.Common.{◌≡◌, ℕ, zero, suc, ◌+◌, ◌-◌, ◌<◌, ◌≤◌, List, [], ◌∷◌, ◌++◌, length, take, fold, drop, nat_le, Bool, true, false, ◌||◌, cond, not, slice_get, option_and_then, Option, Some, None, refl, sym, ap, ◌∙◌, ⊎_elim, arith}
+use Rattle.std.proofs.Common.{◌≡◌, ℕ, zero, suc, ◌+◌, ◌-◌, ◌<◌, ◌≤◌, List, [], ◌∷◌, ◌++◌, length, take, fold, drop, get_or, nat_le, Bool, true, false, ◌||◌, cond, not, slice_get, Option, Some, None, refl, sym, ap, ◌∙◌, ⊎_elim, arith}
 use Rattle.std.proofs.Math.Seq.{take-nil}
 use Rattle.std.proofs.lemmas.Bool.Decides.{nat_tests}
 use Rattle.std.proofs.lemmas.Bool.{cases_lt, false_from_ne_true, le-leb, leb-true}
@@ -157,17 +157,19 @@ taken_last p value (v ∷ vs) (suc n) c =
     let w = cut_some (λ v. nat_le v.position p) v vs n c in
     ap (λ b. fold (taken p) (cond b v.value value) vs) w.0 ∙ taken_last p v.value vs n w.1
 
--- the last value, by its place
-last_by_place : (vs : List Version) → last_value None vs ≡ option_and_then (λ v. v.value) (slice_get vs (length vs - 1))
-last_by_place [] = refl
-last_by_place (v ∷ []) = refl
-last_by_place (v ∷ w ∷ vs) =
-    let n : length (v ∷ w ∷ vs) - 1 ≡ suc (length (w ∷ vs) - 1) = omega arith in
-    last_by_place (w ∷ vs) ∙ ap (λ k. option_and_then (λ (x : Version). x.value) (slice_get (v ∷ w ∷ vs) k)) (sym n)
+-- the last of some first versions has the last value
+last_at : (value : Option Text) (vs : List Version) (n : ℕ) (v : Version) → n < length vs → v ≡ get_or vs n v → last_value value (take (suc n) vs) ≡ v.value
+last_at value [] n v h e = absurd (omega arith)
+last_at value (x ∷ xs) zero v h e = ap (λ (w : Version). w.value) (sym e)
+last_at value (x ∷ xs) (suc n) v h e = last_at x.value xs n v (omega arith) e
 
--- what stands at a key after p entries is the last value before the cut
-pub value_in-cut : (p : ℕ) (vs : List Version) (n : ℕ) → IsCut (λ v. nat_le v.position p) vs n → value_in p vs ≡ option_and_then (λ v. v.value) (slice_get (take n vs) (length (take n vs) - 1))
-value_in-cut p vs n c = taken_last p None vs n c ∙ last_by_place (take n vs)
+-- what stands at a key after p entries is the value of the last version before the cut
+pub value_in-cut : (p : ℕ) (vs : List Version) (n : ℕ) (v : Version) → n < length vs → IsCut (λ v. nat_le v.position p) vs (suc n) → v ≡ get_or vs n v → v.value ≡ value_in p vs
+value_in-cut p vs n v h c e = sym (taken_last p None vs (suc n) c ∙ last_at None vs n v h e)
+
+-- there is nothing where no version is before it
+pub value_in-early : (p : ℕ) (vs : List Version) → IsCut (λ v. nat_le v.position p) vs 0 → None ≡ value_in p vs
+value_in-early p vs c = sym (taken_last p None vs 0 c)
 
 -- ---- the first version after a cut
 
@@ -175,6 +177,18 @@ value_in-cut p vs n c = taken_last p None vs n c ∙ last_by_place (take n vs)
 abbrev pub is_up_to : ℕ → Option Version → Bool
 is_up_to p None = false
 is_up_to p (Some v) = nat_le v.position p
+
+-- the first version that is left without some first ones
+pub first_left : (n : ℕ) (vs : List Version) (v : Version) → n < length vs → v ≡ get_or vs n v → slice_get (drop n vs) 0 ≡ Some v
+first_left n [] v h e = absurd (omega arith)
+first_left zero (x ∷ xs) v h e = ap Some (sym e)
+first_left (suc n) (x ∷ xs) v h e = first_left n xs v (omega arith) e
+
+pub none_left : (n : ℕ) (vs : List Version) → length vs ≤ n → slice_get (drop n vs) 0 ≡ None
+none_left zero [] h = refl
+none_left zero (x ∷ xs) h = absurd (omega arith)
+none_left (suc n) [] h = refl
+none_left (suc n) (x ∷ xs) h = none_left n xs (omega arith)
 
 -- of versions after p none is between
 none_between : (q p low : ℕ) (vs : List Version) → p < low → AscendFrom low vs → has_between q p vs ≡ false

@@ -8,9 +8,9 @@ use Rattle.std.specs.Option.{unwrap_or}
 use Rattle.semantics.specs.Texts.{Text, same, table_of, text_cmp, Range, within}
 use Rattle.semantics.specs.Histories.{History}
 use Rattle.base_versions.specs.declared.changes.Change.{Change}
-use Rattle.base_versions.specs.Versions.{Tracks, SayFrom, keys_changed, versions_at, versions_of, AddsVersion, KeepsVersions}
+use Rattle.base_versions.specs.Versions.{Tracks, SayFrom, keys_changed, versions_at, versions_of, AddsVersion, KeepsVersions, TrimsTracks}
 use Rattle.base_versions.specs.Changes.{changes_of, changed_in}
-use Rattle.base_versions.specs.Positions.{IsKeptSince}
+use Rattle.base_versions.specs.Positions.{IsKeptSince, KeepsTo}
 
 -- of one table: the versions of its keys, and its changes in order
 pub record TableKept : Type 0 where
@@ -30,10 +30,11 @@ Tables = List (Text × TableKept)
 abbrev pub named : {A : Type 0} → List (String A × TableKept) → Tables
 named ts = map (λ t. (string_bytes t.0, t.1)) ts
 
--- of the tables of one shard: which shard, of how many, the number of entries, and what is kept of each table
+-- of the tables of one shard: which shard, of how many, from which position on, the number of entries, and what is kept of each table
 pub record Kept : Type 0 where
   pub shard : ℕ
   pub shards : ℕ
+  pub start : ℕ
   pub position : ℕ
   pub tables : Tables
 
@@ -59,6 +60,11 @@ pub record IsEntered (position : ℕ) (key : Text) (value : Option Text) (old ne
 pub record IsKept (old new : Tables) : Type 0 where
   pub versions : (table : Text) → KeepsVersions (table_among table old).tracks (table_among table new).tracks
   pub changes : (table : Text) → (table_among table new).changes ≡ (table_among table old).changes
+
+-- whatever each table said from a start on, the new ones say from a later position on
+pub record IsTrimmedTo (to : ℕ) (old new : Tables) : Type 0 where
+  pub versions : (table : Text) → TrimsTracks to (table_among table old).tracks (table_among table new).tracks
+  pub changes : (table : Text) → KeepsTo (λ c. c.position) to (table_among table old).changes (table_among table new).changes
 
 -- of which of so many shards a table is: the sum of its name's bytes says it
 abbrev pub shard_of : ℕ → Text → ℕ

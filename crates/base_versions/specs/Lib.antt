@@ -2,4 +2,5 @@ pub mod Positions
 pub mod Versions
 pub mod Changes
 pub mod Kept
+pub mod Own
 pub mod Laws

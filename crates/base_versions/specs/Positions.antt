@@ -23,3 +23,7 @@ pub record IsKeptSince {X : Type 0} (position : X → ℕ) (start : ℕ) (kept a
   pub within : count ≤ length all
   pub rest : kept ≡ drop count all
   pub early : AllByRecursion (λ x. position x ≤ start) (take count all)
+
+-- whatever was kept of a list since a start, the new list is what is kept of it since a later position
+abbrev pub KeepsTo : {X : Type 0} → (X → ℕ) → ℕ → List X → List X → Type 0
+KeepsTo position to old new = (start : ℕ) (all : List _) → start ≤ to → IsKeptSince position start old all → IsKeptSince position to new all

@@ -1,5 +1,5 @@
 -- The versions of a key: what it was given, and at which positions.
-use Rattle.std.specs.Prelude.{◌≡◌, ℕ, ◌≤◌, List, [], ◌∷◌, ◌++◌, Bool, map, filter, filter_map, fold, nat_le, if◌then◌else◌, Option, Some, None, option_map}
+use Rattle.std.specs.Prelude.{◌≡◌, ◌⊎◌, ℕ, ◌+◌, ◌<◌, ◌≤◌, length, take, drop, List, [], ◌∷◌, ◌++◌, Bool, map, filter, filter_map, fold, nat_le, if◌then◌else◌, Option, Some, None, option_map}
 use Rattle.std.specs.List.{AllByRecursion, list_any}
 use Rattle.std.specs.BTreeMap.{is_at}
 use Rattle.std.specs.Map.{lookup}
@@ -37,6 +37,16 @@ AscendFrom low versions = AscendBy (λ v. v.position) low versions
 pub record SayFrom (start : ℕ) (kept all : List Version) : Type 0 where
   pub since : IsKeptSince (λ v. v.position) start kept all
   pub values : (p : ℕ) → start ≤ p → value_in p kept ≡ value_in p all
+
+-- whatever the versions of a key said from a start on, the new ones say from a later position on
+abbrev pub TrimsTo : ℕ → List Version → List Version → Type 0
+TrimsTo to old new = (start : ℕ) (all : List Version) → start ≤ to → SayFrom start old all → SayFrom to new all
+
+-- some first versions are left out, behind which comes one that is not after a position
+pub record IsTrimmed (to : ℕ) (old new : List Version) : Type 0 where
+  pub count : ℕ
+  pub is : new ≡ drop count old
+  pub rest : (count ≡ 0) ⊎ ((count < length old) × AllByRecursion (λ v. v.position ≤ to) (take (count + 1) old))
 
 -- the versions of several keys, in the order of the keys
 abbrev pub Tracks : Type 0
@@ -77,3 +87,7 @@ AddsVersion key version old new = (q : Text) → versions_at q new ≡ (if same 
 -- each key has the same versions
 abbrev pub KeepsVersions : Tracks → Tracks → Type 0
 KeepsVersions old new = (q : Text) → versions_at q new ≡ versions_at q old
+
+-- whatever the versions of each key said from a start on, the new ones say from a later position on, if they ascend
+abbrev pub TrimsTracks : ℕ → Tracks → Tracks → Type 0
+TrimsTracks to old new = (q : Text) → AscendFrom 0 (versions_at q old) → TrimsTo to (versions_at q old) (versions_at q new)

@@ -1,41 +1,48 @@
-// The base pairs of the tables of one shard, at every position.
-ghost use Rattle.std.specs.Prelude.{◌≡◌, ℕ, ◌+◌, ◌^◌, ◌<◌, ◌≤◌, [], ◌∷◌, ◌++◌, IfOk, OnOk, OnErr, length, option_copied, take, true};
-ghost use Rattle.semantics.specs.Texts.{pairs_within, table_of, value_at};
+// The base pairs of the tables of one shard, at every position from its start to its own.
+ghost use Rattle.std.specs.Prelude.{◌≡◌, ℕ, ◌+◌, ◌^◌, ◌<◌, ◌≤◌, [], ◌∷◌, ◌++◌, IfOk, IfSome, OnOk, OnErr, length, option_copied, take, true};
+ghost use Rattle.semantics.specs.Texts.{Text, pairs_within, table_of, value_at};
 ghost use Rattle.semantics.specs.Histories.{History, base_of};
 ghost use Rattle.growing_history.specs.Changes.{changed_keys};
-ghost use Rattle.base_versions.specs.Kept.{StandsFor, HasEnteredInPart, IsChanged, IsEntered, IsKept, has_table, named, shard_of};
+ghost use Rattle.join_types.specs.Writes.{plain_write};
+ghost use Rattle.base_versions.specs.Own.{AreOwn, shard_written};
+ghost use Rattle.base_versions.specs.Kept.{StandsFor, HasEnteredInPart, IsChanged, IsEntered, IsKept, IsTrimmedTo, empty_table, has_table, named, shard_of, table_among};
 
+use crate::changes::{Change, take_early};
+use crate::placed::Placed;
 use crate::table::TableVersions;
 use join_types::{Entry, Pair, Write};
 use key_space::{Key, Range, Value};
 use out_of_memory::OutOfMemory;
 use std::alloc::Global;
-use std::collections::BTreeMap;
+use std::collections::{BTreeMap, VecDeque};
 use std::marker::Model;
 use std::sync::ledger::Ledger;
 use steps::Steps;
 
-/// The base pairs of some tables at every position from 0 to its own: of those whose name's bytes have a sum that is,
+/// The base pairs of some tables at every position from its start to its own: of those whose name's bytes have a sum that is,
 /// modulo the number of shards, the number of its shard. It keeps no entries, but for each key the versions that the
-/// entries gave it, and for each table the keys that were put or removed, in order.
+/// entries gave it, and for each table the keys that were put or removed, in order. Trimming it lets go what is older than a
+/// position, but for what still stands there.
 #[derive(Debug, Drop)]
 pub struct BaseVersions {
     alloc: Global,
     shard: u8,
     shards: u8,
+    start: u64,
     position: u64,
     tables: BTreeMap<String, TableVersions>,
+    entered: VecDeque<Change>,
 }
 
 impl Model for BaseVersions {
-    ghost use Rattle.std.specs.Prelude.{◌<◌, ◌^◌};
+    ghost use Rattle.std.specs.Prelude.{◌<◌, ◌≤◌, ◌^◌};
     ghost use Rattle.base_versions.specs.Kept.{Kept, named};
 
     ghost Value = { Kept };
 
-    ghost view = { λ b. record { shard = b.shard; shards = b.shards; position = b.position; tables = named b.tables.entries } };
+    ghost view = { λ b. record { shard = b.shard; shards = b.shards; start = b.start; position = b.position; tables = named b.tables.entries } };
 
-    ghost invariant = { λ b. (b.shard < b.shards) × (b.position < 2 ^ 48) };
+    ghost invariant = { λ b. (b.shard < b.shards) × (b.position < 2 ^ 48) × (b.start ≤ b.position) };
 }
 
 impl BaseVersions {
@@ -43,6 +50,7 @@ impl BaseVersions {
     pub fn new(alloc: Global, shard: u8, shards: u8) -> BaseVersions
         requires { shard < shards }
         ensures none { StandsFor 0 result [] }
+        ensures start { result.start ≡ 0 }
         ensures shard { result.shard ≡ shard }
         ensures shards { result.shards ≡ shards }
     {
@@ -50,8 +58,10 @@ impl BaseVersions {
             alloc,
             shard,
             shards,
+            start: 0,
             position: 0,
             tables: BTreeMap::new(alloc),
+            entered: VecDeque::new(alloc),
         }
     }
 
@@ -63,6 +73,14 @@ impl BaseVersions {
         self.position
     }
 
+    /// The position to which it was trimmed: from there on up to its own it knows the base pairs.
+    pub fn start(&self) -> u64
+        ensures start { result ≡ self.now.start }
+        ensures within { result ≤ self.now.position }
+    {
+        self.start
+    }
+
     /// The entries enter, which follow its position. Each costs a look-up of its table and of its key.
     ///
     /// On `OutOfMemory` some first entries have entered, each of them whole.
@@ -70,6 +88,7 @@ impl BaseVersions {
         requires { self.old.position + length entries.now < 2 ^ 48 }
         ensures ok { OnOk result ((start : ℕ) (h : History) → StandsFor start self.old h → StandsFor start self.new (h ++ entries.now)) }
         ensures position { OnOk result (self.new.position ≡ self.old.position + length entries.now) }
+        ensures start { self.new.start ≡ self.old.start }
         ensures shard { self.new.shard ≡ self.old.shard }
         ensures shards { self.new.shards ≡ self.old.shards }
         ensures err { OnErr result (HasEnteredInPart self.old entries.now self.new) }
@@ -80,8 +99,39 @@ impl BaseVersions {
         Ok(())
     }
 
+    /// The entries up to a position enter, which follow its own, and of which it is given those that put or remove keys of its
+    /// tables. Each of these costs a look-up of its table and of its key, and the others nothing.
+    ///
+    /// On `OutOfMemory` some first entries have entered, each of them whole.
+    pub fn advance_own(&mut self, own: &[Placed], to: u64) -> Result<(), OutOfMemory>
+        requires own { (es : History) × AreOwn self.old to own.now es }
+        requires room { to < 2 ^ 48 }
+        ensures ok { OnOk result ((es : History) → AreOwn self.old to own.now es → (start : ℕ) (h : History) → StandsFor start self.old h → StandsFor start self.new (h ++ es)) }
+        ensures position { OnOk result (self.new.position ≡ to) }
+        ensures start { self.new.start ≡ self.old.start }
+        ensures shard { self.new.shard ≡ self.old.shard }
+        ensures shards { self.new.shards ≡ self.old.shards }
+        ensures err { OnErr result ((es : History) → AreOwn self.old to own.now es → HasEnteredInPart self.old es self.new) }
+    {
+        for placed in own {
+            self.skip_to(placed.position - 1);
+            self.enter(&placed.entry)?;
+        }
+        self.skip_to(to);
+        Ok(())
+    }
+
+    /// Knows the entries up to a position, which put or remove none of its keys.
+    fn skip_to(&mut self, position: u64)
+        requires later { self.old.position ≤ position }
+        requires room { position < 2 ^ 48 }
+        ensures { self.new ≡ record self.old { position = position } }
+    {
+        self.position = position;
+    }
+
     /// The base pairs of the range after the first p entries, in the order of their keys. It costs the search for the
-    /// range, and for each of its keys that was ever put or removed the search for its version.
+    /// range, and for each of its keys that stands or changed since the start the search for its version.
     ///
     /// The steps are as many as the pairs, and one. On `OutOfMemory` they are not counted.
     pub fn pairs_at<L: Ledger>(
@@ -116,7 +166,7 @@ impl BaseVersions {
 
     /// The keys of the range that are put or removed after the first q entries, up to the p-th: in order, each once. It
     /// costs the searches for the range and for these changes of its table, and then a look at each key of the range that
-    /// was ever put or removed, or at each of these changes, whichever are fewer; the keys of the changes are sorted.
+    /// stands or changed since the start, or at each of these changes, whichever are fewer; the keys of the changes are sorted.
     ///
     /// The steps are as many as the keys, and one. On `OutOfMemory` they are not counted.
     pub fn changed<L: Ledger>(
@@ -166,6 +216,7 @@ impl BaseVersions {
         requires { self.old.position + 1 < 2 ^ 48 }
         ensures ok { OnOk result ((start : ℕ) (h : History) → StandsFor start self.old h → StandsFor start self.new (h ++ entry.now ∷ [])) }
         ensures position { OnOk result (self.new.position ≡ self.old.position + 1) }
+        ensures start { self.new.start ≡ self.old.start }
         ensures shard { self.new.shard ≡ self.old.shard }
         ensures shards { self.new.shards ≡ self.old.shards }
         ensures err { OnErr result ((start : ℕ) (h : History) → StandsFor start self.old h → StandsFor start self.new h) }
@@ -181,19 +232,47 @@ impl BaseVersions {
         Ok(())
     }
 
-    /// The next entry gives the key a value, or none, where the key's table is of the shard.
+    /// The next entry gives the key a value, or none, where the key's table is of the shard. On `OutOfMemory` it does not.
     fn change(&mut self, key: &Key, value: Option<Value>) -> Result<(), OutOfMemory>
         requires { self.old.position + 1 < 2 ^ 48 }
         ensures ok { OnOk result (IsChanged (self.old.position + 1) key.now value self.old self.new) }
         ensures err { OnErr result (IsKept self.old.tables self.new.tables) }
         ensures position { self.new.position ≡ self.old.position }
+        ensures start { self.new.start ≡ self.old.start }
         ensures shard { self.new.shard ≡ self.old.shard }
         ensures shards { self.new.shards ≡ self.old.shards }
     {
         if shard_of(key.table(), self.shards) != self.shard {
             return Ok(());
         }
-        enter_in(self.alloc, &mut self.tables, self.position + 1, key, value)
+        let position = self.position + 1;
+        let change = Change {
+            position,
+            key: key.copy()?,
+        };
+        self.entered.push_back(change)?;
+        let entered = enter_in(self.alloc, &mut self.tables, position, key, value);
+        if entered.is_err() {
+            self.entered.pop_back();
+        }
+        entered
+    }
+
+    /// Lets go what nobody asks for who asks from a position on: the changes up to there, and of each of their keys the versions
+    /// up to there but the last, or that too where it is a removal and no other follows. Nothing is allocated.
+    ///
+    /// It costs a look-up for each of these changes. So a caller who must not be long goes on in steps of some hundred positions.
+    pub fn trim(&mut self, to: u64)
+        requires order { self.old.start ≤ to }
+        requires within { to ≤ self.old.position }
+        ensures start { self.new.start ≡ to }
+        ensures stands { (start : ℕ) (h : History) → StandsFor start self.old h → start ≤ to → StandsFor to self.new h }
+        ensures position { self.new.position ≡ self.old.position }
+        ensures shard { self.new.shard ≡ self.old.shard }
+        ensures shards { self.new.shards ≡ self.old.shards }
+    {
+        trim_tables(&mut self.entered, &mut self.tables, to);
+        self.start = to;
     }
 }
 
@@ -205,6 +284,21 @@ pub fn shard_of(table: &str, shards: u8) -> u8
 {
     let sum: u32 = table.as_bytes().iter().map(|byte| u32::from(*byte)).sum();
     (sum % u32::from(shards)) as u8
+}
+
+/// Of which of so many shards the table is whose key the write puts or removes; of none where it does neither. Linear in the
+/// table's name.
+pub fn shard_written(write: &Write, shards: u8) -> Option<u8>
+    requires some { 0 < shards }
+    ensures is { result ≡ shard_written shards (plain_write write.now) }
+    ensures within { IfSome result (λ shard. shard < shards) }
+{
+    match write {
+        Write::Put(key, _) => Some(shard_of(key.table(), shards)),
+        Write::Remove(key) => Some(shard_of(key.table(), shards)),
+        Write::Declare(_) => None,
+        Write::Drop(_) => None,
+    }
 }
 
 /// The key is given a value at a position, or none, in its table.
@@ -228,4 +322,50 @@ fn enter_in(
             Ok(())
         }
     }
+}
+
+/// Takes the changes out that are not after a position, and lets go of their keys what nobody asks for who asks from there on.
+fn trim_tables(
+    entered: &mut VecDeque<Change>,
+    tables: &mut BTreeMap<String, TableVersions>,
+    to: u64,
+)
+    ensures { IsTrimmedTo to (named tables.old.entries) (named tables.new.entries) }
+{
+    while let Some(change) = take_early(entered, to) {
+        trim_in(tables, to, &change.key);
+    }
+}
+
+/// Lets go of the key's table what nobody asks for who asks from a position on, as `TableVersions::trim` does, and the table where
+/// nothing is left of it.
+fn trim_in(tables: &mut BTreeMap<String, TableVersions>, to: u64, key: &Key)
+    ensures { IsTrimmedTo to (named tables.old.entries) (named tables.new.entries) }
+{
+    if trim_table(tables, to, key) {
+        remove_table(tables, key);
+    }
+}
+
+/// Lets go of the key's table what nobody asks for who asks from a position on, and says whether nothing is left, if there is the
+/// table.
+fn trim_table(tables: &mut BTreeMap<String, TableVersions>, to: u64, key: &Key) -> bool
+    ensures trims { IsTrimmedTo to (named tables.old.entries) (named tables.new.entries) }
+    ensures none { result ≡ true → table_among (table_of key.now) (named tables.new.entries) ≡ empty_table }
+{
+    match tables.get_mut(key.table()) {
+        None => false,
+        Some(table) => {
+            table.trim(to, key);
+            table.is_empty()
+        }
+    }
+}
+
+/// Takes the key's table out, which has no key and no change.
+fn remove_table(tables: &mut BTreeMap<String, TableVersions>, key: &Key)
+    requires { table_among (table_of key.now) (named tables.old.entries) ≡ empty_table }
+    ensures { (table : Text) → table_among table (named tables.new.entries) ≡ table_among table (named tables.old.entries) }
+{
+    tables.remove(key.table());
 }

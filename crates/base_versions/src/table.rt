@@ -4,17 +4,18 @@ ghost use Rattle.std.specs.List.{AllByRecursion};
 ghost use Rattle.std.specs.List.Sorted.{IsStrictlySortedBy};
 ghost use Rattle.std.specs.Map.{keys_of};
 ghost use Rattle.semantics.specs.Texts.{is_key, text_cmp, within};
-ghost use Rattle.base_versions.specs.Versions.{AddsVersion, AllAscend, AscendFrom, KeepsVersions, keys_changed, pairs_in, value_in, versions_at};
+ghost use Rattle.base_versions.specs.Positions.{KeepsTo};
+ghost use Rattle.base_versions.specs.Versions.{AddsVersion, AllAscend, AscendFrom, KeepsVersions, TrimsTracks, keys_changed, pairs_in, value_in, versions_at};
 ghost use Rattle.base_versions.specs.Changes.{Ascend};
 ghost use Rattle.base_versions.specs.Kept.{FindsChanged, empty_table};
 
-use crate::changes::{Change, between, keys_in_order};
+use crate::changes::{Change, between, keys_in_order, let_room_go, take_early};
 use crate::versions::{Version, Versions};
 use join_types::Pair;
 use key_space::{Key, KeyBound, Range, Value};
 use out_of_memory::OutOfMemory;
 use std::alloc::Global;
-use std::collections::{BTreeMap, btree_map};
+use std::collections::{BTreeMap, VecDeque, btree_map};
 use std::marker::Model;
 use std::ops::Bound;
 
@@ -22,7 +23,7 @@ use std::ops::Bound;
 #[derive(Debug, Drop)]
 pub struct TableVersions {
     tracks: BTreeMap<KeyBound, Versions>,
-    changes: Vec<Change>,
+    changes: VecDeque<Change>,
 }
 
 impl Model for TableVersions {
@@ -45,7 +46,7 @@ impl TableVersions {
     {
         TableVersions {
             tracks: BTreeMap::new(alloc),
-            changes: Vec::new(alloc),
+            changes: VecDeque::new(alloc),
         }
     }
 
@@ -67,10 +68,10 @@ impl TableVersions {
             position,
             key: key.copy()?,
         };
-        self.changes.push(change)?;
+        self.changes.push_back(change)?;
         let added = add_version(alloc, &mut self.tracks, key, Version { position, value });
         if added.is_err() {
-            self.changes.pop();
+            self.changes.pop_back();
         }
         added
     }
@@ -121,12 +122,32 @@ impl TableVersions {
         ensures ordered { OnOk result (IsStrictlySortedBy text_cmp (keys_of self.now.tracks)) }
         ensures keys { Ascend 0 self.now.changes → AllAscend (filter (λ track. within range.now track.0) self.now.tracks) → IfOk result (λ keys. FindsChanged q p range.now self.now keys.items) }
     {
-        let changes = between(self.changes.as_slice(), q, p);
+        let (first, last) = between(&self.changes, q, p);
         let tracks = self.within(range)?;
-        match changed_of_few(alloc, q, p, changes.len(), tracks)? {
+        match changed_of_few(alloc, q, p, last - first, tracks)? {
             Some(keys) => Ok(keys),
-            None => keys_in_order(alloc, changes, range),
+            None => keys_in_order(alloc, &self.changes, first, last, range),
         }
+    }
+
+    /// Takes out what nobody asks for who asks from a position on: the first change, where it is not after it, and versions of
+    /// the key as `Versions::trim` does. A key without versions is taken out too. Logarithmic in the keys.
+    pub fn trim(&mut self, to: u64, key: &Key)
+        ensures versions { TrimsTracks to self.old.tracks self.new.tracks }
+        ensures changes { KeepsTo (λ c. c.position) to self.old.changes self.new.changes }
+    {
+        take_early(&mut self.changes, to);
+        let_room_go(&mut self.changes);
+        if trim_versions(&mut self.tracks, to, key) {
+            remove_track(&mut self.tracks, key);
+        }
+    }
+
+    /// Whether it has no key and no change.
+    pub fn is_empty(&self) -> bool
+        ensures { result ≡ true → self.now ≡ empty_table }
+    {
+        self.tracks.is_empty() && self.changes.is_empty()
     }
 }
 
@@ -196,4 +217,28 @@ fn add_version(
             Ok(())
         }
     }
+}
+
+/// Takes versions of the key out as `Versions::trim` does, and says whether none are left, if there is the key.
+fn trim_versions(tracks: &mut BTreeMap<KeyBound, Versions>, to: u64, key: &Key) -> bool
+    ensures trims { TrimsTracks to tracks.old.entries tracks.new.entries }
+    ensures none { result ≡ true → versions_at key.now tracks.new.entries ≡ [] }
+    ensures keys { AllByRecursion (λ track. is_key track.0 ≡ true) tracks.old.entries → AllByRecursion (λ track. is_key track.0 ≡ true) tracks.new.entries }
+{
+    match tracks.get_mut(key.place()) {
+        None => false,
+        Some(versions) => {
+            versions.trim(to);
+            versions.is_empty()
+        }
+    }
+}
+
+/// Takes the key out, which has no versions.
+fn remove_track(tracks: &mut BTreeMap<KeyBound, Versions>, key: &Key)
+    requires { versions_at key.now tracks.old.entries ≡ [] }
+    ensures same { KeepsVersions tracks.old.entries tracks.new.entries }
+    ensures keys { AllByRecursion (λ track. is_key track.0 ≡ true) tracks.old.entries → AllByRecursion (λ track. is_key track.0 ≡ true) tracks.new.entries }
+{
+    tracks.remove(key.place());
 }

@@ -1,6 +1,6 @@
 // The versions of one key.
-ghost use Rattle.std.specs.Prelude.{◌≡◌, [], ◌∷◌, ◌++◌, OnOk, OnErr, option_copied};
-ghost use Rattle.base_versions.specs.Versions.{AscendFrom, has_between, value_in};
+ghost use Rattle.std.specs.Prelude.{◌≡◌, [], ◌∷◌, ◌++◌, OnOk, OnErr, option_copied, true};
+ghost use Rattle.base_versions.specs.Versions.{AscendFrom, TrimsTo, has_between, value_in};
 
 use crate::older::OlderVersions;
 use key_space::Value;
@@ -15,8 +15,8 @@ pub struct Version {
     pub value: Option<Value>,
 }
 
-/// The versions of one key, in order of position. The newest stands beside the list of the older ones: it answers most
-/// questions, and a key that was written once needs no list.
+/// The versions of one key, in order of position. The newest stands beside the queue of the older ones: it answers most
+/// questions, and a key that was written once needs no queue.
 #[derive(Debug, Drop)]
 pub struct Versions {
     older: OlderVersions,
@@ -78,5 +78,47 @@ impl Versions {
             Some(newest) if newest.position <= p => q < newest.position,
             _ => self.older.has_between(q, p),
         }
+    }
+
+    /// Whether nobody asks for any of the versions who asks from a position on: the newest is a removal, and not after it.
+    fn is_spent(&self, to: u64) -> bool
+        ensures { result ≡ true → AscendFrom 0 self.now → TrimsTo to self.now [] }
+    {
+        match &self.newest {
+            Some(newest) if newest.position <= to => newest.value.is_none(),
+            _ => false,
+        }
+    }
+
+    /// Takes older versions out that nobody asks for who asks from a position on: all of them where the newest is not after it.
+    /// Otherwise it takes the first one out, where the second is not after it.
+    fn trim_older(&mut self, to: u64)
+        ensures { AscendFrom 0 self.old → TrimsTo to self.old self.new }
+    {
+        match &self.newest {
+            Some(newest) if newest.position <= to => self.older.clear(),
+            _ => self.older.trim(to),
+        }
+    }
+
+    /// Takes versions out that nobody asks for who asks from a position on: all of them where the newest is not after it and is a
+    /// removal, and all but the newest where it is a value. Otherwise it takes the first one out, where the second is not after it.
+    /// So a call for each version that is not after the position leaves one of these, or none.
+    pub fn trim(&mut self, to: u64)
+        ensures { AscendFrom 0 self.old → TrimsTo to self.old self.new }
+    {
+        if self.is_spent(to) {
+            self.older.clear();
+            self.newest = None;
+            return;
+        }
+        self.trim_older(to);
+    }
+
+    /// Whether there are none.
+    pub fn is_empty(&self) -> bool
+        ensures { result ≡ true → self.now ≡ [] }
+    {
+        self.newest.is_none() && self.older.is_empty()
     }
 }

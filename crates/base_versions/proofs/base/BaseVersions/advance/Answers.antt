@@ -22,6 +22,7 @@ returns-in_err-enter-clause-err c =
 pub loop-entry-preserved : goal.loop-entry-preserved
 loop-entry-preserved c = record {
   position = omega (arith, c.in_ok-enter.ensures.position, c.loop-entry.invariant.position);
+  start = c.enter.ensures.start ∙ c.loop-entry.invariant.start;
   shard = c.enter.ensures.shard ∙ c.loop-entry.invariant.shard;
   shards = c.enter.ensures.shards ∙ c.loop-entry.invariant.shards;
   history = λ start h s.

@@ -9,8 +9,8 @@ use Rattle.base_versions.proofs.table.TableVersions.changed.Goals as goal
 
 pub returns-in-None-clause-keys : goal.returns-in-None-clause-keys
 returns-in-None-clause-keys c = λ ascend all.
-    let is : c.as_slice.result.now ≡ c.args.self.now.changes = c.as_slice.ensures.value ∙ ap (λ (t : TableKept). t.changes) c.self.view_is in
-    let found = c.between-changes.ensures (subst (λ (cs : List Change). Ascend 0 cs) (sym is) ascend) ∙ ap (filter (is_between c.args.q c.args.p)) is in
+    let is : c.self.inside.changes.items ≡ c.args.self.now.changes = ap (λ (t : TableKept). t.changes) c.self.view_is in
+    let found = c.between-first.ensures.exact (subst (λ (cs : List Change). Ascend 0 cs) (sym is) ascend) ∙ ap (filter (is_between c.args.q c.args.p)) is in
     IfOk-weaker c.keys_in_order.result _ _ (λ keys e. inl (e ∙ ap (λ (cs : List Change). in_order (keys_within c.args.range.now cs)) found)) c.keys_in_order.ensures
 
 pub returns-in-Some-clause-keys : goal.returns-in-Some-clause-keys

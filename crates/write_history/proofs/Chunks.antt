@@ -1,10 +1,23 @@
 -- Entries in chunks of one size, one after another.
-use Rattle.std.proofs.Common.{◌≡◌, ℕ, zero, suc, ◌+◌, ◌-◌, ◌*◌, ◌/◌, ◌%◌, ◌<◌, ◌≤◌, List, [], ◌∷◌, ◌++◌, length, get_or, ap, ◌∙◌, arith}
+use Rattle.std.proofs.Common.{◌≡◌, ℕ, zero, suc, ◌+◌, ◌-◌, ◌*◌, ◌/◌, ◌%◌, ◌<◌, ◌≤◌, List, [], ◌∷◌, ◌++◌, length, drop, get_or, append_assoc, ap, ◌∙◌, arith}
 use Rattle.std.specs.List.{AllByRecursion, flat_map}
 use Rattle.std.proofs.lemmas.List.{length-append, get_or-append-add, get_or_append_left}
 use Rattle.std.proofs.Math.Seq.{get_or-append_right}
 
+-- more than a first list is dropped
+drop_past : {A : Type 0} (xs ys : List A) (n : ℕ) → length xs ≤ n → drop n (xs ++ ys) ≡ drop (n - length xs) ys
+drop_past [] ys n h = ap (λ k. drop k ys) (omega arith)
+drop_past (x ∷ xs) ys zero h = absurd (omega arith)
+drop_past (x ∷ xs) ys (suc n) h = drop_past xs ys n (omega arith) ∙ ap (λ k. drop k ys) (omega arith)
+
 module _ {X A : Type 0} (f : X → List A) (size : ℕ) where
+  -- without its first chunk a list has so many entries fewer to drop
+  pub drop-chunk : (x : X) (xs : List X) (more : List A) (n : ℕ) → length (f x) ≡ size → size ≤ n → drop n (flat_map f (x ∷ xs) ++ more) ≡ drop (n - size) (flat_map f xs ++ more)
+  drop-chunk x xs more n long past =
+      ap (drop n) (append_assoc (f x) (flat_map f xs) more)
+      ∙ drop_past (f x) (flat_map f xs ++ more) n (omega arith)
+      ∙ ap (λ k. drop (n - k) (flat_map f xs ++ more)) long
+
   -- so many chunks have so many entries
   pub length-chunks : (xs : List X) → AllByRecursion (λ x. length (f x) ≡ size) xs → length (flat_map f xs) ≡ length xs * size
   length-chunks [] all = omega arith

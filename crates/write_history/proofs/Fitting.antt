@@ -1,5 +1,5 @@
 -- What a seat knows fits the history, also once a step changes what one seat knows.
-use Rattle.std.proofs.Common.{length-set, ◌≡◌, ◌≢◌, ◌⊎◌, ℕ, ◌+◌, ◌<◌, List, [], ◌∷◌, ◌++◌, set, Some, None, refl, sym, ap, ◌∙◌, subst, ⊎_elim, inl, inr, arith}
+use Rattle.std.proofs.Common.{length-set, ◌≡◌, ◌≢◌, ◌⊎◌, ℕ, ◌+◌, ◌<◌, ◌≤◌, length, List, [], ◌∷◌, ◌++◌, set, Some, None, refl, sym, ap, ◌∙◌, subst, ⊎_elim, inl, inr, arith}
 use mathlib.Core.Option.{some, none}
 use mathlib.Core.Option as maybe
 use lib.ListN.{get_elem?}
@@ -10,7 +10,8 @@ use Rattle.growing_history.proofs.PrefixLemmas.{prefix_trans}
 use Rattle.write_history.specs.Entries.{written_by}
 use Rattle.write_history.specs.Stored.{Stored}
 use Rattle.write_history.specs.Seats.{HasOwn, Apart}
-use Rattle.write_history.specs.Rule.{Fits, IsFree, IsTaken}
+use Rattle.write_history.specs.Marks.{before, AllAllow}
+use Rattle.write_history.specs.Rule.{Fits, IsFree, IsTaken, Holds}
 use Rattle.write_history.specs.declared.known.Kinds.{Kinds}
 use Rattle.write_history.specs.declared.known.Known.{Known}
 use Rattle.write_history.specs.declared.known.Role.{Role}
@@ -24,17 +25,17 @@ abbrev pub Homes : Type 0
 Homes = List (maybe.Option Stored)
 
 -- whether the turn is free or taken
-abbrev Place : History → ℕ → ℕ → Homes → List Known → Type 0
-Place h floor turn homes views = IsFree h floor turn homes views ⊎ IsTaken h floor turn homes views
+abbrev pub Place : Kinds → List ℕ → History → ℕ → ℕ → Homes → List Known → Type 0
+Place kinds words h floor turn homes views = IsFree h floor turn homes views ⊎ IsTaken kinds words h floor turn homes views
 
 -- a seat that knew nothing of the turn has the turn neither
 pub holds_none : (v : Known) (h : History) → v.held ≡ None → v.held ≡ Some h → ⊥
 holds_none v h nothing something = let both : None ≡ Some h = sym nothing ∙ something in cc
 
 -- what the one that changes does not hold is held as before
-pub place_set : (h : History) (floor turn : ℕ) (homes : Homes) (views : List Known) (id : ℕ) (v w : Known) → get_elem? views id ≡ some v → v.held ≡ None → w.held ≡ None →
-    Place h floor turn homes views → Place h floor turn homes (set views id w)
-place_set h floor turn homes views id v w at none_v none_w place = ⊎_elim
+pub place_set : (kinds : Kinds) (words : List ℕ) (h : History) (floor turn : ℕ) (homes : Homes) (views : List Known) (id : ℕ) (v w : Known) → get_elem? views id ≡ some v → v.held ≡ None → w.held ≡ None →
+    Place kinds words h floor turn homes views → Place kinds words h floor turn homes (set views id w)
+place_set kinds words h floor turn homes views id v w at none_v none_w place = ⊎_elim
     (λ (free : IsFree h floor turn homes views). inl (record {
       free = free.free;
       log = free.log;
@@ -42,8 +43,8 @@ place_set h floor turn homes views id v w at none_v none_w place = ⊎_elim
       is_log = free.is_log;
       nobody = all_set (λ seat u. u.held ≡ None) views id w none_w (λ seat u other at'. free.nobody seat u at');
     }))
-    (λ (taken : IsTaken h floor turn homes views).
-    let elsewhere : id ≢ taken.holder = λ same. holds_none v h none_v (taken.holds v (subst (λ seat. get_elem? views seat ≡ some v) same at)).0 in
+    (λ (taken : IsTaken kinds words h floor turn homes views).
+    let elsewhere : id ≢ taken.holder = λ same. holds_none v h none_v (taken.holds v (subst (λ seat. get_elem? views seat ≡ some v) same at)).held in
     inr (record {
       taken = taken.taken;
       away = taken.away;
@@ -55,8 +56,8 @@ place_set h floor turn homes views id v w at none_v none_w place = ⊎_elim
     place
 
 -- a seat that comes without the turn leaves it where it is
-pub place_end : (h : History) (floor turn : ℕ) (homes : Homes) (views : List Known) (w : Known) → w.held ≡ None → Place h floor turn homes views → Place h floor turn homes (views ++ w ∷ [])
-place_end h floor turn homes views w nothing place = ⊎_elim
+pub place_end : (kinds : Kinds) (words : List ℕ) (h : History) (floor turn : ℕ) (homes : Homes) (views : List Known) (w : Known) → w.held ≡ None → Place kinds words h floor turn homes views → Place kinds words h floor turn homes (views ++ w ∷ [])
+place_end kinds words h floor turn homes views w nothing place = ⊎_elim
     (λ (free : IsFree h floor turn homes views). inl (record {
       free = free.free;
       log = free.log;
@@ -64,12 +65,12 @@ place_end h floor turn homes views w nothing place = ⊎_elim
       is_log = free.is_log;
       nobody = all_end (λ seat u. u.held ≡ None) views w nothing free.nobody;
     }))
-    (λ (taken : IsTaken h floor turn homes views). inr (record {
+    (λ (taken : IsTaken kinds words h floor turn homes views). inr (record {
       taken = taken.taken;
       away = taken.away;
       holder = taken.holder;
       seated = let less = taken.seated in omega (arith, length-append views (w ∷ []));
-      holds = λ u at. all_end (λ seat u. seat ≡ taken.holder → (u.held ≡ Some h) × (u.floor ≡ floor)) views w
+      holds = λ u at. all_end (λ seat u. seat ≡ taken.holder → Holds kinds words h floor u) views w
           (λ same. let less = taken.seated in absurd (omega arith))
           (λ seat u at' same. taken.holds u (subst (λ i. get_elem? views i ≡ some u) same at')) taken.holder u at refl;
       others = λ seat u other at. all_end (λ seat u. seat ≢ taken.holder → u.held ≡ None) views w (λ away. nothing) (λ seat u at' away. taken.others seat u away at') seat u at other;
@@ -107,18 +108,33 @@ apart_note (Deals next) = tt
 apart_note (Numbered number) = tt
 apart_note Notes = tt
 
--- the holder of the turn stays so, and may know of another history
-pub taken_set : (h h' : History) (floor turn : ℕ) (homes : Homes) (views : List Known) (id : ℕ) (w : Known) (taken : IsTaken h floor turn homes views) → taken.holder ≡ id →
-    w.held ≡ Some h' → w.floor ≡ floor → IsTaken h' floor turn homes (set views id w)
-taken_set h h' floor turn homes views id w taken mine held low = record {
+-- the holder of the turn stays so, and may know of another history, another floor and other words
+pub taken_set : (kinds : Kinds) (words words' : List ℕ) (h h' : History) (floor floor' turn : ℕ) (homes : Homes) (views : List Known) (id : ℕ) (w : Known) (taken : IsTaken kinds words h floor turn homes views) →
+    taken.holder ≡ id → Holds kinds words' h' floor' w → IsTaken kinds words' h' floor' turn homes (set views id w)
+taken_set kinds words words' h h' floor floor' turn homes views id w taken mine now = record {
   taken = taken.taken;
   away = taken.away;
   holder = id;
   seated = let less = taken.seated in omega (arith, length-set views id w);
-  holds = λ u at. all_set (λ seat u. seat ≡ id → (u.held ≡ Some h') × (u.floor ≡ floor)) views id w (λ same. (held, low)) (λ seat u apart at' same. absurd (apart same)) id u at refl;
+  holds = λ u at. all_set (λ seat u. seat ≡ id → Holds kinds words' h' floor' u) views id w (λ same. now) (λ seat u apart at' same. absurd (apart same)) id u at refl;
   others = λ seat u other at. all_set (λ seat u. seat ≢ id → u.held ≡ None) views id w (λ away. absurd (away refl))
       (λ seat u apart at' away. taken.others seat u (λ same. away (same ∙ mine)) at') seat u at other;
 }
+
+-- a word of another pass changes, and allows what it did
+pub place_words : (kinds : Kinds) (words words' : List ℕ) (h : History) (floor turn : ℕ) (homes : Homes) (views : List Known) →
+    ((count low : ℕ) → low ≤ before (length h) → AllAllow kinds count low words → AllAllow kinds count low words') → Place kinds words h floor turn homes views → Place kinds words' h floor turn homes views
+place_words kinds words words' h floor turn homes views more place = ⊎_elim
+    (λ (free : IsFree h floor turn homes views). inl free)
+    (λ (taken : IsTaken kinds words h floor turn homes views). inr (record {
+      taken = taken.taken;
+      away = taken.away;
+      holder = taken.holder;
+      seated = taken.seated;
+      holds = λ u at. let old = taken.holds u at in record { held = old.held; lacks = old.lacks; counted = old.counted; passed = more u.passed u.low old.counted old.passed };
+      others = taken.others;
+    }))
+    place
 
 -- a seat that has seen all entries has seen its own
 pub own_of_all : (h seen : History) (role : Role) → HasOwn h seen role → HasOwn h h role
@@ -143,9 +159,10 @@ own_after h seen (Numbered n) number e by apart own =
 own_after h seen Notes number e by apart own = tt
 
 -- whatever is known of a history is known of one with an entry more
-pub fits_after : (kinds : Kinds) (h : History) (floor number : ℕ) (e : Entry) (u : Known) → e.client ≡ number → Apart u.role (Numbered number) → Fits kinds h floor u → Fits kinds (h ++ e ∷ []) floor u
-fits_after kinds h floor number e u by apart fit = record {
+pub fits_after : (kinds : Kinds) (words : List ℕ) (h : History) (floor number : ℕ) (e : Entry) (u : Known) → e.client ≡ number → Apart u.role (Numbered number) → Fits kinds words h floor u → Fits kinds words (h ++ e ∷ []) floor u
+fits_after kinds words h floor number e u by apart fit = record {
   knows = fit.knows;
+  marked = fit.marked;
   seen = prefix_trans u.seen h (h ++ e ∷ []) fit.seen (prefix_more h (e ∷ []));
   told = prefix_trans u.told h (h ++ e ∷ []) fit.told (prefix_more h (e ∷ []));
   own = own_after h u.seen u.role number e by apart fit.own;

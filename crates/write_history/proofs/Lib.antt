@@ -1,8 +1,14 @@
 pub mod Chunks
 pub mod Lists
+pub mod Lines
 pub mod Seating
 pub mod Entering
+pub mod Few
+pub mod Numbering
+pub mod Marking
 pub mod Fitting
 pub mod Turning
 pub mod Appending
 pub mod Telling
+pub mod Pinning
+pub mod Meeting

@@ -5,6 +5,7 @@ use Rattle.growing_history.proofs.PrefixLemmas.{prefix_length, take_prefix}
 use Rattle.join_set.specs.Sets.{Joins, AreJoins}
 use Rattle.write_history.specs.Stored.{Stored, IsLog}
 use Rattle.write_history.specs.Steps.{Sat, HasLog, TakesTurn, held_by}
+use Rattle.write_history.specs.Marks.{before}
 use Rattle.write_history.specs.Looks.{TellsJoins}
 
 -- the last declaration or drop that is kept is at the position that is known
@@ -34,9 +35,9 @@ pub first_of_view : (m m' : Sat) (turn : TakesTurn m m') (p : ℕ) → p ≤ len
 first_of_view m m' turn p within = take_prefix p m.0.seen turn.history within turn.begins
 
 -- who has looked has the log that it had
-pub log_seen : (h : History) (log : Stored) (m m' : Sat) → m' ≡ (record m.0 { seen = held_by m.0 }, m.1) → HasLog h log m → HasLog h log m'
-log_seen h log m m' looked has = subst (HasLog h log) (sym looked) (record { held = has.held; carried = has.carried; is_log = has.is_log })
+pub log_seen : (h : History) (log : Stored) (m m' : Sat) (low : ℕ) → m' ≡ (record m.0 { seen = held_by m.0; passed = 0; low = low }, m.1) → HasLog h log m → HasLog h log m'
+log_seen h log m m' low looked has = subst (HasLog h log) (sym looked) (record { held = has.held; carried = has.carried; is_log = has.is_log })
 
--- who took the turn, looked and gave the turn back has seen the whole history
-pub seen_whole : (m m1 m2 m3 : Sat) (turn : TakesTurn m m1) → m2 ≡ (record m1.0 { seen = held_by m1.0 }, m1.1) → m3 ≡ (record m2.0 { held = None }, []) → m3.0.seen ≡ turn.history
-seen_whole m m1 m2 m3 turn looked freed = ap (λ (x : Sat). x.0.seen) (freed ∙ ap (λ (x : Sat). (record x.0 { held = None }, [])) looked) ∙ ap (λ (x : Sat). held_by x.0) turn.is
+-- so it knows all that the number of entries allows
+pub looked_all : (m m' : Sat) (n : ℕ) → m' ≡ (record m.0 { seen = held_by m.0; passed = 0; low = before n }, m.1) → n ≡ length (held_by m.0) → m' ≡ (record m.0 { seen = held_by m.0; passed = 0; low = before (length (held_by m.0)) }, m.1)
+looked_all m m' n is counted = is ∙ ap (λ k. (record m.0 { seen = held_by m.0; passed = 0; low = before k }, m.1)) counted

@@ -1,5 +1,8 @@
 pub mod Entries
 pub mod Stored
+pub mod Numbers
+pub mod Lines
+pub mod Marks
 pub mod Passes
 pub mod Seats
 pub mod Rule

@@ -3,17 +3,27 @@ use Rattle.std.specs.Prelude.{◌≡◌, ℕ, ◌<◌, ◌≤◌, [], length}
 use Rattle.atomic_table.specs.Seated.{TableId}
 use Rattle.semantics.specs.Histories.{Write, Entry, History, IsPrefix}
 use Rattle.write_history.specs.Entries.{IsRecorded, written_by}
+use Rattle.write_history.specs.Marks.{first_mark, IsLow}
+use Rattle.write_history.specs.declared.known.Kinds.{Kinds}
+use Rattle.write_history.specs.declared.known.Mark.{Mark}
 
--- of which history it is, its number, how many passes of that history may write, and the entries that it has seen
+-- a history: its table, and how many passes it has of each kind
+pub record HistoryId : Type 0 where
+  pub table : TableId
+  pub kinds : Kinds
+
+-- of which history it is, its number, how many passes of that history may write, the entries that it has seen, what its word says, and a number of first entries that it knows to be dropped
 pub record PassView : Type 0 where
-  pub history : TableId
+  pub history : HistoryId
   pub number : ℕ
   pub writers : ℕ
   pub view : History
+  pub mark : Mark
+  pub floor : ℕ
 
 -- a pass that has seen nothing
-abbrev pub new_pass : TableId → ℕ → ℕ → PassView
-new_pass history writers number = record { history = history; number = number; writers = writers; view = [] }
+abbrev pub new_pass : HistoryId → ℕ → PassView
+new_pass history number = record { history = history; number = number; writers = history.kinds.writers; view = []; mark = first_mark history.kinds number; floor = 0 }
 
 -- the entry of a write by the pass
 abbrev pub entry_by : PassView → Write → Entry
@@ -30,13 +40,16 @@ pub record GoesOn (old new : PassView) : Type 0 where
   pub same_writers : new.writers ≡ old.writers
   pub begins : IsPrefix old.view new.view
   pub recorded : IsRecorded new.writers new.view
+  pub same_mark : new.mark ≡ old.mark
+  pub higher : old.floor ≤ new.floor
+  pub low : IsLow new.mark new.floor
 
 -- the pass is of the history, and may append to it
-pub record MayAppend (history : TableId) (pass : PassView) : Type 0 where
+pub record MayAppend (history : HistoryId) (pass : PassView) : Type 0 where
   pub same_history : pass.history ≡ history
   pub writer : pass.number < pass.writers
 
 -- the pass is of the history, and has seen so many entries, at least
-pub record HasSeen (history : TableId) (pass : PassView) (count : ℕ) : Type 0 where
+pub record HasSeen (history : HistoryId) (pass : PassView) (count : ℕ) : Type 0 where
   pub same_history : pass.history ≡ history
   pub within : count ≤ length pass.view

@@ -1,14 +1,19 @@
 // The history that all threads share.
-ghost use Rattle.std.specs.Prelude.{◌≡◌, ℕ, ◌+◌, ◌-◌, ◌<◌, ◌≤◌, [], ◌∷◌, ◌++◌, length, slice_get, take, drop, IfOk, IfErr, OnErr, OnOk, Some};
+ghost use Rattle.std.specs.Prelude.{◌≡◌, ℕ, ◌+◌, ◌-◌, ◌<◌, ◌≤◌, [], ◌∷◌, ◌++◌, length, replicate, slice_get, take, drop, IfOk, IfErr, OnErr, OnOk, Some};
 ghost use Rattle.join_types.specs.Writes.{plain_write};
 ghost use Rattle.semantics.specs.Histories.{IsPrefix};
 ghost use Rattle.join_set.specs.Sets.{AreJoins};
+ghost use Rattle.base_versions.specs.Own.{own_from};
 ghost use Rattle.write_history.specs.Entries.{EndsWith};
 ghost use Rattle.write_history.specs.Passes.{GoesOn, entry_by, new_pass, own};
 ghost use Rattle.write_history.specs.Faults.{SaysWhy};
 ghost use Rattle.write_history.specs.Looks.{TellsJoins};
-ghost use Rattle.write_history.specs.Rule.{dealer};
+ghost use Rattle.write_history.specs.declared.known.Mark.TheVariants.{Free as NotPinned, Pinned, Noted};
+ghost use Rattle.write_history.specs.Lines.{lines};
+ghost use Rattle.write_history.specs.Rule.{dealer, first_words};
+ghost use Rattle.write_history.specs.declared.known.Kinds.{Kinds};
 ghost use Rattle.write_history.specs.Steps.{IsSized};
+ghost use Rattle.write_history.specs.Marks.{MayAsk, before, pins, reach, words_of};
 
 use crate::fault::AppendFault;
 use crate::known::Kinds;
@@ -18,8 +23,10 @@ use crate::pass::Pass;
 use crate::plays::Deal;
 use crate::rule::{Board, Place, SharedBoard};
 use crate::turn::{
-    copy_entries, enter, free_turn, look, look_joins, make_joins_at, take_turn, tell,
+    BEHIND, NO_PIN, copy_entries, copy_own, count_kept, enter, free_turn, look, look_and_pin,
+    lowest, make_joins_at, note, pinned_at, raise, take_turn, tell, unpin,
 };
+use base_versions::Placed;
 use join_set::JoinSet;
 use join_types::{Entry, Write};
 use out_of_memory::OutOfMemory;
@@ -32,29 +39,65 @@ use std::sync::Wait;
 pub struct History {
     alloc: Global,
     board: Board,
+    /// How many passes have a pin.
+    pin_words: u32,
+    /// How many passes have a word.
+    pass_words: u32,
 }
 
 impl Model for History {
-    ghost use Rattle.atomic_table.specs.Seated.{TableId};
+    ghost use Rattle.std.specs.Prelude.{◌≡◌};
+    ghost use Rattle.write_history.specs.Marks.{pins, words_of};
+    ghost use Rattle.write_history.specs.Passes.{HistoryId};
     ghost use Rattle.write_history.specs.Steps.{IsSized};
 
-    ghost Value = { TableId };
+    ghost Value = { HistoryId };
 
-    ghost view = { λ h. h.board.shared.table_id };
+    ghost view = { λ h. record { table = h.board.shared.table_id; kinds = h.board.shared.key } };
 
-    ghost invariant = { λ h. IsSized h.board.shared.table_id };
+    ghost invariant = { λ h. IsSized h.board.shared.key h.board.shared.table_id × (h.pin_words ≡ pins h.board.shared.key) × (h.pass_words ≡ words_of h.board.shared.key) };
+}
+
+/// Adds so many lines, each of a word and seven that are never used.
+fn add_lines(words: &mut Vec<u64>, count: u32, word: u64) -> Result<(), OutOfMemory>
+    ensures { OnOk result (words.new.items ≡ words.old.items ++ lines (replicate count word)) }
+{
+    for _line in 0..count {
+        words.extend_from_slice(&[word, 0, 0, 0, 0, 0, 0, 0])?;
+    }
+    Ok(())
+}
+
+/// The words at the start, each on a line of its own: one that never changes, those of the turn, of the entries and of the floor,
+/// then so many pins, and so many noted positions.
+fn make_words(alloc: Global, pin_words: u32, shards: u32) -> Result<Vec<u64>, OutOfMemory>
+    ensures { IfOk result (λ words. (kinds : Kinds) → pin_words ≡ pins kinds → shards ≡ kinds.shards → words.items ≡ lines (0 ∷ 0 ∷ 0 ∷ 0 ∷ first_words kinds)) }
+{
+    let mut words = Vec::new(alloc);
+    add_lines(&mut words, 4, 0)?;
+    add_lines(&mut words, pin_words, NO_PIN)?;
+    add_lines(&mut words, shards, 0)?;
+    Ok(words)
 }
 
 /// The table of a history without entries, and its first seat.
-fn make_board(alloc: Global, kinds: Kinds) -> Result<(Board, Place), OutOfMemory>
-    ensures sized { IfOk result (λ made. IsSized made.0.shared.table_id) }
+fn make_board(
+    alloc: Global,
+    kinds: Kinds,
+    pin_words: u32,
+    shards: u32,
+) -> Result<(Board, Place), OutOfMemory>
+    requires pins { pin_words ≡ pins kinds }
+    requires shards { shards ≡ kinds.shards }
+    ensures sized { IfOk result (λ made. IsSized made.0.shared.key made.0.shared.table_id) }
     ensures kinds { IfOk result (λ made. made.0.shared.key ≡ kinds) }
     ensures own { IfOk result (λ made. made.1.table_id ≡ made.0.shared.table_id) }
     ensures first { IfOk result (λ made. made.1.me ≡ (dealer kinds, [])) }
 {
+    let words = make_words(alloc, pin_words, shards)?;
     let mut logs = Vec::with_capacity(alloc, 1)?;
     logs.push(Log::new(alloc)?)?;
-    match Board::new(alloc, &[0, 0, 0], logs, &kinds) {
+    match Board::new(alloc, &words, logs, &kinds) {
         Ok(made) => Ok(made),
         Err(_) => Err(OutOfMemory),
     }
@@ -67,11 +110,11 @@ fn deal(
     mut first: Place,
     count: u32,
 ) -> Result<Vec<Pass>, OutOfMemory>
-    requires sized { IsSized board.now.table_id }
+    requires sized { IsSized board.now.key board.now.table_id }
     requires own { first.table_id ≡ board.now.table_id }
     requires first { first.me ≡ (dealer board.now.key, []) }
     ensures count { IfOk result (λ passes. length passes.items ≡ count) }
-    ensures each { IfOk result (λ passes. (number : ℕ) → number < count → slice_get passes.items number ≡ Some (new_pass board.now.table_id board.now.key.writers number)) }
+    ensures each { IfOk result (λ passes. (number : ℕ) → number < count → slice_get passes.items number ≡ Some (new_pass (record { table = board.now.table_id; kinds = board.now.key }) number)) }
 {
     let mut passes = Vec::with_capacity(alloc, count as usize)?;
     for number in 0..count {
@@ -86,8 +129,9 @@ impl History {
     /// takes four bytes. The history grows by this allocator.
     pub fn new(alloc: Global, passes: u32) -> Result<(History, Vec<Pass>), OutOfMemory>
         requires { 0 < passes }
+        ensures kinds { IfOk result (λ made. made.0.kinds ≡ record { writers = passes; pinned = 0; shards = 0 }) }
         ensures count { IfOk result (λ made. length made.1.items ≡ passes) }
-        ensures each { IfOk result (λ made. (number : ℕ) → number < passes → slice_get made.1.items number ≡ Some (new_pass made.0 passes number)) }
+        ensures each { IfOk result (λ made. (number : ℕ) → number < passes → slice_get made.1.items number ≡ Some (new_pass made.0 number)) }
     {
         History::with_readers(alloc, passes, 0)
     }
@@ -101,15 +145,68 @@ impl History {
         readers: u32,
     ) -> Result<(History, Vec<Pass>), OutOfMemory>
         requires { 0 < writers }
+        ensures kinds { IfOk result (λ made. made.0.kinds ≡ record { writers = writers; pinned = 0; shards = 0 }) }
         ensures count { IfOk result (λ made. length made.1.items ≡ writers + readers) }
-        ensures each { IfOk result (λ made. (number : ℕ) → number < writers + readers → slice_get made.1.items number ≡ Some (new_pass made.0 writers number)) }
+        ensures each { IfOk result (λ made. (number : ℕ) → number < writers + readers → slice_get made.1.items number ≡ Some (new_pass made.0 number)) }
     {
         let Some(count) = writers.checked_add(readers) else {
             return Err(OutOfMemory);
         };
-        let (board, first) = make_board(alloc, Kinds { writers })?;
+        let kinds = Kinds {
+            writers,
+            pinned: 0,
+            shards: 0,
+        };
+        let (board, first) = make_board(alloc, kinds, writers, 0)?;
         let passes = deal(alloc, &board.shared, first, count)?;
-        Ok((History { alloc, board }, passes))
+        let history = History {
+            alloc,
+            board,
+            pin_words: writers,
+            pass_words: writers,
+        };
+        Ok((history, passes))
+    }
+
+    /// A history without entries, and passes of it with the numbers from 0 up: first so many that may write, then so many that only
+    /// read and can be pinned too, then so many that note positions, and then so many that only read. Each takes four bytes, and
+    /// each but the last ones a line of 64 bytes for its word. The history grows by this allocator. It answers `OutOfMemory` too
+    /// where there would be more than 2^32 - 1 passes.
+    pub fn with_pins(
+        alloc: Global,
+        writers: u32,
+        pinned: u32,
+        shards: u32,
+        readers: u32,
+    ) -> Result<(History, Vec<Pass>), OutOfMemory>
+        requires { 0 < writers }
+        ensures kinds { IfOk result (λ made. made.0.kinds ≡ record { writers = writers; pinned = pinned; shards = shards }) }
+        ensures count { IfOk result (λ made. length made.1.items ≡ writers + pinned + shards + readers) }
+        ensures each { IfOk result (λ made. (number : ℕ) → number < writers + pinned + shards + readers → slice_get made.1.items number ≡ Some (new_pass made.0 number)) }
+    {
+        let Some(pin_words) = writers.checked_add(pinned) else {
+            return Err(OutOfMemory);
+        };
+        let Some(pass_words) = pin_words.checked_add(shards) else {
+            return Err(OutOfMemory);
+        };
+        let Some(count) = pass_words.checked_add(readers) else {
+            return Err(OutOfMemory);
+        };
+        let kinds = Kinds {
+            writers,
+            pinned,
+            shards,
+        };
+        let (board, first) = make_board(alloc, kinds, pin_words, shards)?;
+        let passes = deal(alloc, &board.shared, first, count)?;
+        let history = History {
+            alloc,
+            board,
+            pin_words,
+            pass_words,
+        };
+        Ok((history, passes))
     }
 
     /// Appends the write to the history as the pass, or says why not. The view has then all entries that the history had,
@@ -151,13 +248,14 @@ impl History {
         length
     }
 
-    /// Extends the view of the pass to all entries of the history, as `look` does, and gives their number and the joins that
-    /// stand after them. It takes the position of the last declaration or drop that is known, 0 where none is. Where this is
-    /// that of the last one, the joins are those after the first so many entries, and it gives none.
+    /// Extends the view of the pass to all entries of the history, as `look` does, pins the pass at their number, and gives that
+    /// and the joins that stand after them. It takes the position of the last declaration or drop that is known, 0 where none is.
+    /// Where this is that of the last one, the joins are those after the first so many entries, and it gives none. From the pin on,
+    /// until `unpin`, no entry after its position less 65,536 is dropped.
     ///
     /// It costs a look and compares two numbers. Where they differ, it copies the joins under the turn: at most 64, and a
     /// position for each table of which a join was dropped. While another thread has the turn, this one sleeps. On
-    /// `OutOfMemory` the view is extended all the same.
+    /// `OutOfMemory` the view is extended all the same, and the pass is not pinned.
     pub fn look_joins<R: Wait>(
         &self,
         rt: &R,
@@ -165,14 +263,17 @@ impl History {
         known: u64,
     ) -> Result<Looked, OutOfMemory>
         requires same_history { pass.old.history ≡ self.now }
-        ensures goes_on { GoesOn pass.old pass.new }
+        requires free { pass.old.mark ≡ NotPinned }
+        ensures pinned { IfOk result (λ looked. GoesOn (record pass.old { mark = Pinned looked.length }) pass.new) }
         ensures length { IfOk result (λ looked. looked.length ≡ length pass.new.view) }
-        ensures own { own pass.new ≡ own pass.old }
         ensures told { IfOk result (λ looked. TellsJoins pass.new.view known looked.joins) }
+        ensures goes_on { OnErr result (GoesOn pass.old pass.new) }
+        ensures own { own pass.new ≡ own pass.old }
     {
         let board = &self.board.shared;
+        let number = pass.number;
         take_turn(rt, board, &mut pass.place);
-        let looked = look_joins(board, &mut pass.place, known);
+        let looked = look_and_pin(board, &mut pass.place, number, known);
         free_turn(board, &mut pass.place);
         looked
     }
@@ -184,6 +285,7 @@ impl History {
         ensures second { GoesOn b.old b.new }
         ensures told { IsPrefix a.old.view b.new.view × IsPrefix b.old.view a.new.view }
         ensures same { a.new.view ≡ b.new.view }
+        ensures floor { a.new.floor ≡ b.new.floor }
         ensures own { (own a.new ≡ own a.old) × (own b.new ≡ own b.old) }
     {
         let board = &self.board.shared;
@@ -192,7 +294,8 @@ impl History {
     }
 
     /// Equal entries of the view, from the one after `from` up to the one at `to`, positions counted from 1. The pass is
-    /// unchanged. Linear in the entries, under the turn; their texts are shared.
+    /// unchanged. It asks for none that may be dropped: `from` is not below the position that the pass has noted, or the pass is
+    /// pinned and `from` is not below that position less 65,536. Linear in the entries, under the turn; their texts are shared.
     pub fn entries<R: Wait>(
         &self,
         rt: &R,
@@ -203,6 +306,7 @@ impl History {
         requires same_history { pass.old.history ≡ self.now }
         requires order { from ≤ to }
         requires within { to ≤ length pass.old.view }
+        requires kept { MayAsk pass.old.mark from }
         ensures goes_on { GoesOn pass.old pass.new }
         ensures unchanged { pass.new ≡ pass.old }
         ensures entries { IfOk result (λ copies. copies.items ≡ take (to - from) (drop from pass.old.view)) }
@@ -210,6 +314,32 @@ impl History {
         let board = &self.board.shared;
         take_turn(rt, board, &mut pass.place);
         let copies = copy_entries(board, &mut pass.place, self.alloc, from, to);
+        free_turn(board, &mut pass.place);
+        copies
+    }
+
+    /// Equal entries of the view, from the one after `from` up to the one at `to`, that put or remove a key of a table of the part
+    /// with a number, of 16; each with its position. The pass is unchanged, and `from` is bounded as that of `entries` is. Under the
+    /// turn it costs two searches by halves, and is linear in the part's entries; their texts are shared.
+    pub fn entries_of<R: Wait>(
+        &self,
+        rt: &R,
+        pass: &mut Pass,
+        part: u8,
+        from: u64,
+        to: u64,
+    ) -> Result<Vec<Placed>, OutOfMemory>
+        requires same_history { pass.old.history ≡ self.now }
+        requires order { from ≤ to }
+        requires within { to ≤ length pass.old.view }
+        requires kept { MayAsk pass.old.mark from }
+        ensures goes_on { GoesOn pass.old pass.new }
+        ensures unchanged { pass.new ≡ pass.old }
+        ensures entries { IfOk result (λ copies. copies.items ≡ own_from 16 part (from + 1) (take (to - from) (drop from pass.old.view))) }
+    {
+        let board = &self.board.shared;
+        take_turn(rt, board, &mut pass.place);
+        let copies = copy_own(board, &mut pass.place, self.alloc, part, from, to);
         free_turn(board, &mut pass.place);
         copies
     }
@@ -228,5 +358,82 @@ impl History {
         let joins = make_joins_at(board, &mut pass.place, p);
         free_turn(board, &mut pass.place);
         joins
+    }
+
+    /// Notes that nobody asks any more, by this pass, for what is before a position. The position is one that the pass has seen, and
+    /// not below the last one that it has noted. Constant time; nothing is allocated, and no turn is taken.
+    pub fn note<R: Wait>(&self, _rt: &R, pass: &mut Pass, position: u64)
+        requires same_history { pass.old.history ≡ self.now }
+        requires noted { (last : ℕ) × (pass.old.mark ≡ Noted last) × (last ≤ position) }
+        requires within { position ≤ length pass.old.view }
+        ensures { pass.new ≡ record pass.old { mark = Noted position } }
+    {
+        note(&self.board.shared, &mut pass.place, pass.number, position);
+    }
+
+    /// Gives the first position that the pinned pass may ask for: the one at which it is pinned less 65,536, and 0 where that is
+    /// below 0. The pass is unchanged. Constant time: it loads a word that no other pass stores. Nothing is allocated, and no turn is
+    /// taken.
+    pub fn reach(&self, pass: &mut Pass) -> u64
+        requires same_history { pass.old.history ≡ self.now }
+        requires pinned { (position : ℕ) × (pass.old.mark ≡ Pinned position) }
+        ensures unchanged { pass.new ≡ pass.old }
+        ensures first { result ≡ reach pass.old.mark }
+    {
+        let pin = pinned_at(&self.board.shared, &mut pass.place, pass.number);
+        pin.saturating_sub(BEHIND)
+    }
+
+    /// Takes the pin of the pass away. Constant time; nothing is allocated, and no turn is taken.
+    pub fn unpin<R: Wait>(&self, _rt: &R, pass: &mut Pass)
+        requires same_history { pass.old.history ≡ self.now }
+        requires pinned { (position : ℕ) × (pass.old.mark ≡ Pinned position) }
+        ensures { pass.new ≡ record pass.old { mark = NotPinned } }
+    {
+        unpin(&self.board.shared, &mut pass.place, pass.number);
+    }
+
+    /// Raises the floor as far as it may be, drops the entries before it, and gives it. It may be at most each noted position, and
+    /// each pin less 65,536, and the number of entries less 65,536, where a difference below 0 counts as 0. The view has then all
+    /// entries.
+    ///
+    /// It loads a word for each pass that has one, and lets the dropped entries go, under the turn. Nothing is allocated. While
+    /// another thread has the turn, this one sleeps.
+    pub fn trim<R: Wait>(&self, rt: &R, pass: &mut Pass) -> u64
+        requires same_history { pass.old.history ≡ self.now }
+        ensures goes_on { GoesOn pass.old pass.new }
+        ensures own { own pass.new ≡ own pass.old }
+        ensures floor { result ≡ pass.new.floor }
+        ensures within { result ≤ before (length pass.new.view) }
+    {
+        let board = &self.board.shared;
+        take_turn(rt, board, &mut pass.place);
+        let count = look(board, &mut pass.place);
+        let low = lowest(
+            board,
+            &mut pass.place,
+            self.pin_words,
+            self.pass_words,
+            count,
+        );
+        raise(board, &mut pass.place, low);
+        free_turn(board, &mut pass.place);
+        low
+    }
+
+    /// Extends the view of the pass to all entries of the history, as `look` does, and counts those that are stored: all but some
+    /// first ones that were dropped, which are at most as many as the number of entries less 65,536. Nothing is allocated. While
+    /// another thread has the turn, this one sleeps.
+    pub fn kept<R: Wait>(&self, rt: &R, pass: &mut Pass) -> u64
+        requires same_history { pass.old.history ≡ self.now }
+        ensures goes_on { GoesOn pass.old pass.new }
+        ensures own { own pass.new ≡ own pass.old }
+        ensures kept { (dropped : ℕ) × (result + dropped ≡ length pass.new.view) × (pass.new.floor ≤ dropped) × (dropped ≤ before (length pass.new.view)) }
+    {
+        let board = &self.board.shared;
+        take_turn(rt, board, &mut pass.place);
+        let kept = count_kept(board, &mut pass.place);
+        free_turn(board, &mut pass.place);
+        kept
     }
 }

@@ -6,11 +6,14 @@ ghost use Rattle.join_types.specs.Writes.{plain_write};
 ghost use Rattle.growing_history.specs.Entered.{IsWrite};
 ghost use Rattle.join_set.specs.Sets.{AreJoins};
 ghost use Rattle.write_history.specs.Looks.{TellsJoins};
+ghost use Rattle.base_versions.specs.Own.{own_from};
 ghost use Rattle.write_history.specs.Stored.{IsLog};
 ghost use Rattle.write_history.specs.Takes.{Takes, SaysVerdict};
 
 use crate::entry_list::EntryList;
 use crate::fault::AppendFault;
+use crate::part_numbers::PartNumbers;
+use base_versions::Placed;
 use join_set::{JoinSet, Standing};
 use join_types::{Entry, Write};
 use out_of_memory::OutOfMemory;
@@ -21,15 +24,21 @@ use std::marker::Model;
 #[derive(Debug, Drop)]
 pub(crate) struct Log {
     entries: EntryList,
+    /// For each part the positions of its entries among these.
+    numbers: PartNumbers,
     standing: Standing,
 }
 
 impl Model for Log {
+    ghost use Rattle.std.specs.Prelude.{◌≡◌, ◌+◌, length};
+    ghost use Rattle.write_history.specs.Numbers.{AreNumbered};
     ghost use Rattle.write_history.specs.Stored.{Stored};
 
     ghost Value = { Stored };
 
-    ghost view = { λ l. record { entries = l.entries.entries; summary = l.standing } };
+    ghost view = { λ l. record { lacks = l.entries.lacks; entries = l.entries.entries; summary = l.standing } };
+
+    ghost invariant = { λ l. (l.standing.length ≡ l.entries.lacks + length l.entries.entries) × AreNumbered l.entries.lacks l.entries.entries l.numbers };
 }
 
 /// Looks at the key or the join of a write, and so knows that it is one.
@@ -56,8 +65,10 @@ impl Log {
         ensures { IfOk result (λ log. IsLog [] 0 log) }
     {
         let entries = EntryList::new(alloc)?;
+        let numbers = PartNumbers::new(alloc)?;
         Ok(Log {
             entries,
+            numbers,
             standing: Standing::new(alloc),
         })
     }
@@ -73,19 +84,61 @@ impl Log {
             return Err(AppendFault::Refused(self.standing.length(), cause));
         }
         self.entries.reserve()?;
+        self.numbers.reserve(&entry.write)?;
         self.standing.enter(&entry.write)?;
         look_at(&entry.write);
+        let count = self.standing.length();
+        self.numbers.push(&entry.write, count);
         self.entries.push(entry);
-        Ok(self.standing.length())
+        Ok(count)
     }
 
-    /// Equal entries from one place up to another.
+    /// The number of first entries that it lacks.
+    pub(crate) fn lacks(&self) -> u64
+        ensures { result ≡ self.now.lacks }
+    {
+        self.entries.lacks() as u64
+    }
+
+    /// Drops the first entries up to a position.
+    pub(crate) fn drop_to(&mut self, floor: u64)
+        requires { (h : History) × (lacks : ℕ) × IsLog h lacks self.old × (lacks ≤ floor) × (floor ≤ length h) }
+        ensures { (h : History) (lacks : ℕ) → IsLog h lacks self.old → lacks ≤ floor → floor ≤ length h → IsLog h floor self.new }
+    {
+        self.entries.drop_to(floor as usize);
+        self.numbers.drop_upto(floor);
+    }
+
+    /// Equal entries from one position up to another.
     pub(crate) fn copy(&self, alloc: Global, from: u64, to: u64) -> Result<Vec<Entry>, OutOfMemory>
         requires order { from ≤ to }
-        requires within { to ≤ length self.now.entries }
-        ensures { IfOk result (λ copies. copies.items ≡ take (to - from) (drop from self.now.entries)) }
+        requires within { (h : History) × (lacks : ℕ) × IsLog h lacks self.now × (lacks ≤ from) × (to ≤ length h) }
+        ensures { IfOk result (λ copies. (h : History) (lacks : ℕ) → IsLog h lacks self.now → lacks ≤ from → copies.items ≡ take (to - from) (drop from h)) }
     {
         self.entries.copy(alloc, from as usize, to as usize)
+    }
+
+    /// Equal entries from one position up to another that put or remove a key of a table of the part, each with its position.
+    pub(crate) fn copy_own(
+        &self,
+        alloc: Global,
+        part: u8,
+        from: u64,
+        to: u64,
+    ) -> Result<Vec<Placed>, OutOfMemory>
+        requires order { from ≤ to }
+        requires within { (h : History) × (lacks : ℕ) × IsLog h lacks self.now × (lacks ≤ from) × (to ≤ length h) }
+        ensures { IfOk result (λ copies. (h : History) (lacks : ℕ) → IsLog h lacks self.now → lacks ≤ from → copies.items ≡ own_from 16 part (from + 1) (take (to - from) (drop from h))) }
+    {
+        let first = self.numbers.count_upto(part, from);
+        let last = self.numbers.count_upto(part, to);
+        let mut copies = Vec::with_capacity(alloc, last - first)?;
+        for place in first..last {
+            let position = self.numbers.get(part, place);
+            let entry = self.entries.get(position as usize - 1).copy(alloc)?;
+            copies.push(Placed { position, entry })?;
+        }
+        Ok(copies)
     }
 
     /// Copies the joins that stand where the last declaration or drop is not at the position that is known, at the cost of

@@ -4,6 +4,7 @@ use Rattle.write_history.specs.Passes.{PassView, new_pass}
 use Rattle.write_history.specs.Steps.{Sat, IsResting, dealing, dealt}
 use Rattle.write_history.proofs.Entering.{IsRecorded-nil}
 use Rattle.write_history.proofs.Lists.{each_push}
+use Rattle.write_history.proofs.Marking.{first_low, first_placed}
 use Rattle.write_history.proofs.Turning.{deals}
 use Rattle.write_history.proofs.history.deal.Goals as goal
 
@@ -17,7 +18,7 @@ split_seat-place-requires c =
 pub invariant_of-push : goal.invariant_of-push
 invariant_of-push c =
     let is = c.split_seat-place.ensures.4 ∙ ap (λ (m : Sat). (dealt m.0, [])) c.loop-number.invariant.next in
-    subst (λ (m : Sat). IsResting c.loop-number.number m) (sym is) (record { numbered = refl; empty = refl; none_told = refl; none_held = refl; recorded = IsRecorded-nil c.args.board.now.key.writers })
+    subst (λ (m : Sat). IsResting c.loop-number.number m) (sym is) (record { numbered = refl; empty = refl; none_told = refl; none_held = refl; recorded = IsRecorded-nil c.args.board.now.key.writers; low = first_low c.args.board.now.key c.loop-number.number; placed = first_placed c.args.board.now.key c.loop-number.number })
 
 pub loop-number-preserved : goal.loop-number-preserved
 loop-number-preserved c =
@@ -26,15 +27,15 @@ loop-number-preserved c =
     let number = c.loop-number.number in
     let place = c.split_seat-place.result in
     let old = c.loop-number.passes.items in
-    let pass : PassView = record { history = place.table_id; number = number; writers = place.me.0.writers; view = place.me.0.seen } in
+    let pass : PassView = record { history = record { table = place.table_id; kinds = place.me.0.kinds }; number = number; writers = place.me.0.kinds.writers; view = place.me.0.seen; mark = place.me.0.mark; floor = place.me.0.floor } in
     let is = c.split_seat-place.ensures.4 ∙ ap (λ (m : Sat). (dealt m.0, [])) now.next in
     let own = c.split_seat-place.ensures.3 ∙ now.own in
-    let pass_is : pass ≡ new_pass board.table_id board.key.writers number =
-    λ i. record { history = own i; number = number; writers = (is i).0.writers; view = (is i).0.seen } in
+    let pass_is : pass ≡ new_pass (record { table = board.table_id; kinds = board.key }) number =
+    λ i. record { history = record { table = own i; kinds = (is i).0.kinds }; number = number; writers = (is i).0.kinds.writers; view = (is i).0.seen; mark = (is i).0.mark; floor = (is i).0.floor } in
     let items = c.in_ok-push.ensures.items in
     record {
       own = c.split_seat-place.ensures.0 ∙ now.own;
       next = c.split_seat-place.ensures.2 ∙ ap (λ (m : Sat). (dealing m.0, m.1)) now.next;
       count = ap length items ∙ length-append old (pass ∷ []) ∙ ap (λ n. n + 1) now.count;
-      each = λ n less. ap (λ passes. slice_get passes n) items ∙ each_push old pass number (λ k. new_pass board.table_id board.key.writers k) now.count now.each pass_is n less;
+      each = λ n less. ap (λ passes. slice_get passes n) items ∙ each_push old pass number (λ k. new_pass (record { table = board.table_id; kinds = board.key }) k) now.count now.each pass_is n less;
     }

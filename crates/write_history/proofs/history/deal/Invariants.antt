@@ -9,5 +9,5 @@ invariant-loop-number l = record {
   own : l.first.table_id ≡ l.board.table_id;
   next : l.first.me ≡ (record (dealer l.board.key) { role = Deals l.number }, []);
   count : length l.passes.items ≡ l.number;
-  each : (number : ℕ) → number < l.number → slice_get l.passes.items number ≡ Some (new_pass l.board.table_id l.board.key.writers number);
+  each : (number : ℕ) → number < l.number → slice_get l.passes.items number ≡ Some (new_pass (record { table = l.board.table_id; kinds = l.board.key }) number);
 }

@@ -15,7 +15,7 @@ store-requires c =
     let size = c.requires.sized in (
       c.take_entry.ensures.own ∙ c.requires.own,
       omega arith,
-      subst (λ (m : Sat). Allows (Keeps board.key) board.table_id.slots place.id m 1 (λ n. c.in-Ok.count) (λ n. entered m c.in-Ok.count)) (sym taken.is)
+      subst (λ (m : Sat). Allows (Keeps board.key) board.table_id.slots place.id m 16 (λ n. c.in-Ok.count) (λ n. entered m c.in-Ok.count)) (sym taken.is)
           (enters board.key board.table_id.slots place.id (c.args.place.now.me.0, (0, taken.log) ∷ []) c.args.entry.client h taken.log c.args.entry c.in-Ok.count
           c.requires.number has.2.held refl has.2.is_log.within taken.takes.is_log refl c.requires.writer taken.takes.free taken.takes.write taken.takes.counted),
     )

@@ -1,18 +1,21 @@
 -- Which ids entries mark, one part of them after another.
-use Rattle.std.proofs.Common.{◌≡◌, ◌==◌, ℕ, ◌+◌, ◌-◌, ◌≤◌, List, [], ◌∷◌, ◌++◌, length, take, drop, filter, flat_map, Bool, true, false, cond, if◌then◌else◌, eq-eqb, ne_eqb, Result, OnOk, OnErr, refl, sym, ap, ◌∙◌, subst, arith}
+use Rattle.std.proofs.Common.{◌≡◌, ◌==◌, ℕ, ◌+◌, ◌-◌, ◌≤◌, List, [], ◌∷◌, ◌++◌, length, take, drop, filter, flat_map, Bool, true, false, cond, Result, OnOk, OnErr, refl, sym, ap, ◌∙◌, subst, arith}
 use Rattle.std.proofs.lemmas.List.{append-nil, drop-drop, length-drop, take-append-drop}
 use Rattle.std.proofs.lemmas.List.Concat.{flat_map-append}
 use Rattle.std.proofs.lemmas.List.Elements.{filter-append}
 use Rattle.std.proofs.lemmas.List.Sums.{fold-append}
 use Rattle.std.proofs.lemmas.Result.{on_ok_weaker, on_err_weaker}
 use Rattle.semantics.specs.Texts.{Text, table_of}
-use Rattle.semantics.specs.Histories.{Entry, History}
+use Rattle.semantics.specs.Histories.{Write, put, remove, declare, drop_join, Entry, History}
 use Rattle.growing_history.specs.Changes.{entries_between, written}
 use Rattle.base_versions.specs.Kept.{Kept, HasEnteredInPart, shard_of}
+use Rattle.base_versions.specs.Own.{AreOwn, is_of, own_from}
+use Rattle.base_versions.specs.declared.placed.Placed.{Placed}
+use Rattle.base_versions.proofs.OwnLemmas.{placed}
 use Rattle.updater_index.specs.Registered.{Held, Index, IsMarkedInPart, stabbed, with_mark}
 use Rattle.base_shards.proofs.ListLemmas.{take_then, take_of_take}
-use Rattle.base_shards.proofs.ShardLemmas.{TakesNext, next_entries, next_length, next_upto}
-use Rattle.base_shards.specs.Marks.{written_in, stabbed_by, with_ids_marked, marked_by, marked_by_key, OnlyMarks, MarksAtLeast, starts_from}
+use Rattle.base_shards.proofs.ShardLemmas.{TakesNext, TakesOwn, next_entries, next_length, next_upto, all_reach, some_enter}
+use Rattle.base_shards.specs.Marks.{written_in, keys_of, stabbed_by, with_ids_marked, marked_by, marked_by_keys, OnlyMarks, MarksAtLeast}
 
 -- ---- ids that are marked one after another
 
@@ -55,31 +58,51 @@ pub stabbed_by-append : (number : ℕ) (es more : History) (held : Held) → sta
 stabbed_by-append number es more held =
     ap (flat_map (λ key. stabbed key held)) (written_in-append number es more) ∙ flat_map-append (λ key. stabbed key held) (written_in number es) (written_in number more)
 
+-- what keys mark, and then others
+pub marked_by_keys-append : (keys more : List Text) (index : Index) → marked_by_keys (keys ++ more) index ≡ marked_by_keys more (marked_by_keys keys index)
+marked_by_keys-append keys more index =
+    ap (λ ids. with_ids_marked ids index) (flat_map-append (λ key. stabbed key index.held) keys more)
+    ∙ ids_then (flat_map (λ key. stabbed key index.held) keys) (flat_map (λ key. stabbed key index.held) more) index
+
 -- what they mark
 pub marked_by-append : (number : ℕ) (es more : History) (index : Index) → marked_by number (es ++ more) index ≡ marked_by number more (marked_by number es index)
 marked_by-append number es more index =
-    ap (λ ids. with_ids_marked ids index) (stabbed_by-append number es more index.held) ∙ ids_then (stabbed_by number es index.held) (stabbed_by number more index.held) index
+    ap (λ keys. marked_by_keys keys index) (written_in-append number es more) ∙ marked_by_keys-append (written_in number es) (written_in number more) index
 
 -- ---- one entry
 
--- the ids of one key alone
-one_key : (key : Text) (held : Held) → flat_map (λ k. stabbed k held) (key ∷ []) ≡ stabbed key held
-one_key key held = append-nil (stabbed key held)
-
-by_test : (b : Bool) (key : Text) (index : Index) → with_ids_marked (flat_map (λ k. stabbed k index.held) (cond b (key ∷ []) [])) index ≡ (if b then with_ids_marked (stabbed key index.held) index else index)
-by_test true key index = ap (λ ids. with_ids_marked ids index) (one_key key index.held)
-by_test false key index = refl
-
 -- an entry that puts or removes a key marks what the key does
-pub marked_by_one : (number : ℕ) (e : Entry) (key : Text) (index : Index) → written e.write ≡ key ∷ [] → marked_by number (e ∷ []) index ≡ marked_by_key number key index
-marked_by_one number e key index is =
-    ap (λ ks. with_ids_marked (flat_map (λ k. stabbed k index.held) (filter (λ k. shard_of 16 (table_of k) == number) (ks ++ []))) index) is
-    ∙ by_test (shard_of 16 (table_of key) == number) key index
+pub marked_by_one : (e : Entry) (key : Text) (index : Index) → written e.write ≡ key ∷ [] → marked_by_keys (written e.write) index ≡ with_ids_marked (stabbed key index.held) index
+marked_by_one e key index is = ap (λ keys. marked_by_keys keys index) is ∙ ap (λ ids. with_ids_marked ids index) (append-nil (stabbed key index.held))
 
 -- one that puts and removes none marks nothing
-pub marked_by_none : (number : ℕ) (e : Entry) (index : Index) → written e.write ≡ [] → marked_by number (e ∷ []) index ≡ index
-marked_by_none number e index is =
-    ap (λ ks. with_ids_marked (flat_map (λ k. stabbed k index.held) (filter (λ k. shard_of 16 (table_of k) == number) (ks ++ []))) index) is
+pub marked_by_none : (e : Entry) (index : Index) → written e.write ≡ [] → marked_by_keys (written e.write) index ≡ index
+marked_by_none e index is = ap (λ keys. marked_by_keys keys index) is
+
+-- ---- the entries of a part
+
+-- the keys of some entries, and of one more
+pub keys_of-push : (own : List Placed) (p : Placed) → keys_of (own ++ p ∷ []) ≡ keys_of own ++ written p.entry.write
+keys_of-push own p = flat_map-append (λ (q : Placed). written q.entry.write) own (p ∷ []) ∙ ap (λ keys. keys_of own ++ keys) (append-nil (written p.entry.write))
+
+by_test : (b : Bool) (p : Placed) (key : Text) → written p.entry.write ≡ key ∷ [] → keys_of (cond b (p ∷ []) []) ≡ cond b (key ∷ []) []
+by_test true p key is = ap (λ keys. keys ++ []) is
+by_test false p key is = refl
+
+by_write : (number : ℕ) (p : Placed) (write : Write) → written p.entry.write ≡ written write → keys_of (cond (is_of 16 number write) (p ∷ []) []) ≡ filter (λ key. shard_of 16 (table_of key) == number) (written write ++ [])
+by_write number p (put k v) is = by_test (shard_of 16 (table_of k) == number) p k is
+by_write number p (remove k) is = by_test (shard_of 16 (table_of k) == number) p k is
+by_write number p (declare j) is = refl
+by_write number p (drop_join at) is = refl
+
+-- the entries of a part put and remove the keys that all entries do in its tables
+pub keys_own : (number n : ℕ) (es : History) → keys_of (own_from 16 number n es) ≡ written_in number es
+keys_own number n [] = refl
+keys_own number n (e ∷ es) =
+    let here : List Placed = cond (is_of 16 number e.write) (placed n e ∷ []) [] in
+    flat_map-append (λ (q : Placed). written q.entry.write) here (own_from 16 number (n + 1) es)
+    ∙ (λ i. by_write number (placed n e) e.write refl i ++ keys_own number (n + 1) es i)
+    ∙ sym (written_in-append number (e ∷ []) es)
 
 -- ---- at least
 
@@ -130,16 +153,24 @@ next_between_positions view es old new p from to next position =
     let long = next_length view old.position p from to es next in
     next_entries view old.position p from to es next ∙ ap (λ k. take k (drop old.position view)) (let e : to - old.position ≡ new.position - old.position = omega (arith, long, position) in e)
 
+-- the own ones mark what all of them do
+pub marked_own : (old : Kept) (view : History) (p from to : ℕ) (own : List Placed) (es : History) (before after : Index) → old.shards ≡ 16 → TakesOwn old view p from to own es →
+    after ≡ marked_by_keys (keys_of own) before → after ≡ marked_by old.shard es before
+marked_own old view p from to own es before after shards takes marked =
+    marked ∙ ap (λ keys. marked_by_keys keys before) (ap keys_of (takes.are.are ∙ ap (λ n. own_from n old.shard (old.position + 1) es) shards) ∙ keys_own old.shard (old.position + 1) es)
+
 -- where all were taken, the ids that they mark are marked
-pub marked_next : {T E : Type 0} (r : Result T E) (view es : History) (old new : Kept) (p from to number : ℕ) (before after : Index) → TakesNext view old.position p from to es → after ≡ marked_by number es before →
-    OnOk r (new.position ≡ old.position + length es) → OnOk r (after ≡ marked_by number (entries_between old.position new.position view) before)
-marked_next r view es old new p from to number before after next marked position =
-    on_ok_weaker r (λ is. marked ∙ ap (λ (xs : History). marked_by number xs before) (next_between_positions view es old new p from to next is)) position
+pub marked_next : {T E : Type 0} (r : Result T E) (view : History) (old new : Kept) (p from to : ℕ) (own : List Placed) (es : History) (before after : Index) → old.shards ≡ 16 → TakesOwn old view p from to own es →
+    after ≡ marked_by_keys (keys_of own) before → OnOk r (new.position ≡ to) → OnOk r (after ≡ marked_by old.shard (entries_between old.position new.position view) before)
+marked_next r view old new p from to own es before after shards takes marked position =
+    on_ok_weaker r (λ is. marked_own old view p from to own es before after shards takes marked ∙ ap (λ (xs : History). marked_by old.shard xs before) (next_between_positions view es old new p from to takes.next is))
+    (all_reach r old new to own es takes.are position)
 
 -- where some were, at least those that these mark are
-pub at_least_next : {T E : Type 0} (r : Result T E) (view es : History) (old new : Kept) (p from to number : ℕ) (before after : Index) → TakesNext view old.position p from to es → after ≡ marked_by number es before →
-    OnErr r (HasEnteredInPart old es new) → OnErr r (MarksAtLeast number (entries_between old.position new.position view) before after)
-at_least_next r view es old new p from to number before after next marked part =
+pub at_least_next : {T E : Type 0} (r : Result T E) (view : History) (old new : Kept) (p from to : ℕ) (own : List Placed) (es : History) (before after : Index) → old.shards ≡ 16 → TakesOwn old view p from to own es →
+    after ≡ marked_by_keys (keys_of own) before → OnErr r ((all : History) → AreOwn old to own all → HasEnteredInPart old all new) → OnErr r (MarksAtLeast old.shard (entries_between old.position new.position view) before after)
+at_least_next r view old new p from to own es before after shards takes marked part =
+    let next = takes.next in
     on_err_weaker r (λ (some : HasEnteredInPart old es new).
     let long = next_length view old.position p from to es next in
     let all = next_entries view old.position p from to es next in
@@ -148,7 +179,7 @@ at_least_next r view es old new p from to number before after next marked part =
     ap (take some.count) all
     ∙ take_of_take some.count (to - old.position) (drop old.position view) (omega (arith, long, some.some)) fits
     ∙ ap (λ k. take k (drop old.position view)) (let e : some.count ≡ new.position - old.position = omega (arith, some.position) in e) in
-    subst (λ (xs : History). MarksAtLeast number xs before after) first (at_least_first number some.count es before after marked)) part
+    subst (λ (xs : History). MarksAtLeast old.shard xs before after) first (at_least_first old.shard some.count es before after (marked_own old view p from to own es before after shards takes marked))) (some_enter r old new to own es takes.are part)
 
 -- where none was, and ids were marked all the same
 pub at_least_none : (view : History) (number position : ℕ) (before after : Index) → OnlyMarks before after → MarksAtLeast number (entries_between position position view) before after
@@ -185,13 +216,3 @@ at_least_as shard number from start p view seen first before last same place sig
     (subst (λ (h : History). MarksAtLeast number (entries_between start p h) first last) sight
     (subst (λ (n : ℕ). MarksAtLeast number (entries_between n p view) first last) place
     (subst (λ (n : ℕ). MarksAtLeast n (entries_between from p view) first last) same marks)))
-
--- ---- where a part goes on from
-
--- from where it is, if it keeps the tables of the part
-pub starts_here : (number : ℕ) (base : Kept) → base.shard ≡ number → starts_from number base ≡ base.position
-starts_here number base is = ap (λ (b : Bool). if b then base.position else 0) (eq-eqb base.shard number is)
-
--- and otherwise from nothing
-pub starts_anew : (number : ℕ) (base : Kept) → (base.shard ≡ number → ⊥) → starts_from number base ≡ 0
-starts_anew number base other = ap (λ (b : Bool). if b then base.position else 0) (ne_eqb base.shard number other)

@@ -1,9 +1,10 @@
 -- Which ids entries mark in a part of the tables.
-use Rattle.std.specs.Prelude.{◌≡◌, ℕ, ◌-◌, ◌==◌, List, ◌++◌, filter, flat_map, if◌then◌else◌}
+use Rattle.std.specs.Prelude.{◌≡◌, ℕ, ◌==◌, List, ◌++◌, filter, flat_map}
 use Rattle.semantics.specs.Texts.{Text, table_of}
 use Rattle.semantics.specs.Histories.{History}
-use Rattle.growing_history.specs.Changes.{entries_between, written}
-use Rattle.base_versions.specs.Kept.{Kept, shard_of}
+use Rattle.growing_history.specs.Changes.{written}
+use Rattle.base_versions.specs.Kept.{shard_of}
+use Rattle.base_versions.specs.declared.placed.Placed.{Placed}
 use Rattle.updater_index.specs.Registered.{Held, Index, stabbed, with_marks}
 
 -- the keys that entries put or remove in tables of the part with a number, in order
@@ -22,9 +23,13 @@ with_ids_marked ids index = record { held = index.held; marked = with_marks inde
 abbrev pub marked_by : ℕ → History → Index → Index
 marked_by number entries index = with_ids_marked (stabbed_by number entries index.held) index
 
--- the ranges and marks, once each id is marked that has a range with the key, where its table is of the part
-abbrev pub marked_by_key : ℕ → Text → Index → Index
-marked_by_key number key index = if shard_of 16 (table_of key) == number then with_ids_marked (stabbed key index.held) index else index
+-- the keys that entries put or remove, whose positions are known, in order
+abbrev pub keys_of : List Placed → List Text
+keys_of own = flat_map (λ p. written p.entry.write) own
+
+-- the ranges and marks, once each id is marked that has a range with one of these keys
+abbrev pub marked_by_keys : List Text → Index → Index
+marked_by_keys keys index = with_ids_marked (flat_map (λ key. stabbed key index.held) keys) index
 
 -- more ids are marked, and the ranges are those that were
 pub record OnlyMarks (old new : Index) : Type 0 where
@@ -35,11 +40,3 @@ pub record OnlyMarks (old new : Index) : Type 0 where
 pub record MarksAtLeast (number : ℕ) (entries : History) (old new : Index) : Type 0 where
   pub more : List ℕ
   pub is : new ≡ with_ids_marked (stabbed_by number entries old.held ++ more) old
-
--- from where the part with a number goes on: from where it is, if it keeps the tables of this part, and otherwise from nothing
-abbrev pub starts_from : ℕ → Kept → ℕ
-starts_from number base = if base.shard == number then base.position else 0
-
--- the entries that a part has taken
-abbrev pub taken : ℕ → Kept → Kept → History → History
-taken number old new view = entries_between (starts_from number old) new.position view

@@ -1,10 +1,11 @@
 -- A shard as contracts see it, and what is true of it whenever its lock is free.
 use Rattle.std.specs.Prelude.{◌≡◌, ℕ, ◌≤◌, List, [], length, take, slice_set}
-use Rattle.atomic_table.specs.Seated.{TableId}
 use Rattle.semantics.specs.Texts.{Range}
 use Rattle.base_versions.specs.Kept.{Kept, StandsFor}
 use Rattle.updater_index.specs.Registered.{Index, ranges_of, with_ranges, without_mark}
-use Rattle.write_history.specs.Passes.{PassView}
+use Rattle.write_history.specs.Passes.{HistoryId, PassView}
+use Rattle.write_history.specs.declared.known.Mark.{Mark}
+use Rattle.write_history.specs.declared.known.Mark.TheVariants.{Noted}
 
 -- the base pairs of its tables, the ranges and marks of the ids, and its pass
 pub record ShardView : Type 0 where
@@ -12,12 +13,20 @@ pub record ShardView : Type 0 where
   pub index : Index
   pub pass : PassView
 
--- what is kept of the base is that of one of 16 parts of the tables, after a beginning of what the pass has seen
-pub record KeepsBeginning (history : TableId) (base : Kept) (pass : PassView) : Type 0 where
+-- the pass has noted a position, which is at most this one
+pub record HasNoted (mark : Mark) (position : ℕ) : Type 0 where
+  pub last : ℕ
+  pub noted : mark ≡ Noted last
+  pub reached : last ≤ position
+
+-- what is kept of the base is that of one of 16 parts of the tables, after a beginning of what the pass has seen; the pass has noted no later position, and knows that the history may be asked for nothing before the start
+pub record KeepsBeginning (history : HistoryId) (base : Kept) (pass : PassView) : Type 0 where
   pub same_history : pass.history ≡ history
   pub shards : base.shards ≡ 16
   pub reaches : base.position ≤ length pass.view
-  pub stands : StandsFor 0 base (take base.position pass.view)
+  pub noted : HasNoted pass.mark base.position
+  pub trimmed : base.start ≤ pass.floor
+  pub stands : StandsFor base.start base (take base.position pass.view)
 
 -- the ranges and marks without those of an id
 abbrev pub without_id : ℕ → Index → Index

@@ -4,12 +4,13 @@ ghost use Rattle.std.specs.Arc.{arc_value};
 ghost use Rattle.semantics.specs.Texts.{pairs_within};
 ghost use Rattle.semantics.specs.Histories.{base_of};
 ghost use Rattle.growing_history.specs.Changes.{changed_keys};
-ghost use Rattle.base_shards.specs.Reading.{ReadsOn};
+ghost use Rattle.write_history.specs.declared.known.Mark.TheVariants.{Noted};
+ghost use Rattle.base_shards.specs.Reading.{ReachesBack, ReadsOn};
 ghost use Rattle.base_shards.specs.Changed.{changed_in_all, steps_of_all};
 
 use crate::key_set::{add_keys, listed};
 use crate::naming::Naming;
-use crate::shard::{SHARDS, Shard};
+use crate::shard::{SHARDS, Shard, TRIM};
 use base_versions::shard_of;
 use join_types::Pair;
 use key_space::{Key, Range};
@@ -22,9 +23,10 @@ use std::{hint, mem};
 use steps::Steps;
 use write_history::{History, Pass};
 
-/// The base pairs of all tables at every position of a history, which threads share. The tables are in 16 parts, each
+/// The base pairs of all tables at the later positions of a history, which threads share. The tables are in 16 parts, each
 /// behind a lock of its own: a table is of the part whose number is the sum of its name's bytes modulo 16. What is read is
-/// read at a position that the caller's pass has seen, whatever the parts have come to meanwhile.
+/// read at a position that the caller's pass has seen, whatever the parts have come to meanwhile, and that is at most 65,536
+/// entries before the one at which the pass is pinned: settling lets go of what is older.
 ///
 /// No call takes a second lock while it has one. Under the lock of a part the history's turn may be taken.
 #[derive(Drop)]
@@ -54,6 +56,7 @@ fn make_shards<N: Naming>(
 ) -> Result<Vec<Mutex<Shard<N>>>, OutOfMemory>
     requires count { length passes.items ≡ 16 }
     requires same_history { All (λ pass. pass.history ≡ N.history) passes.items }
+    requires noted { All (λ pass. pass.mark ≡ Noted 0) passes.items }
     ensures { IfOk result (λ shards. vec_len shards ≡ 16) }
 {
     let mut shards = Vec::with_capacity(alloc, passes.len())?;
@@ -66,9 +69,9 @@ fn make_shards<N: Naming>(
 }
 
 impl<N: Naming> BaseShards<N> {
-    /// The base pairs of the history after no entries, with a pass of it for each part. What is read later and what the
-    /// parts grow by is allocated by this allocator. No id has ranges, and none is marked; room is reserved for the marks
-    /// of all ids below a number. Linear in that number.
+    /// The base pairs of the history after no entries, with a pass of it for each part, which has a word for noted positions and
+    /// has noted none yet. What is read later and what the parts grow by is allocated by this allocator. No id has ranges, and
+    /// none is marked; room is reserved for the marks of all ids below a number. Linear in that number.
     pub fn new(
         alloc: Global,
         history: Arc<History>,
@@ -78,6 +81,7 @@ impl<N: Naming> BaseShards<N> {
         requires named { arc_value history ≡ N.history }
         requires count { length passes.items ≡ 16 }
         requires same_history { All (λ pass. pass.history ≡ N.history) passes.items }
+        requires noted { All (λ pass. pass.mark ≡ Noted 0) passes.items }
     {
         let shards = make_shards(alloc, passes, ids)?;
         Ok(BaseShards {
@@ -113,9 +117,9 @@ impl<N: Naming> BaseShards<N> {
     /// The base pairs of the range after the first p entries that the pass has seen, in the order of their keys. Where the
     /// part of its table has not come to p, it is brought there. While another thread has the part, this one sleeps.
     ///
-    /// It costs a look-up for each entry up to p that is new to the part, then the search for the range, and for each of
-    /// its keys that was ever put or removed the search for its version. The steps are as many as the pairs, and one. On
-    /// `OutOfMemory` they are not counted, and the part may have come nearer to p.
+    /// It costs a look-up for each entry of the part up to p that is new to it, then the search for the range, and for each of its
+    /// keys that stands or changed since the part was trimmed the search for its version. The steps are as many as the pairs, and
+    /// one. On `OutOfMemory` they are not counted, and the part may have come nearer to p.
     pub fn pairs_at<L: Ledger, R: Wait>(
         &self,
         rt: &R,
@@ -126,6 +130,7 @@ impl<N: Naming> BaseShards<N> {
     ) -> Result<Vec<Pair>, OutOfMemory>
         requires same_history { pass.old.history ≡ N.history }
         requires within { p ≤ length pass.old.view }
+        requires pinned { ReachesBack pass.old p }
         ensures reads_on { ReadsOn pass.old pass.new }
         ensures exact { IfOk result (λ pairs. pairs.items ≡ pairs_within range.now (base_of (take p pass.old.view))) }
         ensures cost { IfOk result (λ pairs. steps.new ≡ steps.old + 1 + length pairs.items) }
@@ -151,6 +156,7 @@ impl<N: Naming> BaseShards<N> {
         requires same_history { pass.old.history ≡ N.history }
         requires order { q ≤ p }
         requires within { p ≤ length pass.old.view }
+        requires pinned { ReachesBack pass.old q }
         ensures reads_on { ReadsOn pass.old pass.new }
         ensures exact { IfOk result (λ keys. keys.items ≡ changed_keys q p range.now pass.old.view) }
         ensures cost { IfOk result (λ keys. steps.new ≡ steps.old + 1 + length keys.items) }
@@ -166,8 +172,8 @@ impl<N: Naming> BaseShards<N> {
     /// the p-th: in order, each once. The parts of their tables are brought to p, one after another. While another thread
     /// has one, this one sleeps.
     ///
-    /// It costs what `BaseVersions::changed` does for each range, and a look-up for each entry up to p that is new to a
-    /// part; of several ranges the keys are sorted. The steps are for each range as many as its keys, and one. On
+    /// It costs what `BaseVersions::changed` does for each range, and a look-up for each entry of a part up to p that is new to
+    /// it; of several ranges the keys are sorted. The steps are for each range as many as its keys, and one. On
     /// `OutOfMemory` some of them may be counted, and the parts may have come nearer to p.
     pub fn changed<L: Ledger, R: Wait>(
         &self,
@@ -181,6 +187,7 @@ impl<N: Naming> BaseShards<N> {
         requires same_history { pass.old.history ≡ N.history }
         requires order { q ≤ p }
         requires within { p ≤ length pass.old.view }
+        requires pinned { ReachesBack pass.old q }
         ensures reads_on { ReadsOn pass.old pass.new }
         ensures exact { IfOk result (λ keys. keys.items ≡ changed_in_all q p ranges.now pass.old.view) }
         ensures cost { IfOk result (λ keys. steps.new ≡ steps.old + steps_of_all q p ranges.now pass.old.view) }
@@ -199,8 +206,8 @@ impl<N: Naming> BaseShards<N> {
 
     /// Brings a part to a position that the pass has seen, if it is not there yet. In this and every other call that brings
     /// a part forward, the ids that follow a range with an entry's key are marked before the part takes the entry. While
-    /// another thread has the part, this one sleeps. It costs a look-up for each entry that is new to the part, and for each
-    /// of its tables the search for these ids.
+    /// another thread has the part, this one sleeps. It costs a look-up and the search for these ids for each entry of the part
+    /// that is new to it.
     ///
     /// On `OutOfMemory` the part may have come nearer to the position, and ids may be marked for an entry that it has not
     /// taken.
@@ -218,6 +225,90 @@ impl<N: Naming> BaseShards<N> {
     {
         self.lock_part(rt, shard)
             .bring(rt, &self.history, pass, shard, p)
+    }
+
+    /// Brings a part to a position that the pass has seen and notes it. Where no memory is found it notes nothing.
+    fn note_part<R: Wait>(&self, rt: &R, pass: &mut Pass, number: u8, p: u64)
+        requires number { number < 16 }
+        requires same_history { pass.old.history ≡ N.history }
+        requires within { p ≤ length pass.old.view }
+        ensures { ReadsOn pass.old pass.new }
+    {
+        let mut part = self.lock_part(rt, number);
+        let _ = part.bring_and_note(rt, &self.history, pass, number, p);
+    }
+
+    /// Brings each part to a position that the pass has seen and notes it, one after another.
+    fn note_parts<R: Wait>(&self, rt: &R, pass: &mut Pass, p: u64)
+        requires same_history { pass.old.history ≡ N.history }
+        requires within { p ≤ length pass.old.view }
+        ensures { ReadsOn pass.old pass.new }
+    {
+        for number in 0..SHARDS {
+            self.note_part(rt, pass, number, p);
+        }
+    }
+
+    /// Lets go of the next positions of a part up to a floor that the pass knows, if it has come to a position. Says whether there
+    /// are more.
+    fn trim_some<R: Wait>(
+        &self,
+        rt: &R,
+        pass: &mut Pass,
+        number: u8,
+        floor: u64,
+        position: u64,
+    ) -> bool
+        requires number { number < 16 }
+        requires same_history { pass.old.history ≡ N.history }
+        requires floor { floor ≤ pass.old.floor }
+        ensures { ReadsOn pass.old pass.new }
+    {
+        self.lock_part(rt, number)
+            .trim_some(rt, &self.history, pass, floor, position)
+    }
+
+    /// Lets go of the positions of a part up to a floor that the pass knows, if it has come to a position. Its lock is taken for
+    /// each 256 of them anew, so that nobody waits for long.
+    fn trim_part<R: Wait>(&self, rt: &R, pass: &mut Pass, number: u8, floor: u64, position: u64)
+        requires number { number < 16 }
+        requires same_history { pass.old.history ≡ N.history }
+        requires floor { floor ≤ pass.old.floor }
+        ensures { ReadsOn pass.old pass.new }
+    {
+        for _piece in 0..floor / TRIM + 1 {
+            if !self.trim_some(rt, pass, number, floor, position) {
+                return;
+            }
+        }
+    }
+
+    /// Lets go of the positions of each part up to a floor that the pass knows, one after another, but of those that have not come
+    /// to a position.
+    fn trim_parts<R: Wait>(&self, rt: &R, pass: &mut Pass, floor: u64, position: u64)
+        requires same_history { pass.old.history ≡ N.history }
+        requires floor { floor ≤ pass.old.floor }
+        ensures { ReadsOn pass.old pass.new }
+    {
+        for number in 0..SHARDS {
+            self.trim_part(rt, pass, number, floor, position);
+        }
+    }
+
+    /// Settles the history: looks, brings each part to the last position and notes it, raises the floor of the history as far as it
+    /// may be, and lets go of what each part keeps below it. A part for which no memory is found notes nothing and keeps what it
+    /// has. While another thread has a part, this one sleeps.
+    ///
+    /// It costs what it does to bring each part there, and a look-up for each entry that is let go. A part is locked for as long as
+    /// 256 of these take at most.
+    pub fn settle<R: Wait>(&self, rt: &R, pass: &mut Pass)
+        requires same_history { pass.old.history ≡ N.history }
+        ensures { ReadsOn pass.old pass.new }
+    {
+        let position = self.history.look(rt, pass);
+        self.note_parts(rt, pass, position);
+        let floor = self.history.trim(rt, pass);
+        self.trim_parts(rt, pass, floor, position);
     }
 
     /// Registers ranges of the part with a number under the id. Where there are none it takes no lock.

@@ -1,57 +1,38 @@
 // Marking the ids that written keys concern.
-ghost use Rattle.std.specs.Prelude.{◌≡◌, ◌<◌, [], ◌∷◌, OnOk, OnErr};
-ghost use Rattle.base_shards.specs.Marks.{OnlyMarks, marked_by, marked_by_key};
+ghost use Rattle.std.specs.Prelude.{◌≡◌, OnOk, OnErr};
+ghost use Rattle.growing_history.specs.Changes.{written};
+ghost use Rattle.base_shards.specs.Marks.{OnlyMarks, keys_of, marked_by_keys};
 
-use crate::shard::SHARDS;
-use base_versions::shard_of;
+use base_versions::Placed;
 use join_types::{Entry, Write};
-use key_space::Key;
 use out_of_memory::OutOfMemory;
 use updater_index::UpdaterIndex;
 
-/// Marks every id with a range that contains the key, where the key's table is of the part with a number.
+/// Marks every id with a range that contains the key which the entry puts or removes.
 ///
 /// On `OutOfMemory` some of them may be marked.
-fn mark_key(index: &mut UpdaterIndex, number: u8, key: &Key) -> Result<(), OutOfMemory>
-    ensures ok { OnOk result (index.new ≡ marked_by_key number key.now index.old) }
-    ensures err { OnErr result (OnlyMarks index.old index.new) }
-{
-    if shard_of(key.table(), SHARDS) != number {
-        return Ok(());
-    }
-    index.mark_stabbed(key)
-}
-
-/// Marks every id with a range that contains the key which the entry puts or removes, where its table is of the part with
-/// a number.
-///
-/// On `OutOfMemory` some of them may be marked.
-fn mark_entry(index: &mut UpdaterIndex, number: u8, entry: &Entry) -> Result<(), OutOfMemory>
-    ensures ok { OnOk result (index.new ≡ marked_by number (entry.now ∷ []) index.old) }
+fn mark_entry(index: &mut UpdaterIndex, entry: &Entry) -> Result<(), OutOfMemory>
+    ensures ok { OnOk result (index.new ≡ marked_by_keys (written entry.now.write) index.old) }
     ensures err { OnErr result (OnlyMarks index.old index.new) }
 {
     match &entry.write {
-        Write::Put(key, _) => mark_key(index, number, key),
-        Write::Remove(key) => mark_key(index, number, key),
+        Write::Put(key, _) => index.mark_stabbed(key),
+        Write::Remove(key) => index.mark_stabbed(key),
         Write::Declare(_) => Ok(()),
         Write::Drop(_) => Ok(()),
     }
 }
 
-/// Marks every id with a range that contains a key which the entries put or remove in tables of the part with a number. It
-/// costs what `UpdaterIndex::mark_stabbed` does for each such key.
+/// Marks every id with a range that contains a key which the entries put or remove. It costs what
+/// `UpdaterIndex::mark_stabbed` does for each such key.
 ///
 /// On `OutOfMemory` some of them may be marked.
-pub(crate) fn mark_written(
-    index: &mut UpdaterIndex,
-    number: u8,
-    entries: &[Entry],
-) -> Result<(), OutOfMemory>
-    ensures ok { OnOk result (index.new ≡ marked_by number entries.now index.old) }
+pub(crate) fn mark_written(index: &mut UpdaterIndex, own: &[Placed]) -> Result<(), OutOfMemory>
+    ensures ok { OnOk result (index.new ≡ marked_by_keys (keys_of own.now) index.old) }
     ensures err { OnErr result (OnlyMarks index.old index.new) }
 {
-    for entry in entries {
-        mark_entry(index, number, entry)?;
+    for placed in own {
+        mark_entry(index, &placed.entry)?;
     }
     Ok(())
 }

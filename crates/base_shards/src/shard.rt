@@ -1,12 +1,13 @@
 // What lies behind the lock of a shard.
-ghost use Rattle.std.specs.Prelude.{◌≡◌, ◌+◌, ◌^◌, ◌<◌, ◌≤◌, [], ◌∷◌, length, take, replicate, IfOk, OnOk, OnErr, MatchOption};
+ghost use Rattle.std.specs.Prelude.{◌≡◌, ◌+◌, ◌^◌, ◌<◌, ◌≤◌, [], ◌∷◌, length, take, replicate, IfOk, OnOk, OnErr, MatchOption, false};
 ghost use Rattle.semantics.specs.Texts.{pairs_within, table_of};
 ghost use Rattle.semantics.specs.Histories.{base_of};
 ghost use Rattle.growing_history.specs.Changes.{changed_keys, entries_between};
 ghost use Rattle.growing_history.specs.Entered.{HasEntered};
 ghost use Rattle.base_versions.specs.Kept.{shard_of};
 ghost use Rattle.write_history.specs.Passes.{GoesOn, own};
-ghost use Rattle.base_shards.specs.Marks.{MarksAtLeast, marked_by, starts_from, taken};
+ghost use Rattle.write_history.specs.declared.known.Mark.TheVariants.{Noted};
+ghost use Rattle.base_shards.specs.Marks.{MarksAtLeast, marked_by};
 ghost use Rattle.base_shards.specs.Shards.{with_ranges_of, without_id};
 
 use crate::marking::mark_written;
@@ -26,11 +27,15 @@ use write_history::{History, Pass};
 /// The number of shards.
 pub const SHARDS: u8 = 16;
 
-/// The most entries that are copied out of the history at a time, and so while its turn is taken.
+/// The most positions of which the part's entries are copied out of the history at a time, and so while its turn is taken.
 const BATCH: u64 = 1_024;
 
-/// One part of the tables: its base pairs at every position up to its own, the ranges and marks of ids, and a pass. The
-/// base pairs are those after a beginning of what the pass has seen: that is true whenever the lock is free.
+/// The most positions that are trimmed at a time, and so while the part is locked.
+pub const TRIM: u64 = 256;
+
+/// One part of the tables: its base pairs at every position from a start up to its own, the ranges and marks of ids, and a pass.
+/// The base pairs are those after a beginning of what the pass has seen, the pass has noted no later position than its own, and
+/// the start is not above the floor that the pass has seen: that is true whenever the lock is free.
 #[derive(Drop)]
 pub struct Shard<N: Naming> {
     alloc: Global,
@@ -57,6 +62,7 @@ impl<N: Naming> Shard<N> {
     pub fn new(alloc: Global, number: u8, pass: Pass, ids: u32) -> Result<Shard<N>, OutOfMemory>
         requires number { number < 16 }
         requires same_history { pass.history ≡ N.history }
+        requires noted { pass.mark ≡ Noted 0 }
         ensures number { IfOk result (λ shard. shard.base.shard ≡ number) }
         ensures ids { IfOk result (λ shard. shard.index.held ≡ replicate ids []) }
         ensures marked { IfOk result (λ shard. shard.index.marked ≡ []) }
@@ -88,30 +94,30 @@ impl<N: Naming> Shard<N> {
         ensures goes_on { GoesOn pass.old pass.new }
         ensures own { own pass.new ≡ own pass.old }
         ensures met { self.new.pass.view ≡ pass.new.view }
+        ensures floor { self.new.pass.floor ≡ pass.new.floor }
+        ensures trimmed { self.new.base.start ≤ pass.new.floor }
+        ensures below { pass.new.floor ≤ self.new.base.position }
         ensures base { self.new.base ≡ self.old.base }
         ensures index { self.new.index ≡ self.old.index }
     {
         history.meet(rt, &mut self.pass, pass);
     }
 
-    /// Sees to it that the shard keeps the tables of the part with a number. It begins anew where it keeps others: a type
-    /// cannot say which of several locks a value lies behind, so that it is the right one is looked up here.
-    fn keep_part(&mut self, number: u8)
-        requires { number < 16 }
-        ensures number { self.new.base.shard ≡ number }
-        ensures same { self.old.base.shard ≡ number → self.new.base ≡ self.old.base }
-        ensures from { self.new.base.position ≡ starts_from number self.old.base }
-        ensures index { self.new.index ≡ self.old.index }
-        ensures pass { self.new.pass ≡ self.old.pass }
+    /// Sees to it that the shard keeps the tables of the part with a number. A type cannot say which of several locks a value lies
+    /// behind, so that it is the right one is looked up here: it always is. Another part could not take its place, since entries
+    /// may be dropped that it would have to take, so `OutOfMemory` stands for what never comes.
+    fn keeps_part(&self, number: u8) -> Result<(), OutOfMemory>
+        ensures { OnOk result (self.now.base.shard ≡ number) }
     {
-        if self.number != number {
-            self.base = BaseVersions::new(self.alloc, number, SHARDS);
-            self.number = number;
+        if self.number == number {
+            return Ok(());
         }
+        Err(OutOfMemory)
     }
 
-    /// Takes the next entries that the pass has seen, up to a position, and no more than are copied at a time. Before they
-    /// are taken each id is marked that has a range with a key which they put or remove in the part's tables.
+    /// Takes the next entries that the pass has seen, up to a position, and no more than are copied at a time: those of the part,
+    /// and knows that there are no others of it. Before they are taken each id is marked that has a range with a key which they
+    /// put or remove.
     ///
     /// On `OutOfMemory` some first ones of them may have been taken, and ids may be marked for others too.
     fn take_next<R: Wait>(&mut self, rt: &R, history: &History, p: u64) -> Result<(), OutOfMemory>
@@ -123,16 +129,17 @@ impl<N: Naming> Shard<N> {
         ensures kept { self.old.base.position ≤ self.new.base.position }
         ensures upto { self.new.base.position ≤ p }
         ensures number { self.new.base.shard ≡ self.old.base.shard }
+        ensures start { self.new.base.start ≡ self.old.base.start }
         ensures marked { OnOk result (self.new.index ≡ marked_by self.old.base.shard (entries_between self.old.base.position self.new.base.position self.old.pass.view) self.old.index) }
         ensures in_part { OnErr result (MarksAtLeast self.old.base.shard (entries_between self.old.base.position self.new.base.position self.old.pass.view) self.old.index self.new.index) }
         ensures pass { self.new.pass ≡ self.old.pass }
     {
         let from = self.base.position();
         let to = p.min(from + BATCH);
-        let copies = history.entries(rt, &mut self.pass, from, to)?;
-        let entries = copies.as_slice();
-        mark_written(&mut self.index, self.number, entries)?;
-        self.base.advance(entries)
+        let copies = history.entries_of(rt, &mut self.pass, self.number, from, to)?;
+        let own = copies.as_slice();
+        mark_written(&mut self.index, own)?;
+        self.base.advance_own(own, to)
     }
 
     /// Takes the entries that the pass has seen, up to a position, those first that come first.
@@ -145,6 +152,7 @@ impl<N: Naming> Shard<N> {
         ensures brought { OnOk result (p ≤ self.new.base.position) }
         ensures kept { self.old.base.position ≤ self.new.base.position }
         ensures number { self.new.base.shard ≡ self.old.base.shard }
+        ensures start { self.new.base.start ≡ self.old.base.start }
         ensures marked { OnOk result (self.new.index ≡ marked_by self.old.base.shard (entries_between self.old.base.position self.new.base.position self.old.pass.view) self.old.index) }
         ensures in_part { OnErr result (MarksAtLeast self.old.base.shard (entries_between self.old.base.position self.new.base.position self.old.pass.view) self.old.index self.new.index) }
         ensures pass { self.new.pass ≡ self.old.pass }
@@ -159,8 +167,8 @@ impl<N: Naming> Shard<N> {
     /// passes see then what either has seen. Before an entry is taken, each id is marked that has a range with the key which
     /// it puts or removes, where the key's table is of the part.
     ///
-    /// It costs a look-up for each entry up to the position that is new to the shard, for each of them that is of the part
-    /// what `UpdaterIndex::mark_stabbed` does, and the history's turn once for each 1,024 of them.
+    /// It costs a look-up, and what `UpdaterIndex::mark_stabbed` does, for each entry of the part up to the position that is new
+    /// to the shard, and the history's turn once for each 1,024 positions.
     ///
     /// On `OutOfMemory` some first ones of these entries may have been taken, and ids may be marked for others too.
     pub fn bring<R: Wait>(
@@ -178,15 +186,72 @@ impl<N: Naming> Shard<N> {
         ensures goes_on { GoesOn pass.old pass.new }
         ensures own { own pass.new ≡ own pass.old }
         ensures met { self.new.pass.view ≡ pass.new.view }
-        ensures number { self.new.base.shard ≡ number }
+        ensures number { OnOk result (self.new.base.shard ≡ number) }
         ensures brought { OnOk result (p ≤ self.new.base.position) }
-        ensures kept { self.old.base.shard ≡ number → self.old.base.position ≤ self.new.base.position }
-        ensures marked { OnOk result (self.new.index ≡ marked_by number (taken number self.old.base self.new.base self.new.pass.view) self.old.index) }
-        ensures in_part { OnErr result (MarksAtLeast number (taken number self.old.base self.new.base self.new.pass.view) self.old.index self.new.index) }
+        ensures kept { self.old.base.position ≤ self.new.base.position }
+        ensures start { self.new.base.start ≤ pass.new.floor }
+        ensures marked { OnOk result (self.new.index ≡ marked_by number (entries_between self.old.base.position self.new.base.position self.new.pass.view) self.old.index) }
+        ensures in_part { OnErr result (MarksAtLeast self.old.base.shard (entries_between self.old.base.position self.new.base.position self.new.pass.view) self.old.index self.new.index) }
     {
         self.meet(rt, history, pass);
-        self.keep_part(number);
+        self.keeps_part(number)?;
         self.take_all(rt, history, p)
+    }
+
+    /// Brings the part with a number to a position as `bring` does, and notes its own. On `OutOfMemory` it notes nothing.
+    pub fn bring_and_note<R: Wait>(
+        &mut self,
+        rt: &R,
+        history: &History,
+        pass: &mut Pass,
+        number: u8,
+        p: u64,
+    ) -> Result<(), OutOfMemory>
+        requires number { number < 16 }
+        requires history { history.now ≡ N.history }
+        requires same_history { pass.old.history ≡ N.history }
+        requires within { p ≤ length pass.old.view }
+        ensures goes_on { GoesOn pass.old pass.new }
+        ensures own { own pass.new ≡ own pass.old }
+        ensures noted { OnOk result (self.new.pass.mark ≡ Noted self.new.base.position) }
+        ensures brought { OnOk result (p ≤ self.new.base.position) }
+        ensures kept { self.old.base.position ≤ self.new.base.position }
+    {
+        self.bring(rt, history, pass, number, p)?;
+        history.note(rt, &mut self.pass, self.base.position());
+        Ok(())
+    }
+
+    /// Lets go of what nobody asks for who asks from a floor on that the pass knows, if the part has come to a position. Of more
+    /// than 256 positions it takes the first 256, and says that there are more.
+    pub fn trim_some<R: Wait>(
+        &mut self,
+        rt: &R,
+        history: &History,
+        pass: &mut Pass,
+        floor: u64,
+        position: u64,
+    ) -> bool
+        requires history { history.now ≡ N.history }
+        requires same_history { pass.old.history ≡ N.history }
+        requires floor { floor ≤ pass.old.floor }
+        ensures goes_on { GoesOn pass.old pass.new }
+        ensures own { own pass.new ≡ own pass.old }
+        ensures position { self.new.base.position ≡ self.old.base.position }
+        ensures number { self.new.base.shard ≡ self.old.base.shard }
+        ensures index { self.new.index ≡ self.old.index }
+        ensures later { self.old.base.start ≤ self.new.base.start }
+        ensures trimmed { position ≤ self.old.base.position → result ≡ false → floor ≤ self.new.base.start }
+        ensures short { self.new.base.start ≤ self.old.base.start + 256 }
+    {
+        self.meet(rt, history, pass);
+        let start = self.base.start();
+        if self.base.position() < position || floor <= start {
+            return false;
+        }
+        let to = floor.min(start + TRIM);
+        self.base.trim(to);
+        to < floor
     }
 
     /// The base pairs of the range after the first p entries that the pass has seen, in the order of their keys. It costs
@@ -199,6 +264,7 @@ impl<N: Naming> Shard<N> {
         range: &Range,
         steps: &mut Steps<L>,
     ) -> Result<Vec<Pair>, OutOfMemory>
+        requires from { self.now.base.start ≤ p }
         requires within { p ≤ self.now.base.position }
         requires part { shard_of 16 (table_of range.now.low) ≡ self.now.base.shard }
         ensures exact { IfOk result (λ pairs. pairs.items ≡ pairs_within range.now (base_of (take p self.now.pass.view))) }
@@ -219,6 +285,7 @@ impl<N: Naming> Shard<N> {
         range: &Range,
         steps: &mut Steps<L>,
     ) -> Result<Vec<Key>, OutOfMemory>
+        requires from { self.now.base.start ≤ q }
         requires order { q ≤ p }
         requires within { p ≤ self.now.base.position }
         requires part { shard_of 16 (table_of range.now.low) ≡ self.now.base.shard }

@@ -54,11 +54,16 @@ impl RangeList {
         self.ranges.push(bounds)
     }
 
-    /// The last range, which is taken out.
+    /// The last range, which is taken out. With the only one the room of the list goes: else each id that ever had ranges would
+    /// keep a small block, between which no large one finds room.
     fn pop(&mut self) -> Option<Bounds>
         ensures { MatchOption result ((self.old ≡ []) × (self.new ≡ [])) (λ bounds. self.old ≡ self.new ++ bounds ∷ []) }
     {
-        self.ranges.pop()
+        let last = self.ranges.pop();
+        if self.ranges.is_empty() {
+            self.ranges.shrink_to_fit();
+        }
+        last
     }
 }
 

@@ -1,24 +1,27 @@
-use Rattle.std.proofs.Common.{◌≡◌, ◌+◌, [], ◌∷◌, ◌++◌, take, sym, ap, ◌∙◌}
+use Rattle.std.proofs.Common.{◌≡◌, ◌+◌, [], ◌∷◌, ◌++◌, take, flat_map, sym, ap, ◌∙◌}
 use Rattle.std.proofs.lemmas.List.{take_more}
-use Rattle.semantics.specs.Histories.{Entry, History}
-use Rattle.base_shards.specs.Marks.{marked_by, stabbed_by}
+use Rattle.growing_history.specs.Changes.{written}
+use Rattle.updater_index.specs.Registered.{stabbed}
+use Rattle.base_versions.specs.declared.placed.Placed.{Placed}
 use Rattle.base_versions.proofs.EnterLemmas.{on_err_always}
-use Rattle.base_shards.proofs.MarkLemmas.{marked_by-append, marks_then}
+use Rattle.base_shards.specs.Marks.{keys_of, marked_by_keys}
+use Rattle.base_shards.proofs.MarkLemmas.{keys_of-push, marked_by_keys-append, marks_then}
 use Rattle.base_shards.proofs.marking.mark_written.Goals as goal
 
 pub returns-in_err-mark_entry-clause-err : goal.returns-in_err-mark_entry-clause-err
 returns-in_err-mark_entry-clause-err c =
-    on_err_always c.from_residual.result
-    (marks_then (stabbed_by c.args.number (take c.loop-entry.entry-index c.args.entries.now) c.args.index.now.held) c.args.index.now c.loop-entry.index c.mark_entry.new.index c.loop-entry.invariant c.in_err-mark_entry.ensures.err)
-
-pub loop-entry-preserved : goal.loop-entry-preserved
-loop-entry-preserved c =
-    let es = c.args.entries.now in
-    let i = c.loop-entry.entry-index in
-    let e = c.entry-item.result in
     let first = c.args.index.now in
-    let more : take (i + 1) es ≡ take i es ++ e ∷ [] = take_more es i e c.loop-entry-test.true ∙ ap (λ (x : Entry). take i es ++ x ∷ []) (sym c.entry-item.is) in
+    on_err_always c.from_residual.result
+    (marks_then (flat_map (λ key. stabbed key first.held) (keys_of (take c.loop-placed.placed-index c.args.own.now))) first c.loop-placed.index c.mark_entry.new.index c.loop-placed.invariant c.in_err-mark_entry.ensures.err)
+
+pub loop-placed-preserved : goal.loop-placed-preserved
+loop-placed-preserved c =
+    let own = c.args.own.now in
+    let i = c.loop-placed.placed-index in
+    let p = c.placed-item.result in
+    let first = c.args.index.now in
+    let more : take (i + 1) own ≡ take i own ++ p ∷ [] = take_more own i p c.loop-placed-test.true ∙ ap (λ (x : Placed). take i own ++ x ∷ []) (sym c.placed-item.is) in
     c.in_ok-mark_entry.ensures.ok
-    ∙ ap (marked_by c.args.number (e ∷ [])) c.loop-entry.invariant
-    ∙ sym (marked_by-append c.args.number (take i es) (e ∷ []) first)
-    ∙ ap (λ (xs : History). marked_by c.args.number xs first) (sym more)
+    ∙ ap (marked_by_keys (written p.entry.write)) c.loop-placed.invariant
+    ∙ sym (marked_by_keys-append (keys_of (take i own)) (written p.entry.write) first)
+    ∙ ap (λ keys. marked_by_keys keys first) (sym (ap keys_of more ∙ keys_of-push (take i own) p))

@@ -4,7 +4,7 @@ use Rattle.growing_history.specs.Changes.{in_order, changed_keys}
 use Rattle.base_shards.specs.Changed.{changed_in_all, steps_of_all}
 use Rattle.base_shards.proofs.ChangedLemmas.{one_range_alone, only_one, counted_keys, steps_of_one, ranges_more, steps_more}
 use Rattle.base_shards.proofs.ListLemmas.{changed_prefix}
-use Rattle.base_shards.proofs.ReadingLemmas.{reads_on-trans}
+use Rattle.base_shards.proofs.ReadingLemmas.{reads_on-trans, reaches_still}
 use Rattle.base_shards.proofs.base_shards.BaseShards.changed.Goals as goal
 
 pub returns-in-len1-clause-exact : goal.returns-in-len1-clause-exact
@@ -20,6 +20,9 @@ returns-in-len1-clause-cost g c =
     let total = ap (λ rs. steps_of_all c.args.q c.args.p rs c.args.pass.now.view) one ∙ steps_of_one c.args.q c.args.p c.range-item.result c.args.pass.now.view in
     counted_keys c.changed_within.result (λ v. v.items) (changed_keys c.args.q c.args.p c.range-item.result c.args.pass.now.view) c.args.steps.now c.changed_within.new.steps
     (steps_of_all c.args.q c.args.p c.args.ranges.now c.args.pass.now.view) total c.changed_within.ensures.exact c.changed_within.ensures.cost
+
+pub changed_within-requires-in-loop-range-clause-pinned : goal.changed_within-requires-in-loop-range-clause-pinned
+changed_within-requires-in-loop-range-clause-pinned g c = reaches_still c.args.pass.now c.loop-range.pass c.args.q c.loop-range.invariant.reads_on c.requires.pinned
 
 pub returns-in_err-keys-clause-reads_on : goal.returns-in_err-keys-clause-reads_on
 returns-in_err-keys-clause-reads_on g c =

@@ -1,9 +1,15 @@
-use Rattle.std.proofs.Common.{◌≡◌, ap, ◌∙◌}
+use Rattle.std.proofs.Common.{◌≡◌, ◌≤◌, sym, ap, ◌∙◌, subst}
 use Rattle.std.proofs.lemmas.Result.{IfOk-weaker}
 use Rattle.growing_history.specs.Changes.{changed_keys}
 use Rattle.base_shards.specs.Shards.{ShardView}
 use Rattle.base_shards.proofs.ListLemmas.{changed_prefix}
+use Rattle.base_shards.proofs.ReadingLemmas.{reaches_start}
 use Rattle.base_shards.proofs.base_shards.BaseShards.changed_within.Goals as goal
+
+pub changed-requires-clause-from : goal.changed-requires-clause-from
+changed-requires-clause-from g c =
+    let shown : c.deref-2.result.now ≡ c.bring.new.self = cc in
+    subst (λ (s : ShardView). s.base.start ≤ c.args.q) (sym shown) (reaches_start c.args.pass.now c.bring.new.pass c.args.q c.bring.new.self.base.start c.bring.ensures.goes_on c.requires.pinned c.bring.ensures.start)
 
 pub returns-clause-exact : goal.returns-clause-exact
 returns-clause-exact g c =

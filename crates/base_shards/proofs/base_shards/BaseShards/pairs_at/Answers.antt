@@ -1,10 +1,16 @@
-use Rattle.std.proofs.Common.{◌≡◌, take, ap, ◌∙◌}
+use Rattle.std.proofs.Common.{◌≡◌, ◌≤◌, take, sym, ap, ◌∙◌, subst}
 use Rattle.std.proofs.lemmas.Result.{IfOk-weaker}
 use Rattle.semantics.specs.Texts.{pairs_within}
 use Rattle.semantics.specs.Histories.{base_of}
 use Rattle.growing_history.proofs.PrefixLemmas.{take_prefix}
 use Rattle.base_shards.specs.Shards.{ShardView}
+use Rattle.base_shards.proofs.ReadingLemmas.{reaches_start}
 use Rattle.base_shards.proofs.base_shards.BaseShards.pairs_at.Goals as goal
+
+pub pairs_at-requires-clause-from : goal.pairs_at-requires-clause-from
+pairs_at-requires-clause-from g c =
+    let shown : c.deref-2.result.now ≡ c.bring.new.self = cc in
+    subst (λ (s : ShardView). s.base.start ≤ c.args.p) (sym shown) (reaches_start c.args.pass.now c.bring.new.pass c.args.p c.bring.new.self.base.start c.bring.ensures.goes_on c.requires.pinned c.bring.ensures.start)
 
 pub returns-clause-exact : goal.returns-clause-exact
 returns-clause-exact g c =

@@ -14,6 +14,7 @@ changed-requires-clause-own g c =
 pub returns-clause-exact : goal.returns-clause-exact
 returns-clause-exact g c =
     let inside = subst (λ (s : ShardView). c.args.p ≤ s.base.position) (sym c.self.view_is) c.requires.within in
+    let from = subst (λ (s : ShardView). s.base.start ≤ c.args.q) (sym c.self.view_is) c.requires.from in
     IfOk-weaker c.changed.result _ _ (λ keys exact.
-    changed_of_view g.N.Naming.history c.self.inside.base c.self.inside.pass c.args.q c.args.p c.args.range.now keys.items c.self.invariant.1 c.requires.order inside exact
+    changed_of_view g.N.Naming.history c.self.inside.base c.self.inside.pass c.args.q c.args.p c.args.range.now keys.items c.self.invariant.1 from c.requires.order inside exact
     ∙ ap (λ (s : ShardView). changed_keys c.args.q c.args.p c.args.range.now s.pass.view) c.self.view_is) c.changed.ensures.exact

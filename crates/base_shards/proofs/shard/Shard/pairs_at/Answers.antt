@@ -14,6 +14,7 @@ pairs_at-requires-clause-own g c =
 pub returns-clause-exact : goal.returns-clause-exact
 returns-clause-exact g c =
     let inside = subst (λ (s : ShardView). c.args.p ≤ s.base.position) (sym c.self.view_is) c.requires.within in
+    let from = subst (λ (s : ShardView). s.base.start ≤ c.args.p) (sym c.self.view_is) c.requires.from in
     IfOk-weaker c.pairs_at.result _ _ (λ pairs exact.
-    pairs_of_view g.N.Naming.history c.self.inside.base c.self.inside.pass c.args.p c.args.range.now pairs.items c.self.invariant.1 inside exact
+    pairs_of_view g.N.Naming.history c.self.inside.base c.self.inside.pass c.args.p c.args.range.now pairs.items c.self.invariant.1 from inside exact
     ∙ ap (λ (s : ShardView). pairs_within c.args.range.now (base_of (take c.args.p s.pass.view))) c.self.view_is) c.pairs_at.ensures.exact

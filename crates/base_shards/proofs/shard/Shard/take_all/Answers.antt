@@ -11,6 +11,7 @@ loop-self-init g c = record {
   within = c.requires.within;
   pass = refl;
   number = refl;
+  start = refl;
   kept = omega arith;
   marked = marked_at_first c.args.self.now.base.shard c.args.self.now.base.position c.args.self.now.pass.view c.args.self.now.index;
 }
@@ -30,6 +31,7 @@ loop-self-preserved g c =
       within = subst (λ (p : PassView). c.args.p ≤ length p.view) (sym c.take_next.ensures.pass) so_far.within;
       pass = c.take_next.ensures.pass ∙ so_far.pass;
       number = c.take_next.ensures.number ∙ so_far.number;
+      start = c.take_next.ensures.start ∙ so_far.start;
       kept = omega (arith, so_far.kept, c.take_next.ensures.kept);
       marked = marked_after c.loop-self.self.base.shard c.args.self.now.base.shard c.args.self.now.base.position c.loop-self.self.base.position c.take_next.new.self.base.position c.loop-self.self.pass.view c.args.self.now.pass.view
           c.args.self.now.index c.loop-self.self.index c.take_next.new.self.index so_far.number (ap (λ (p : PassView). p.view) so_far.pass) so_far.kept c.take_next.ensures.kept so_far.marked c.in_ok-take_next.ensures.marked;

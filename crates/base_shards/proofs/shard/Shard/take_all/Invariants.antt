@@ -11,6 +11,7 @@ invariant-loop-self g l = record {
   within : l.p ≤ length l.self.pass.view;
   pass : l.self.pass ≡ l.fn.self.pass;
   number : l.self.base.shard ≡ l.fn.self.base.shard;
+  start : l.self.base.start ≡ l.fn.self.base.start;
   kept : l.fn.self.base.position ≤ l.self.base.position;
   marked : l.self.index ≡ marked_by l.fn.self.base.shard (entries_between l.fn.self.base.position l.self.base.position l.fn.self.pass.view) l.fn.self.index;
 }

@@ -5,7 +5,7 @@ use Rattle.semantics.specs.Joins.{Join}
 use Rattle.semantics.specs.Histories.{History, DeclaredJoin}
 use Rattle.semantics.specs.States.{ranks_of}
 use Rattle.join_set.specs.Sets.{Joins, AreJoins}
-use Rattle.cell_slots.specs.Slots.{IsDeclared, IsRankIn}
+use Rattle.cell_slots.specs.Slots.{IsDeclared, IsRankIn, StandsAs}
 use Rattle.cell_slots.proofs.DeclaredLemmas.{standing_declared}
 use Rattle.base_reader.specs.Reaching.{IsJoinIn}
 
@@ -31,3 +31,7 @@ join_of_number joins i at j is also =
 pub join_declared : (h : History) (p at : ℕ) (joins : Joins) (j : Join) → AreJoins 0 joins (take p h) → IsJoinIn joins.standing at (Some j) → IsDeclared h at j
 join_declared h p at joins j are found =
     standing_declared h p found.0 (record { position = at; join = j }) (ap (λ js. slice_get js found.0) (sym are.standing) ∙ found.1)
+
+-- the join that was declared at a position and stands after the first p entries is among these joins
+pub join_among : (h : History) (p at rank : ℕ) (joins : Joins) (j : Join) → AreJoins 0 joins (take p h) → StandsAs h p at rank j → IsJoinIn joins.standing at (Some j)
+join_among h p at rank joins j are stands = (stands.stands.place, ap (λ js. slice_get js stands.stands.place) are.standing ∙ stands.stands.stands)

@@ -1,7 +1,11 @@
--- The rank of the join of a cell that is brought forward.
-use Rattle.std.proofs.Common.{◌≡◌, ℕ, take, Option, Some, subst}
+-- The rank of the join of a cell that is brought forward, and where a read reaches back to.
+use Rattle.std.proofs.Common.{◌≡◌, ℕ, ◌≤◌, take, Option, Some, sym, ap, subst}
 use Rattle.semantics.specs.Histories.{History}
 use Rattle.join_set.specs.Sets.{Joins, AreJoins}
+use Rattle.write_history.specs.Marks.{reach}
+use Rattle.write_history.specs.Passes.{PassView}
+use Rattle.write_history.proofs.Marking.{before_near}
+use Rattle.base_shards.specs.Reading.{ReachesBack}
 use Rattle.cell_slots.specs.Slots.{IsRankIn, IsRankAt}
 
 -- the rank among the joins that stand after p entries is the one that the join has there
@@ -11,3 +15,7 @@ rank_among h p at joins rank are found = subst (λ js. IsRankIn js at rank) are.
 -- where the join has not the cell's own rank there, another is given
 pub other_rank : (h : History) (p at own : ℕ) (rank : Option ℕ) → IsRankAt h p at rank → (IsRankAt h p at (Some own) → ⊥) → rank ≡ Some own → ⊥
 other_rank h p at own rank is other same = other (subst (IsRankAt h p at) same is)
+
+-- a position that a pass reaches back to is not below where it reaches
+pub reaches_to : (pass : PassView) (p : ℕ) → ReachesBack pass p → reach pass.mark ≤ p
+reaches_to pass p back = subst (λ n. n ≤ p) (sym (ap reach back.pinned)) (before_near back.pin p back.near)

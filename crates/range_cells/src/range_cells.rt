@@ -5,7 +5,7 @@ ghost use Rattle.semantics.specs.Texts.{pairs_within};
 ghost use Rattle.join_set.specs.Sets.{AreJoins};
 ghost use Rattle.semantics.specs.States.{state};
 ghost use Rattle.write_history.specs.Entries.{IsRecorded};
-ghost use Rattle.base_shards.specs.Reading.{ReadsOn};
+ghost use Rattle.base_shards.specs.Reading.{ReachesBack, ReadsOn};
 
 use crate::stack::Stack;
 use base_shards::{BaseShards, Naming};
@@ -32,8 +32,8 @@ pub struct Reading {
     pub found: Result<Vec<Pair>, OutOfMemory>,
 }
 
-/// Reads the state of a history at any position that a pass has seen, and keeps ranges of the joins' outputs in cells. Threads
-/// share it.
+/// Reads the state of a history at any position that a pinned pass has seen, up to 65,536 entries before its pin, and keeps ranges
+/// of the joins' outputs in cells. Threads share it.
 ///
 /// Locks are taken in one order: a cell, cells of lower ranks, a part of the base pairs, the history's turn. A cell has its rank
 /// for good, so that this is one order for all reads, also where between their positions the ranks of joins changed. The
@@ -72,13 +72,15 @@ impl<N: Naming> RangeCells<N> {
         })
     }
 
-    /// The pairs of the range in the state after the first p entries that the pass has seen, in key order. These are the joins
-    /// that stand then. Before a range of a join's output is filled or mended the gate is passed with the name of its table.
-    /// While another thread has a cell, or a part of the base pairs, that this one needs, this one sleeps.
+    /// The pairs of the range in the state after the first p entries that the pass has seen, in key order. These are the joins that
+    /// stand then, and the position is at most 65,536 entries before the one at which the pass is pinned. Before a range of a
+    /// join's output is filled or mended the gate is passed with the name of its table. While another thread has a cell, or a part
+    /// of the base pairs, that this one needs, this one sleeps.
     ///
     /// What cells keep is read, brought forward or mended; what they lack is evaluated and, for a push join, kept while a cell is
-    /// free. Of the cells of a join those are used that are for the rank that it has after p entries. Then the least recently
-    /// used cells are evicted, until what is kept is within the limit.
+    /// free. A cell that stands more than 65,536 entries before the pin is filled anew. Of the cells of a join those are used that
+    /// are for the rank that it has after p entries. Then the least recently used cells are evicted, until what is kept is within
+    /// the limit.
     ///
     /// Where a join was declared or dropped after the joins of all reads and turns before, the cells are evicted first whose
     /// joins do not stand any more or have another rank.
@@ -95,6 +97,7 @@ impl<N: Naming> RangeCells<N> {
         requires same_history { pass.history ≡ N.history }
         requires recorded { IsRecorded pass.writers pass.view }
         requires within { p ≤ length pass.view }
+        requires pinned { ReachesBack pass p }
         requires joins { AreJoins 0 joins.now (take p pass.view) }
         ensures exact { IfOk result.found (λ pairs. pairs.items ≡ pairs_within range.now (state (take p pass.view))) }
         ensures reads_on { ReadsOn pass result.pass }

@@ -2,6 +2,7 @@
 ghost use Rattle.std.specs.Prelude.{◌≡◌, ◌≤◌, length, take, IfOk, IfSome};
 ghost use Rattle.semantics.specs.Texts.{pairs_within};
 ghost use Rattle.semantics.specs.States.{state};
+ghost use Rattle.write_history.specs.Marks.{reach};
 ghost use Rattle.base_shards.specs.Reading.{ReadsOn};
 ghost use Rattle.join_eval.specs.Moves.{Moves};
 ghost use Rattle.cell_slots.specs.Slots.{IsRankAt};
@@ -70,6 +71,7 @@ fn read_upper<'a, N: Naming, W: Wait, G: Gate, R: Stacked<N>, L: Ledger>(
 ) -> Result<Vec<Pair>, OutOfMemory>
     requires top { R.top ≡ 4 }
     requires within { p ≤ length (R.list four.old.inner.inner.inner.inner) }
+    requires above { R.floor four.old.inner.inner.inner.inner ≤ p }
     ensures exact { IfOk result (λ pairs. pairs.items ≡ pairs_within range.now (state (take p (R.list four.old.inner.inner.inner.inner)))) }
     ensures went { R.went four.old.inner.inner.inner.inner four.new.inner.inner.inner.inner }
     ensures counted { steps.old ≤ steps.new }
@@ -86,6 +88,7 @@ fn read_middle<'a, N: Naming, W: Wait, G: Gate, R: Stacked<N>, L: Ledger>(
 ) -> Result<Vec<Pair>, OutOfMemory>
     requires top { R.top ≡ 2 }
     requires within { p ≤ length (R.list six.old.inner.inner.inner.inner.inner.inner) }
+    requires above { R.floor six.old.inner.inner.inner.inner.inner.inner ≤ p }
     ensures exact { IfOk result (λ pairs. pairs.items ≡ pairs_within range.now (state (take p (R.list six.old.inner.inner.inner.inner.inner.inner)))) }
     ensures went { R.went six.old.inner.inner.inner.inner.inner.inner six.new.inner.inner.inner.inner.inner.inner }
     ensures counted { steps.old ≤ steps.new }
@@ -102,6 +105,7 @@ fn read_lower<'a, N: Naming, W: Wait, G: Gate, R: Stacked<N>, L: Ledger>(
 ) -> Result<Vec<Pair>, OutOfMemory>
     requires top { R.top ≡ 0 }
     requires within { p ≤ length (R.list tower.old.inner.inner.inner.inner.inner.inner.inner.inner) }
+    requires above { R.floor tower.old.inner.inner.inner.inner.inner.inner.inner.inner ≤ p }
     ensures exact { IfOk result (λ pairs. pairs.items ≡ pairs_within range.now (state (take p (R.list tower.old.inner.inner.inner.inner.inner.inner.inner.inner)))) }
     ensures went { R.went tower.old.inner.inner.inner.inner.inner.inner.inner.inner tower.new.inner.inner.inner.inner.inner.inner.inner.inner }
     ensures counted { steps.old ≤ steps.new }
@@ -122,7 +126,7 @@ fn bring_by<N: Naming, R: Stacked<N>, L: Ledger>(
     requires within { p ≤ length (R.list reader.old) }
     requires rank { IsRankAt (R.list reader.old) p cell.old.at rank }
     requires ranked { IfSome rank (λ r. r ≤ R.top) }
-    ensures brings { BringsCell p rank result cell.old cell.new }
+    ensures brings { BringsCell (R.floor reader.old) p rank result cell.old cell.new }
     ensures met { cell.new.pass.view ≡ R.list reader.new }
     ensures moves { Moves R.list R.floor R.went reader.old reader.new }
     ensures counted { steps.old ≤ steps.new }
@@ -146,7 +150,7 @@ fn bring_top<'a, N: Naming, W: Wait, G: Gate, R: Stacked<N>, L: Ledger>(
     requires within { p ≤ length (R.list two.old.inner.inner) }
     requires rank { IsRankAt (R.list two.old.inner.inner) p cell.old.at rank }
     requires ranked { IfSome rank (λ r. r ≤ 7) }
-    ensures brings { BringsCell p rank result cell.old cell.new }
+    ensures brings { BringsCell (R.floor two.old.inner.inner) p rank result cell.old cell.new }
     ensures met { cell.new.pass.view ≡ R.list two.new.inner.inner }
     ensures went { R.went two.old.inner.inner two.new.inner.inner }
     ensures counted { steps.old ≤ steps.new }
@@ -167,7 +171,7 @@ fn bring_upper<'a, N: Naming, W: Wait, G: Gate, R: Stacked<N>, L: Ledger>(
     requires within { p ≤ length (R.list four.old.inner.inner.inner.inner) }
     requires rank { IsRankAt (R.list four.old.inner.inner.inner.inner) p cell.old.at rank }
     requires ranked { IfSome rank (λ r. r ≤ 7) }
-    ensures brings { BringsCell p rank result cell.old cell.new }
+    ensures brings { BringsCell (R.floor four.old.inner.inner.inner.inner) p rank result cell.old cell.new }
     ensures met { cell.new.pass.view ≡ R.list four.new.inner.inner.inner.inner }
     ensures went { R.went four.old.inner.inner.inner.inner four.new.inner.inner.inner.inner }
     ensures counted { steps.old ≤ steps.new }
@@ -188,7 +192,7 @@ fn bring_middle<'a, N: Naming, W: Wait, G: Gate, R: Stacked<N>, L: Ledger>(
     requires within { p ≤ length (R.list six.old.inner.inner.inner.inner.inner.inner) }
     requires rank { IsRankAt (R.list six.old.inner.inner.inner.inner.inner.inner) p cell.old.at rank }
     requires ranked { IfSome rank (λ r. r ≤ 7) }
-    ensures brings { BringsCell p rank result cell.old cell.new }
+    ensures brings { BringsCell (R.floor six.old.inner.inner.inner.inner.inner.inner) p rank result cell.old cell.new }
     ensures met { cell.new.pass.view ≡ R.list six.new.inner.inner.inner.inner.inner.inner }
     ensures went { R.went six.old.inner.inner.inner.inner.inner.inner six.new.inner.inner.inner.inner.inner.inner }
     ensures counted { steps.old ≤ steps.new }
@@ -209,7 +213,7 @@ fn bring_lower<'a, N: Naming, W: Wait, G: Gate, R: Stacked<N>, L: Ledger>(
     requires within { p ≤ length (R.list tower.old.inner.inner.inner.inner.inner.inner.inner.inner) }
     requires rank { IsRankAt (R.list tower.old.inner.inner.inner.inner.inner.inner.inner.inner) p cell.old.at rank }
     requires ranked { IfSome rank (λ r. r ≤ 7) }
-    ensures brings { BringsCell p rank result cell.old cell.new }
+    ensures brings { BringsCell (R.floor tower.old.inner.inner.inner.inner.inner.inner.inner.inner) p rank result cell.old cell.new }
     ensures met { cell.new.pass.view ≡ R.list tower.new.inner.inner.inner.inner.inner.inner.inner.inner }
     ensures went { R.went tower.old.inner.inner.inner.inner.inner.inner.inner.inner tower.new.inner.inner.inner.inner.inner.inner.inner.inner }
     ensures counted { steps.old ≤ steps.new }
@@ -252,7 +256,8 @@ impl<'a, N: Naming, W: Wait, G: Gate> Stack<'a, N, W, G> {
         range: &Range,
         steps: &mut Steps<L>,
     ) -> Result<Vec<Pair>, OutOfMemory>
-        requires { p ≤ length self.old.view }
+        requires within { p ≤ length self.old.view }
+        requires above { reach self.old.mark ≤ p }
         ensures exact { IfOk result (λ pairs. pairs.items ≡ pairs_within range.now (state (take p self.old.view))) }
         ensures reads_on { ReadsOn self.old self.new }
         ensures counted { steps.old ≤ steps.new }
@@ -260,10 +265,10 @@ impl<'a, N: Naming, W: Wait, G: Gate> Stack<'a, N, W, G> {
         read_lower(&mut self.tower, p, range, steps)
     }
 
-    /// Brings what a cell with a number keeps to where the first p entries that the pass has seen stand, where it stands below.
-    /// The rank is the one that its join has then, and none where the join does not stand; where it is not the cell's, what it
-    /// keeps stays as it is. The cell follows the ranges of base pairs that are read for it; its pass and this one see what
-    /// either has seen.
+    /// Brings what a cell with a number keeps to where the first p entries that the pass has seen stand, where it stands below. The
+    /// rank is the one that its join has then, and none where the join does not stand; where it is not the cell's, what it keeps
+    /// stays as it is. What stands below where the pin reaches back to is let go. The cell follows the ranges of base pairs that
+    /// are read for it; its pass and this one see what either has seen.
     pub fn bring<L: Ledger>(
         &mut self,
         cell: &mut Cell<N>,
@@ -275,7 +280,7 @@ impl<'a, N: Naming, W: Wait, G: Gate> Stack<'a, N, W, G> {
         requires within { p ≤ length self.old.view }
         requires rank { IsRankAt self.old.view p cell.old.at rank }
         requires ranked { IfSome rank (λ r. r ≤ 7) }
-        ensures brings { BringsCell p rank result cell.old cell.new }
+        ensures brings { BringsCell (reach self.old.mark) p rank result cell.old cell.new }
         ensures met { cell.new.pass.view ≡ self.new.view }
         ensures reads_on { ReadsOn self.old self.new }
         ensures counted { steps.old ≤ steps.new }

@@ -2,7 +2,8 @@
 ghost use Rattle.std.specs.Prelude.{◌≡◌, ◌≤◌, length, take, Some};
 ghost use Rattle.join_set.specs.Sets.{AreJoins};
 ghost use Rattle.write_history.specs.Entries.{IsRecorded};
-ghost use Rattle.base_shards.specs.Reading.{ReadsOn};
+ghost use Rattle.base_shards.specs.Reading.{ReachesBack, ReadsOn};
+ghost use Rattle.write_history.specs.declared.known.Mark.TheVariants.{Pinned};
 ghost use Rattle.cell_slots.specs.Slots.{IsRankAt};
 ghost use Rattle.range_cells.specs.Turns.{IsWithinView};
 
@@ -78,6 +79,7 @@ impl<N: Naming> RangeCells<N> {
         requires same_history { pass.history ≡ N.history }
         requires recorded { IsRecorded pass.writers pass.view }
         requires within { p ≤ length pass.view }
+        requires pinned { ReachesBack pass p }
         requires joins { AreJoins 0 joins.now (take p pass.view) }
         ensures left { (IsRankAt pass.view p cell.old.at (Some cell.old.rank) → ⊥) → cell.new.held ≡ cell.old.held }
         ensures within { IsWithinView result.0.turn result.0.pass.view }
@@ -124,6 +126,7 @@ impl<N: Naming> RangeCells<N> {
         requires same_history { pass.history ≡ N.history }
         requires recorded { IsRecorded pass.writers pass.view }
         requires within { p ≤ length pass.view }
+        requires pinned { ReachesBack pass p }
         requires joins { AreJoins 0 joins.now (take p pass.view) }
         ensures within { IsWithinView result.0.turn result.0.pass.view }
         ensures reads_on { ReadsOn pass result.0.pass }
@@ -155,6 +158,7 @@ impl<N: Naming> RangeCells<N> {
         requires same_history { pass.history ≡ N.history }
         requires recorded { IsRecorded pass.writers pass.view }
         requires within { p ≤ length pass.view }
+        requires pinned { ReachesBack pass p }
         requires joins { AreJoins 0 joins.now (take p pass.view) }
         ensures within { IsWithinView result.turn result.pass.view }
         ensures reads_on { ReadsOn pass result.pass }
@@ -179,13 +183,14 @@ impl<N: Naming> RangeCells<N> {
     /// Brings a marked cell forward: each part of the base pairs is brought to the end of what the pass has seen, that is, to
     /// where the first p entries stand, which marks each cell that follows a range with a key that they put or remove; then,
     /// of the first part that has a marked cell, the one that was marked there first is advanced, if it stands below. These
-    /// are the joins that stand then.
+    /// are the joins that stand then, and the pass is pinned there.
     ///
-    /// What is pending in the cell then stays so, what is forgotten stays so, and a cell for another rank than its join has
-    /// keeps what it keeps. Before a range of a lower rank is filled or mended for it, the gate is passed. While another
-    /// thread has a part or a cell that this one needs, this one sleeps. That the cell was brought forward is no use of it;
-    /// of the cells of lower ranks that were read for it the book is told as after a read, and the least recently used are
-    /// evicted. First of all the cells are evicted whose joins do not stand any more or have another rank, as by a read.
+    /// What is pending in the cell then stays so, what is forgotten stays so, what stands more than 65,536 entries before the end
+    /// is let go, and a cell for another rank than its join has keeps what it keeps. Before a range of a lower rank is filled or
+    /// mended for it, the gate is passed. While another thread has a part or a cell that this one needs, this one sleeps. That the
+    /// cell was brought forward is no use of it; of the cells of lower ranks that were read for it the book is told as after a
+    /// read, and the least recently used are evicted. First of all the cells are evicted whose joins do not stand any more or have
+    /// another rank, as by a read.
     ///
     /// `Idle` comes only where no part had a marked cell when its lock was taken.
     pub fn turn<W: Wait, G: Gate, L: Ledger>(
@@ -200,6 +205,7 @@ impl<N: Naming> RangeCells<N> {
         requires same_history { pass.history ≡ N.history }
         requires recorded { IsRecorded pass.writers pass.view }
         requires whole { p ≡ length pass.view }
+        requires pinned { pass.mark ≡ Pinned p }
         requires joins { AreJoins 0 joins.now (take p pass.view) }
         ensures within { IsWithinView result.turn result.pass.view }
         ensures reads_on { ReadsOn pass result.pass }

@@ -1,7 +1,7 @@
 -- What a cell keeps, over longer histories, and as the join's that is asked for.
 use Rattle.std.proofs.Common.{◌≡◌, ℕ, ◌<◌, ◌≤◌, length, take, Option, IfSome, Some, None, refl, sym, ◌∙◌, subst, arith}
 use Rattle.std.specs.Option.{IsSomeAnd}
-use Rattle.atomic_table.specs.Seated.{TableId}
+use Rattle.std.proofs.lemmas.Option.{none-some}
 use Rattle.semantics.specs.Texts.{Table, Range, value_at, pairs_within}
 use Rattle.semantics.specs.Joins.{Join}
 use Rattle.semantics.specs.Histories.{History, IsPrefix, joins_of}
@@ -11,14 +11,14 @@ use Rattle.growing_history.specs.Entered.{HasRank}
 use Rattle.growing_history.proofs.PrefixLemmas.{take_prefix}
 use Rattle.layering.specs.Parts.{IsWithin}
 use Rattle.layering.proofs.PartLemmas.{part_of_range, within_is_kept}
-use Rattle.write_history.specs.Passes.{PassView, GoesOn}
+use Rattle.write_history.specs.Passes.{HistoryId, PassView, GoesOn}
 use Rattle.join_eval.specs.declared.reading.Changed.{Changed}
 use Rattle.join_eval.specs.declared.reading.Changed.TheVariants.{Keys, All}
 use Rattle.kept_ranges.specs.Sound.{KeptRange, IsSound, IsSoundAt}
 use Rattle.kept_ranges.proofs.SoundLemmas.{sound_over_longer}
 use Rattle.range_state.specs.Held.{forgotten}
 use Rattle.range_state.specs.Ready.{IsReady}
-use Rattle.range_serving.specs.Serving.{IsBroughtTo, IsPast, output_within}
+use Rattle.range_serving.specs.Serving.{IsBroughtTo, IsPast, StandsFrom, output_within}
 use Rattle.range_serving.specs.Telling.{TellsOutput}
 use Rattle.cell_slots.specs.Slots.{IsDeclared, IsOutput, IsRightFor, StandsAs, IsRankIn, IsRankAt}
 use Rattle.cell_slots.proofs.DeclaredLemmas.{declared_over_longer, declared_once, has_rank, stands_ranked, stands_over}
@@ -41,7 +41,7 @@ kept_over_longer None at rank range old new prefix right = tt
 kept_over_longer (Some s) at rank range old new prefix right = record { right = right_over_longer old.view new.view at s prefix right.right; ranked = right.ranked; just = right.just }
 
 -- and the cell
-pub cell_goes_on : (name : TableId) (held : Option KeptRange) (at rank : ℕ) (range : Range) (old new : PassView) → GoesOn old new → IsCell name at rank range held old → IsCell name at rank range held new
+pub cell_goes_on : (name : HistoryId) (held : Option KeptRange) (at rank : ℕ) (range : Range) (old new : PassView) → GoesOn old new → IsCell name at rank range held old → IsCell name at rank range held new
 cell_goes_on name held at rank range old new on cell = record {
   same_history = on.same_history ∙ cell.same_history;
   right = kept_over_longer held at rank range old new on.begins cell.right;
@@ -133,14 +133,16 @@ rank_of_kept cell h more p rank s within prefix met same is right =
     let stands = stands_ranked more p cell.at cell.rank s.join (right_here cell more cell.at s met refl right).declared there in
     subst (HasRank (joins_of (take p more)) s.join) (sym right.ranked) (has_rank more p cell.at cell.rank s.join stands)
 
--- nothing is brought where nothing is kept
-pub brings_nothing : (p : ℕ) (held left : Option KeptRange) → held ≡ None → left ≡ None → BringsTo p held left
-brings_nothing p held left none empty = subst (λ (o : Option KeptRange). BringsTo p o left) (sym none) empty
+-- nothing is brought where nothing is kept, or what stands below a floor
+pub brings_nothing : (floor p : ℕ) (held taken left : Option KeptRange) → (IfSome held (StandsFrom floor) → taken ≡ held) → taken ≡ None → left ≡ None → BringsTo floor p held left
+brings_nothing floor p None taken left takes none empty = empty
+brings_nothing floor p (Some s) taken left takes none empty = record { brought = λ from. absurd (none-some s (sym none ∙ takes from)); gone = λ below. empty }
 
 -- what is kept was brought there
-pub brings : (p : ℕ) (held after : Option KeptRange) (s t : KeptRange) → held ≡ Some s → after ≡ Some t → IsBroughtTo p s t → BringsTo p held after
-brings p held after s t is gives brought =
-    subst (λ (o : Option KeptRange). BringsTo p o after) (sym is) (subst (λ (o : Option KeptRange). IsSomeAnd o (IsBroughtTo p s)) (sym gives) brought)
+pub brings : (floor p : ℕ) (held after : Option KeptRange) (s t : KeptRange) → held ≡ Some s → after ≡ Some t → StandsFrom floor s → IsBroughtTo p s t → BringsTo floor p held after
+brings floor p held after s t is gives from brought =
+    subst (λ (o : Option KeptRange). BringsTo floor p o after) (sym is)
+    (record { brought = λ _. subst (λ (o : Option KeptRange). IsSomeAnd o (IsBroughtTo p s)) (sym gives) brought; gone = λ below. absurd (below from) })
 
 -- ---- what can be served
 
@@ -197,3 +199,24 @@ lent_of_new before after at rank p part s same can fresh right = record {
   right = right;
   upto = nowhere_is_not_past p s fresh;
 }
+
+-- a cell that keeps nothing can serve what the other can
+pub serves_empty : (old new : CellView) (at rank p : ℕ) (part : Range) → HasSamePlace old new → new.held ≡ None → CanServe old at rank p part → CanServe new at rank p part
+serves_empty old new at rank p part same empty can = record {
+  is_for = is_for_same old new at rank part same can.is_for;
+  upto = subst (λ (o : Option KeptRange). IfSome o (λ s. IsPast p s → ⊥)) (sym empty) tt;
+}
+
+-- ---- the floor
+
+-- what is ready at a position does not stand below a floor that is not above it
+pub ready_from : (floor p : ℕ) (part : Range) (s : KeptRange) → floor ≤ p → IsReady p part s → StandsFrom floor s
+ready_from floor p part s above ready = subst (λ (o : Option ℕ). IfSome o (λ q. floor ≤ q)) (sym ready.stands) above
+
+-- what stands nowhere does not stand below a floor
+pub nowhere_from : (floor : ℕ) (s : KeptRange) → s.position ≡ None → StandsFrom floor s
+nowhere_from floor s is = subst (λ (o : Option ℕ). IfSome o (λ q. floor ≤ q)) (sym is) tt
+
+-- what a cell keeps is taken out of it, where it does not stand below a floor
+pub taken_from : (floor : ℕ) (held taken : Option KeptRange) (s : KeptRange) → held ≡ Some s → StandsFrom floor s → (IfSome held (StandsFrom floor) → taken ≡ held) → taken ≡ Some s
+taken_from floor held taken s holds from takes = takes (subst (λ (o : Option KeptRange). IfSome o (StandsFrom floor)) (sym holds) from) ∙ holds

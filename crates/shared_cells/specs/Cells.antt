@@ -1,12 +1,11 @@
 -- A cell as contracts see it, and what is true of it whenever its lock is free.
 use Rattle.std.specs.Prelude.{◌≡◌, ℕ, Option, IfSome, Some}
-use Rattle.atomic_table.specs.Seated.{TableId}
 use Rattle.semantics.specs.Texts.{Range}
 use Rattle.layering.specs.Parts.{IsWithin}
-use Rattle.write_history.specs.Passes.{PassView}
+use Rattle.write_history.specs.Passes.{HistoryId, PassView}
 use Rattle.kept_ranges.specs.Sound.{KeptRange}
 use Rattle.range_state.specs.Ready.{IsReady}
-use Rattle.range_serving.specs.Serving.{IsPast}
+use Rattle.range_serving.specs.Serving.{IsPast, StandsFrom}
 use Rattle.cell_slots.specs.Slots.{IsRightFor}
 
 -- the position of the join's declaration, the rank and the range that the cell is for, what is kept of it, and the cell's pass
@@ -24,7 +23,7 @@ pub record IsRightIn (at rank : ℕ) (range : Range) (pass : PassView) (s : Kept
   pub just : s.range ≡ range
 
 -- the pass is of the history, and what is kept is right
-pub record IsCell (history : TableId) (at rank : ℕ) (range : Range) (held : Option KeptRange) (pass : PassView) : Type 0 where
+pub record IsCell (history : HistoryId) (at rank : ℕ) (range : Range) (held : Option KeptRange) (pass : PassView) : Type 0 where
   pub same_history : pass.history ≡ history
   pub right : IfSome held (IsRightIn at rank range pass)
 
@@ -51,10 +50,11 @@ pub record CanServe (cell : CellView) (at rank p : ℕ) (part : Range) : Type 0 
   pub is_for : IsCellFor cell at rank part
   pub upto : IfSome cell.held (λ s. IsPast p s → ⊥)
 
--- what a cell keeps can be taken out of it for a part and a position: the cell can serve the part there, and keeps it
-pub record CanBeLent (cell : CellView) (at rank p : ℕ) (part : Range) (s : KeptRange) : Type 0 where
+-- what a cell keeps can be taken out of it for a part and a position: the cell can serve the part there, and keeps it, and it does not stand below a floor
+pub record CanBeLent (cell : CellView) (at rank p floor : ℕ) (part : Range) (s : KeptRange) : Type 0 where
   pub serves : CanServe cell at rank p part
   pub holds : cell.held ≡ Some s
+  pub from : StandsFrom floor s
 
 -- the cell can be read over a part at a position: it is for the join and the rank, it has the whole part, and it holds a kept range that is ready there
 pub record IsReadyCell (cell : CellView) (at rank p : ℕ) (part : Range) : Type 0 where

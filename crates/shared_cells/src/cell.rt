@@ -1,5 +1,5 @@
 // What lies behind the lock of a cell.
-ghost use Rattle.std.specs.Prelude.{◌≡◌, ◌+◌, ◌≤◌, length, take, false, true, IfOk, IfSome, MatchOption, OnOk, Some, None};
+ghost use Rattle.std.specs.Prelude.{◌≡◌, ℕ, ◌+◌, ◌≤◌, length, take, false, true, IfOk, IfSome, MatchOption, OnOk, Some, None};
 ghost use Rattle.std.specs.Option.{IsSomeAnd};
 ghost use Rattle.semantics.specs.Joins.{Join as PlainJoin};
 ghost use Rattle.growing_history.specs.Entered.{HasEntered};
@@ -7,8 +7,8 @@ ghost use Rattle.layering.specs.Parts.{IsWithin};
 ghost use Rattle.join_eval.specs.Moves.{Moves};
 ghost use Rattle.kept_ranges.specs.Sound.{KeptRange};
 ghost use Rattle.range_state.specs.Since.{AnswersSince};
-ghost use Rattle.range_serving.specs.Serving.{IsBroughtTo, IsPast};
-ghost use Rattle.cell_slots.specs.Slots.{IsDeclared, IsOutput, IsRankAt, IsRightFor, StandsAs};
+ghost use Rattle.range_serving.specs.Serving.{IsBroughtTo, IsPast, StandsFrom};
+ghost use Rattle.cell_slots.specs.Slots.{IsOutput, IsRankAt, IsRightFor, StandsAs};
 ghost use Rattle.rank_layers.specs.Telling.{TellsJoin};
 ghost use Rattle.shared_cells.specs.Bringing.{BringsCell};
 ghost use Rattle.shared_cells.specs.Cells.{CanBeLent, CanServe, HasSamePlace, IsLentFor, IsReadyCell, IsRightIn};
@@ -53,6 +53,17 @@ impl<N: Naming> Model for Cell<N> {
     ghost view = { λ c. record { at = c.at; rank = c.rank; range = c.range; held = c.held; pass = c.pass } };
 
     ghost invariant = { λ c. IsCell N.history c.at c.rank c.range c.held c.pass };
+}
+
+/// Whether it stands nowhere, or not below a floor.
+fn stands_from(state: &RangeState, floor: u64) -> bool
+    ensures yes { result ≡ true → StandsFrom floor state.now }
+    ensures no { result ≡ false → StandsFrom floor state.now → ⊥ }
+{
+    match state.position() {
+        None => true,
+        Some(at) => floor <= at,
+    }
 }
 
 /// Whether the second range begins at or before the first, and ends at or after it.
@@ -164,13 +175,17 @@ impl<N: Naming> Cell<N> {
         reader.meet(&mut self.pass);
     }
 
-    /// What keeps nothing yet of the cell's range, for its join and its rank. The pass and the reader see what either has seen.
+    /// What keeps nothing yet of the cell's range, for its join, which stands after p entries, and its rank. The pass and the
+    /// reader see what either has seen.
     fn begin<R: Stacked<N>>(
         &mut self,
         alloc: Global,
+        p: u64,
         reader: &mut R,
     ) -> Result<RangeState, OutOfMemory>
-        requires { (j : PlainJoin) × IsDeclared (R.list reader.old) self.old.at j }
+        requires within { p ≤ length (R.list reader.old) }
+        requires above { R.floor reader.old ≤ p }
+        requires stands { (rank : ℕ) × (j : PlainJoin) × StandsAs (R.list reader.old) p self.old.at rank j }
         ensures right { IfOk result (IsRightIn self.new.at self.new.rank self.new.range self.new.pass) }
         ensures fresh { IfOk result (λ state. state.position ≡ None) }
         ensures held { self.new.held ≡ self.old.held }
@@ -179,7 +194,7 @@ impl<N: Naming> Cell<N> {
         ensures entered { HasEntered (R.list reader.new) }
         ensures moves { Moves R.list R.floor R.went reader.old reader.new }
     {
-        let join = reader.join_at(self.at);
+        let join = reader.join_at(p, self.at);
         let range = self.range.copy();
         let rank = self.rank;
         self.meet(reader);
@@ -205,9 +220,26 @@ impl<N: Naming> Cell<N> {
         self.held.take()
     }
 
+    /// Takes out what is kept, where it does not stand below a floor; what does is let go. Nothing is kept then.
+    fn take_from(&mut self, floor: u64) -> Option<RangeState>
+        ensures taken { IfSome self.old.held (StandsFrom floor) → result ≡ self.old.held }
+        ensures some { IfSome result (λ s. self.old.held ≡ Some s) }
+        ensures from { IfSome result (StandsFrom floor) }
+        ensures right { IfSome result (IsRightIn self.new.at self.new.rank self.new.range self.new.pass) }
+        ensures left { self.new.held ≡ None }
+        ensures pass { self.new.pass ≡ self.old.pass }
+        ensures same_place { HasSamePlace self.old self.new }
+    {
+        let state = self.take_held()?;
+        if stands_from(&state, floor) {
+            return Some(state);
+        }
+        None
+    }
+
     /// Takes out what is kept, to read it over a part. None exactly where the cell cannot serve the part at the position: then
-    /// what is kept stays. Where nothing is kept, what is given keeps nothing yet. The pass and the reader see what either has
-    /// seen.
+    /// what is kept stays. Where nothing is kept, or what stands below the reader's floor, what is given keeps nothing yet. The pass
+    /// and the reader see what either has seen.
     ///
     /// On `OutOfMemory` nothing is kept.
     fn lend<R: Stacked<N>>(
@@ -217,9 +249,12 @@ impl<N: Naming> Cell<N> {
         part: &Range,
         reader: &mut R,
     ) -> Result<Option<RangeState>, OutOfMemory>
-        requires { (j : PlainJoin) × IsDeclared (R.list reader.old) query.at j }
+        requires within { query.p ≤ length (R.list reader.old) }
+        requires above { R.floor reader.old ≤ query.p }
+        requires stands { (j : PlainJoin) × StandsAs (R.list reader.old) query.p query.at query.rank j }
         ensures lent { IfOk result (λ found. IfSome found (IsLentFor self.new query.at query.rank query.p part.now)) }
-        ensures kept { (s : KeptRange) → CanBeLent self.old query.at query.rank query.p part.now s → IfOk result (λ found. found ≡ Some s) }
+        ensures from { IfOk result (λ found. IfSome found (StandsFrom (R.floor reader.new))) }
+        ensures kept { (s : KeptRange) → CanBeLent self.old query.at query.rank query.p (R.floor reader.old) part.now s → IfOk result (λ found. found ≡ Some s) }
         ensures served { CanServe self.old query.at query.rank query.p part.now → IfOk result (λ found. found ≡ None → ⊥) }
         ensures none { (CanServe self.old query.at query.rank query.p part.now → ⊥) → IfOk result (λ found. found ≡ None) }
         ensures left { (CanServe self.old query.at query.rank query.p part.now → ⊥) → self.new.held ≡ self.old.held }
@@ -233,10 +268,10 @@ impl<N: Naming> Cell<N> {
         if !self.can_serve(query, part) {
             return Ok(None);
         }
-        if let Some(state) = self.take_held() {
+        if let Some(state) = self.take_from(reader.least_position()) {
             return Ok(Some(state));
         }
-        let state = self.begin(alloc, reader)?;
+        let state = self.begin(alloc, query.p, reader)?;
         Ok(Some(state))
     }
 
@@ -255,9 +290,10 @@ impl<N: Naming> Cell<N> {
     }
 
     /// What the join gives in a part after p entries, from what is kept. None, and then what is kept stays, exactly where the cell
-    /// is for another join or for another rank of it or has not the whole part, and where what is kept stands past p. Where
-    /// nothing is kept the cell's whole range is filled; where it stands below p it is advanced, and where something pending
-    /// meets the part it is mended there. The gate is passed before a fill and before a mend.
+    /// is for another join or for another rank of it or has not the whole part, and where what is kept stands past p. Where nothing
+    /// is kept the cell's whole range is filled, and so where it stands below the reader's floor: then it is let go first; where it
+    /// stands below p it is advanced, and where something pending meets the part it is mended there. The gate is passed before a
+    /// fill and before a mend.
     ///
     /// The cell's pass and the reader see what either has seen. Where the cell can be read over the part at once, it takes one
     /// step and one for each pair; where it gave pairs, it can be so read afterwards. Where it cannot serve, it takes no step,
@@ -274,6 +310,7 @@ impl<N: Naming> Cell<N> {
         steps: &mut Steps<L>,
     ) -> Result<Option<Vec<Pair>>, OutOfMemory>
         requires within { query.p ≤ length (R.list reader.old) }
+        requires above { R.floor reader.old ≤ query.p }
         requires stands { (j : PlainJoin) × StandsAs (R.list reader.old) query.p query.at query.rank j }
         requires ranked { query.rank ≤ R.top }
         ensures output { IfOk result (λ found. IfSome found (λ pairs. IsOutput (R.list reader.old) query.p query.at query.rank part.now pairs.items)) }
@@ -302,7 +339,7 @@ impl<N: Naming> Cell<N> {
     /// where it stands below; where it stands there already, or is forgotten, it is left as it is. Then `All` comes exactly where
     /// it does not know, as `RangeState::changed_since` says. `All` may also come where the cell is for another join or for
     /// another rank of it or has not the whole part, and where what is kept stands past the later position: then it stays, and
-    /// no step is taken. It comes too where nothing is kept.
+    /// no step is taken. It comes too where nothing is kept, and where it stands below the reader's floor: then it is let go.
     ///
     /// The cell's pass and the reader see what either has seen.
     ///
@@ -318,12 +355,13 @@ impl<N: Naming> Cell<N> {
     ) -> Result<Changed, OutOfMemory>
         requires order { since ≤ query.p }
         requires within { query.p ≤ length (R.list reader.old) }
+        requires above { R.floor reader.old ≤ query.p }
         requires stands { (j : PlainJoin) × StandsAs (R.list reader.old) query.p query.at query.rank j }
         requires ranked { query.rank ≤ R.top }
         ensures told { IfOk result (λ told. (j : PlainJoin) → StandsAs (R.list reader.old) query.p query.at query.rank j →
             TellsJoin (R.list reader.old) since query.p query.rank j part.now told) }
-        ensures brought { (s : KeptRange) → CanBeLent self.old query.at query.rank query.p part.now s → OnOk result (IsSomeAnd self.new.held (IsBroughtTo query.p s)) }
-        ensures since { (s : KeptRange) → CanBeLent self.old query.at query.rank query.p part.now s →
+        ensures brought { (s : KeptRange) → CanBeLent self.old query.at query.rank query.p (R.floor reader.old) part.now s → OnOk result (IsSomeAnd self.new.held (IsBroughtTo query.p s)) }
+        ensures since { (s : KeptRange) → CanBeLent self.old query.at query.rank query.p (R.floor reader.old) part.now s →
             IfOk result (λ told. IsSomeAnd self.new.held (λ after. AnswersSince since part.now after told)) }
         ensures left { (CanServe self.old query.at query.rank query.p part.now → ⊥) → self.new.held ≡ self.old.held }
         ensures idle { (CanServe self.old query.at query.rank query.p part.now → ⊥) → steps.new ≡ steps.old }
@@ -341,10 +379,11 @@ impl<N: Naming> Cell<N> {
         told
     }
 
-    /// Brings what is kept to where the first p entries stand, where it stands below: it is advanced. What is pending then
-    /// stays so, what is forgotten stays so, and what stands past p stays there. The rank is the one that the join has after p
-    /// entries, and none where it does not stand then; where it is not the cell's, what is kept stays as it is and no step is
-    /// taken, so that nothing changes but what the cell's pass has seen. It and the reader see what either has seen.
+    /// Brings what is kept to where the first p entries stand, where it stands below: it is advanced. What is pending then stays
+    /// so, what is forgotten stays so, and what stands past p stays there. What stands below the reader's floor is let go. The rank
+    /// is the one that the join has after p entries, and none where it does not stand then; where it is not the cell's, what is
+    /// kept stays as it is and no step is taken, so that nothing changes but what the cell's pass has seen. It and the reader see
+    /// what either has seen.
     ///
     /// On `OutOfMemory` what is kept stands where it stood, or at p, or nothing is kept.
     pub fn bring<R: Stacked<N>, L: Ledger>(
@@ -357,7 +396,7 @@ impl<N: Naming> Cell<N> {
         requires within { p ≤ length (R.list reader.old) }
         requires rank { IsRankAt (R.list reader.old) p self.old.at rank }
         requires ranked { IfSome rank (λ r. r ≤ R.top) }
-        ensures brings { BringsCell p rank result self.old self.new }
+        ensures brings { BringsCell (R.floor reader.old) p rank result self.old self.new }
         ensures idle { (rank ≡ Some self.old.rank → ⊥) → steps.new ≡ steps.old }
         ensures same_place { HasSamePlace self.old self.new }
         ensures met { self.new.pass.view ≡ R.list reader.new }
@@ -368,7 +407,7 @@ impl<N: Naming> Cell<N> {
         if !self.is_for(rank) {
             return Ok(());
         }
-        let Some(state) = self.take_held() else {
+        let Some(state) = self.take_from(reader.least_position()) else {
             return Ok(());
         };
         let mut state = state;

@@ -92,7 +92,9 @@ impl<'a, N: Naming, W: Wait, G: Gate, R: Stacked<N>> Reader for Layer<'a, N, W, 
 }
 
 impl<'a, N: Naming, W: Wait, G: Gate, R: Stacked<N>> Stacked<N> for Layer<'a, N, W, G, R> {
-    ghost no_floor = { λ l. R.no_floor l.inner };
+    fn least_position(&self) -> u64 {
+        self.inner.least_position()
+    }
 
     fn meet(&mut self, pass: &mut Pass) {
         self.inner.meet(pass);
@@ -106,8 +108,8 @@ impl<'a, N: Naming, W: Wait, G: Gate, R: Stacked<N>> Stacked<N> for Layer<'a, N,
         self.inner.between(q, p, range)
     }
 
-    fn join_at(&mut self, at: u64) -> Result<Join, OutOfMemory> {
-        self.inner.join_at(at)
+    fn join_at(&mut self, p: u64, at: u64) -> Result<Join, OutOfMemory> {
+        self.inner.join_at(p, at)
     }
 
     fn is_kept(&self, at: u64) -> bool {

@@ -30,6 +30,7 @@ fn read_alone<N: Naming, W, G: Gate, R: Stacked<N>, L: Ledger>(
     steps: &mut Steps<L>,
 ) -> Result<Vec<Pair>, OutOfMemory>
     requires within { query.p ≤ length (R.list reader.old) }
+    requires above { R.floor reader.old ≤ query.p }
     requires entered { HasEntered (R.list reader.old) }
     requires stands { (j : PlainJoin) × StandsAs (R.list reader.old) query.p query.at query.rank j }
     requires next { R.top ≡ query.rank }
@@ -38,7 +39,7 @@ fn read_alone<N: Naming, W, G: Gate, R: Stacked<N>, L: Ledger>(
     ensures counted { steps.old ≤ steps.new }
     ensures cost { IfOk result (λ pairs. steps.old + 1 + length pairs.items ≤ steps.new) }
 {
-    let join = reader.join_at(query.at)?;
+    let join = reader.join_at(query.p, query.at)?;
     let range = part.copy()?;
     serve_alone(
         room.alloc, join, query.rank, query.p, range, room.gate, reader, steps,
@@ -60,6 +61,7 @@ fn read_cell<N: Naming, W: Wait, G: Gate, R: Stacked<N>, L: Ledger>(
     steps: &mut Steps<L>,
 ) -> Result<Option<Vec<Pair>>, OutOfMemory>
     requires within { query.p ≤ length (R.list reader.old) }
+    requires above { R.floor reader.old ≤ query.p }
     requires stands { (j : PlainJoin) × StandsAs (R.list reader.old) query.p query.at query.rank j }
     requires next { R.top ≡ query.rank }
     ensures output { IfOk result (λ found. IfSome found (λ pairs. IsOutput (R.list reader.old) query.p query.at query.rank part.now.range pairs.items)) }
@@ -94,6 +96,7 @@ pub fn read_part<N: Naming, W: Wait, G: Gate, R: Stacked<N>, L: Ledger>(
     steps: &mut Steps<L>,
 ) -> Result<Vec<Pair>, OutOfMemory>
     requires within { query.p ≤ length (R.list reader.old) }
+    requires above { R.floor reader.old ≤ query.p }
     requires entered { HasEntered (R.list reader.old) }
     requires stands { (j : PlainJoin) × StandsAs (R.list reader.old) query.p query.at query.rank j }
     requires next { R.top ≡ query.rank }
@@ -126,6 +129,7 @@ pub fn tell_part<N: Naming, W: Wait, G: Gate, R: Stacked<N>, L: Ledger>(
 ) -> Result<Changed, OutOfMemory>
     requires order { since ≤ query.p }
     requires within { query.p ≤ length (R.list reader.old) }
+    requires above { R.floor reader.old ≤ query.p }
     requires stands { (j : PlainJoin) × StandsAs (R.list reader.old) query.p query.at query.rank j }
     requires next { R.top ≡ query.rank }
     ensures told { IfOk result (λ told. (j : PlainJoin) → StandsAs (R.list reader.old) query.p query.at query.rank j →

@@ -1,8 +1,9 @@
 // The lowest reader of a history that threads share.
-ghost use Rattle.std.specs.Prelude.{◌≡◌, IfOk, refl};
+ghost use Rattle.std.specs.Prelude.{◌≡◌, IfOk, Some};
 ghost use Rattle.std.proofs.Common.{rules};
 ghost use Rattle.semantics.specs.Joins.{Join as PlainJoin};
-ghost use Rattle.cell_slots.specs.Slots.{IsDeclared};
+ghost use Rattle.write_history.specs.Marks.{reach};
+ghost use Rattle.base_reader.specs.Reaching.{IsJoinIn};
 ghost use Rattle.base_shards.specs.Reading.{ReadsOn};
 ghost use Rattle.base_shards.proofs.ReadingLemmas.{reads_on-refl, reads_on-trans};
 ghost use Rattle.shared_reader.specs.Readable.{IsReadable};
@@ -16,7 +17,7 @@ use base_reader::reaching::join_of;
 use base_shards::{BaseShards, Naming};
 use join_eval::{Between, Changed, Reader};
 use join_set::JoinSet;
-use join_types::{Join, Kind, Pair, Write};
+use join_types::{Join, Kind, Pair};
 use key_space::{Key, Range};
 use out_of_memory::OutOfMemory;
 use std::alloc::Global;
@@ -27,9 +28,20 @@ use std::sync::ledger::Ledger;
 use steps::Steps;
 use write_history::{History, Pass};
 
-/// Reads the base pairs that no output hides, from the parts that threads share, with a pass of its own. It is made to read
-/// after one number of entries, and is given the joins after these; for every other position it takes the joins from the
-/// history.
+/// A copy of the join that was declared at a position and stands among the joins. Linear in the joins and in the join.
+fn copy_of(alloc: Global, joins: &JoinSet, at: u64) -> Result<Join, OutOfMemory>
+    requires { (j : PlainJoin) × IsJoinIn joins.now.standing at (Some j) }
+    ensures { IfOk result (λ join. IsJoinIn joins.now.standing at (Some join)) }
+{
+    match join_of(joins, at) {
+        Some(join) => join.copy(alloc),
+        None => unreachable!(),
+    }
+}
+
+/// Reads the base pairs that no output hides, from the parts that threads share, with a pinned pass. It is made to read after one
+/// number of entries, and is given the joins after these; for every other position it takes the joins from the history. Its floor
+/// is where the pin reaches back to.
 #[derive(Drop)]
 pub struct SharedReader<'a, N: Naming, W> {
     alloc: Global,
@@ -39,11 +51,14 @@ pub struct SharedReader<'a, N: Naming, W> {
     joins: &'a JoinSet,
     p: u64,
     pass: Pass,
+    floor: u64,
     used: Vec<Use>,
     noted: Noted,
 }
 
 impl<'a, N: Naming, W> Model for SharedReader<'a, N, W> {
+    ghost use Rattle.std.specs.Prelude.{◌≡◌};
+    ghost use Rattle.write_history.specs.Marks.{reach};
     ghost use Rattle.write_history.specs.Passes.{PassView};
     ghost use Rattle.shared_reader.specs.Readable.{IsReadable};
 
@@ -51,11 +66,11 @@ impl<'a, N: Naming, W> Model for SharedReader<'a, N, W> {
 
     ghost view = { λ r. r.pass };
 
-    ghost invariant = { λ r. IsReadable N.history r.history.now r.joins.now r.p r.pass };
+    ghost invariant = { λ r. IsReadable N.history r.history.now r.joins.now r.p r.pass × (r.floor ≡ reach r.pass.mark) };
 }
 
 impl<'a, N: Naming, W> SharedReader<'a, N, W> {
-    /// A reader with a pass, to read after the first p entries that the pass has seen. These are the joins after them.
+    /// A reader with a pinned pass, to read after the first p entries that the pass has seen. These are the joins after them.
     /// Nothing is allocated.
     pub fn new(
         alloc: Global,
@@ -69,6 +84,8 @@ impl<'a, N: Naming, W> SharedReader<'a, N, W> {
         requires { IsReadable N.history history.now joins.now p pass }
         ensures { result ≡ pass }
     {
+        let mut pass = pass;
+        let floor = history.reach(&mut pass);
         SharedReader {
             alloc,
             rt,
@@ -77,6 +94,7 @@ impl<'a, N: Naming, W> SharedReader<'a, N, W> {
             joins,
             p,
             pass,
+            floor,
             used: Vec::new(alloc),
             noted: Noted::new(alloc),
         }
@@ -91,23 +109,6 @@ impl<'a, N: Naming, W> SharedReader<'a, N, W> {
 }
 
 impl<'a, N: Naming, W: Wait> SharedReader<'a, N, W> {
-    /// A copy of the join that was declared at a position, out of the history's entries. It takes the history's turn, and is
-    /// linear in the join.
-    fn declared(&mut self, at: u64) -> Result<Join, OutOfMemory>
-        requires { (j : PlainJoin) × IsDeclared self.old.view at j }
-        ensures declared { IfOk result (IsDeclared self.old.view at) }
-        ensures same { self.new ≡ self.old }
-    {
-        let mut entries = self.history.entries(self.rt, &mut self.pass, at - 1, at)?;
-        match entries.pop() {
-            Some(entry) => match entry.write {
-                Write::Declare(join) => Ok(join),
-                _ => unreachable!(),
-            },
-            None => unreachable!(),
-        }
-    }
-
     /// Follows under a cell's number the ranges that were noted since so many were, and adds them to those that it follows.
     ///
     /// On `OutOfMemory` some may be added that are not followed.
@@ -128,7 +129,7 @@ impl<'a, N: Naming, W: Wait> SharedReader<'a, N, W> {
 impl<'a, N: Naming, W: Wait> BaseSource for SharedReader<'a, N, W> {
     ghost list = { λ r. r.view };
 
-    ghost floor = { λ _. 0 };
+    ghost floor = { λ r. reach r.mark };
 
     ghost went = { λ a b. ReadsOn a b };
 
@@ -181,7 +182,7 @@ impl<'a, N: Naming, W: Wait> Reader for SharedReader<'a, N, W> {
 
     ghost top = { 0 };
 
-    ghost floor = { λ _. 0 };
+    ghost floor = { λ r. reach r.mark };
 
     ghost went = { λ a b. ReadsOn a b };
 
@@ -222,7 +223,9 @@ impl<'a, N: Naming, W: Wait> Reader for SharedReader<'a, N, W> {
 }
 
 impl<'a, N: Naming, W: Wait> Stacked<N> for SharedReader<'a, N, W> {
-    ghost no_floor = { λ _. refl };
+    fn least_position(&self) -> u64 {
+        self.floor
+    }
 
     fn meet(&mut self, pass: &mut Pass) {
         self.history.meet(self.rt, pass, &mut self.pass);
@@ -236,11 +239,12 @@ impl<'a, N: Naming, W: Wait> Stacked<N> for SharedReader<'a, N, W> {
         lowest_between(self, q, p, range)
     }
 
-    fn join_at(&mut self, at: u64) -> Result<Join, OutOfMemory> {
-        match join_of(self.joins, at) {
-            Some(join) => join.copy(self.alloc),
-            None => self.declared(at),
+    fn join_at(&mut self, p: u64, at: u64) -> Result<Join, OutOfMemory> {
+        if p == self.p {
+            return copy_of(self.alloc, self.joins, at);
         }
+        let joins = self.history.joins_at(self.rt, &mut self.pass, p)?;
+        copy_of(self.alloc, &joins, at)
     }
 
     fn is_kept(&self, at: u64) -> bool {

@@ -1,5 +1,5 @@
 // What a layer asks of the reader that it stands on, where threads share the history.
-ghost use Rattle.std.specs.Prelude.{◌≡◌, ◌≤◌, length, map, take, IfOk};
+ghost use Rattle.std.specs.Prelude.{◌≡◌, ℕ, ◌≤◌, length, map, take, IfOk};
 ghost use Rattle.semantics.specs.Joins.{Join as PlainJoin};
 ghost use Rattle.semantics.specs.Histories.{joins_of};
 ghost use Rattle.growing_history.specs.Entered.{HasEntered};
@@ -7,7 +7,7 @@ ghost use Rattle.layering.specs.Reached.{reached};
 ghost use Rattle.write_history.specs.Passes.{GoesOn, own};
 ghost use Rattle.join_eval.specs.Answers.{TellsBetween};
 ghost use Rattle.join_eval.specs.Moves.{Moves};
-ghost use Rattle.cell_slots.specs.Slots.{IsDeclared};
+ghost use Rattle.cell_slots.specs.Slots.{IsDeclared, StandsAs};
 
 use crate::followed::Followed;
 use base_shards::Naming;
@@ -26,10 +26,14 @@ pub struct Use {
     pub rows: u64,
 }
 
-/// A reader whose list is what a pass of a history has seen. Every position of it can be read.
+/// A reader whose list is what a pass of a history has seen. It can be read at every position of it that is not below its floor.
 ///
 /// A join is named by the position of its declaration.
 pub trait Stacked<N: Naming>: Reader {
+    /// Gives the floor: the least position that can be read at. Constant.
+    fn least_position(&self) -> u64
+        ensures { result ≡ Self.floor self.now };
+
     /// The reader and the pass see what either has seen.
     fn meet(&mut self, pass: &mut Pass)
         requires same_history { pass.old.history ≡ N.history }
@@ -41,7 +45,8 @@ pub trait Stacked<N: Naming>: Reader {
 
     /// The joins of a rank whose outputs the range reaches, after the first p entries, in order of position.
     fn reached(&mut self, p: u64, range: &Range, rank: u8) -> Result<Vec<u64>, OutOfMemory>
-        requires { p ≤ length (Self.list self.old) }
+        requires within { p ≤ length (Self.list self.old) }
+        requires above { Self.floor self.old ≤ p }
         ensures reached { IfOk result (λ ats. ats.items ≡ map (λ s. s.position) (reached range.now rank (joins_of (take p (Self.list self.old))))) }
         ensures moves { Moves Self.list Self.floor Self.went self.old self.new };
 
@@ -49,12 +54,15 @@ pub trait Stacked<N: Naming>: Reader {
     fn between(&mut self, q: u64, p: u64, range: &Range) -> Result<Between, OutOfMemory>
         requires order { q ≤ p }
         requires within { p ≤ length (Self.list self.old) }
+        requires above { Self.floor self.old ≤ q }
         ensures said { IfOk result (TellsBetween (Self.list self.old) q p range.now) }
         ensures moves { Moves Self.list Self.floor Self.went self.old self.new };
 
-    /// A copy of the join that was declared at a position.
-    fn join_at(&mut self, at: u64) -> Result<Join, OutOfMemory>
-        requires { (j : PlainJoin) × IsDeclared (Self.list self.old) at j }
+    /// A copy of the join that was declared at a position and stands after the first p entries.
+    fn join_at(&mut self, p: u64, at: u64) -> Result<Join, OutOfMemory>
+        requires within { p ≤ length (Self.list self.old) }
+        requires above { Self.floor self.old ≤ p }
+        requires stands { (rank : ℕ) × (j : PlainJoin) × StandsAs (Self.list self.old) p at rank j }
         ensures declared { IfOk result (IsDeclared (Self.list self.old) at) }
         ensures moves { Moves Self.list Self.floor Self.went self.old self.new };
 
@@ -77,7 +85,4 @@ pub trait Stacked<N: Naming>: Reader {
     /// none. What is read does not rest on it.
     fn follow_noted(&mut self, id: u32, since: usize, followed: &mut Followed)
         ensures { self.new ≡ self.old };
-
-    /// Every position can be read.
-    ghost no_floor: { (a : Self) → Self.floor a ≡ 0 };
 }

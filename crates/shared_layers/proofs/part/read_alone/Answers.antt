@@ -5,15 +5,15 @@ use Rattle.join_eval.proofs.MovesLemmas.{moves_trans}
 use Rattle.shared_layers.proofs.LayerLemmas.{ranked_over, output_alone}
 use Rattle.shared_layers.proofs.part.read_alone.Goals as goal
 
-pub join_at-requires : goal.join_at-requires
-join_at-requires g c = (c.requires.stands.0, c.requires.stands.1.declared)
+pub join_at-requires-clause-stands : goal.join_at-requires-clause-stands
+join_at-requires-clause-stands g c = (c.args.query.rank, c.requires.stands.0, c.requires.stands.1)
 
 pub serve_alone-requires-clause-within : goal.serve_alone-requires-clause-within
 serve_alone-requires-clause-within g c =
     omega (arith, c.requires.within, prefix_length (g.R.Reader.list c.args.reader.now) (g.R.Reader.list c.join_at.new.self) c.join_at.ensures.moves.kept)
 
 pub serve_alone-requires-clause-above : goal.serve_alone-requires-clause-above
-serve_alone-requires-clause-above g c = subst (λ n. n ≤ c.args.query.p) (sym (g.met.R.Stacked.no_floor c.join_at.new.self)) (omega arith)
+serve_alone-requires-clause-above g c = subst (λ n. n ≤ c.args.query.p) (sym c.join_at.ensures.moves.same_floor) c.requires.above
 
 pub serve_alone-requires-clause-entered : goal.serve_alone-requires-clause-entered
 serve_alone-requires-clause-entered g c = c.join_at.ensures.moves.entered c.requires.entered

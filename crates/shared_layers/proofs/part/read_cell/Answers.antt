@@ -12,6 +12,9 @@ returns-in_default-deref_mut-clause-moves g c = moves_refl g.R.Reader.list g.R.R
 pub serve-found-requires-clause-within : goal.serve-found-requires-clause-within
 serve-found-requires-clause-within g c = rw c.start_noting-since.ensures c.requires.within
 
+pub serve-found-requires-clause-above : goal.serve-found-requires-clause-above
+serve-found-requires-clause-above g c = rw c.start_noting-since.ensures c.requires.above
+
 pub serve-found-requires-clause-stands : goal.serve-found-requires-clause-stands
 serve-found-requires-clause-stands g c = rw c.start_noting-since.ensures c.requires.stands
 

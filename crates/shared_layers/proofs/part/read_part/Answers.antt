@@ -1,4 +1,4 @@
-use Rattle.std.proofs.Common.{arith}
+use Rattle.std.proofs.Common.{◌≤◌, sym, subst, arith}
 use Rattle.std.proofs.lemmas.Result.{IfOk-weaker}
 use Rattle.growing_history.proofs.PrefixLemmas.{prefix_length}
 use Rattle.join_eval.proofs.MovesLemmas.{moves_trans}
@@ -9,6 +9,9 @@ use Rattle.shared_layers.proofs.part.read_part.Goals as goal
 pub read_alone-requires-clause-within : goal.read_alone-requires-clause-within
 read_alone-requires-clause-within g c =
     omega (arith, c.requires.within, prefix_length (g.R.Reader.list c.args.reader.now) (g.R.Reader.list c.read_cell.new.reader) c.read_cell.ensures.moves.kept)
+
+pub read_alone-requires-clause-above : goal.read_alone-requires-clause-above
+read_alone-requires-clause-above g c = subst (λ n. n ≤ c.args.query.p) (sym c.read_cell.ensures.moves.same_floor) c.requires.above
 
 pub read_alone-requires-clause-entered : goal.read_alone-requires-clause-entered
 read_alone-requires-clause-entered g c = c.read_cell.ensures.moves.entered c.requires.entered

@@ -12,6 +12,9 @@ returns-in_default-deref_mut-clause-moves g c = moves_refl g.R.Reader.list g.R.R
 pub tell-told-requires-clause-within : goal.tell-told-requires-clause-within
 tell-told-requires-clause-within g c = rw c.start_noting-noted.ensures c.requires.within
 
+pub tell-told-requires-clause-above : goal.tell-told-requires-clause-above
+tell-told-requires-clause-above g c = rw c.start_noting-noted.ensures c.requires.above
+
 pub tell-told-requires-clause-stands : goal.tell-told-requires-clause-stands
 tell-told-requires-clause-stands g c = rw c.start_noting-noted.ensures c.requires.stands
 

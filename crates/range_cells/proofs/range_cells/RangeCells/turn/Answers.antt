@@ -22,3 +22,6 @@ bring_marked-requires-clause-joins g c =
 
 pub returns-in-Some-clause-reads_on : goal.returns-in-Some-clause-reads_on
 returns-in-Some-clause-reads_on g c = reads_on-trans c.args.pass c.bring_parts.new.pass c.bring_marked.result.pass c.bring_parts.ensures c.bring_marked.ensures.reads_on
+
+pub bring_marked-requires-clause-pinned : goal.bring_marked-requires-clause-pinned
+bring_marked-requires-clause-pinned g c = record { pin = c.args.p; pinned = c.bring_parts.ensures.same_mark ∙ c.requires.pinned; near = omega arith }

@@ -1,15 +1,19 @@
-use Rattle.std.proofs.Common.{sym, ap, ◌∙◌, subst}
+use Rattle.std.proofs.Common.{ℕ, sym, ap, ◌∙◌, subst}
 use Rattle.semantics.specs.Histories.{IsPrefix}
 use Rattle.growing_history.proofs.PrefixLemmas.{prefix_trans}
 use Rattle.join_eval.proofs.MovesLemmas.{moves_trans}
-use Rattle.cell_slots.specs.Slots.{IsDeclared}
+use Rattle.cell_slots.specs.Slots.{StandsAs}
 use Rattle.shared_cells.specs.Cells.{CellView}
 use Rattle.shared_cells.proofs.CellLemmas.{new_is_right}
 use Rattle.shared_cells.proofs.cell.Cell.begin.Goals as goal
 
-pub join_at-join-requires : goal.join_at-join-requires
-join_at-join-requires g c =
-    (c.requires.0, subst (λ n. IsDeclared (g.R.Reader.list c.args.reader.now) n c.requires.0) (sym (ap (λ (cell : CellView). cell.at) c.self.view_is)) c.requires.1)
+pub join_at-join-requires-clause-stands : goal.join_at-join-requires-clause-stands
+join_at-join-requires-clause-stands g c =
+    let stands = c.requires.stands in (
+      stands.0,
+      stands.1,
+      subst (λ (n : ℕ). StandsAs (g.R.Reader.list c.args.reader.now) c.args.p n stands.0 stands.1) (sym (ap (λ (cell : CellView). cell.at) c.self.view_is)) stands.2,
+    )
 
 pub returns-clause-right : goal.returns-clause-right
 returns-clause-right g c =

@@ -1,10 +1,13 @@
-use Rattle.std.proofs.Common.{◌≤◌, Option, IfSome, Some, refl, sym, ap, ◌∙◌, subst, ℕ}
+use Rattle.std.proofs.Common.{◌≡◌, ◌≤◌, Option, IfSome, Some, refl, sym, ap, ◌∙◌, subst, ℕ}
 use Rattle.std.proofs.lemmas.Bool.{false≢true}
 use Rattle.std.proofs.lemmas.Result.{on_ok_weaker}
 use Rattle.join_eval.proofs.MovesLemmas.{moves_trans}
 use Rattle.rank_layers.proofs.PartLemmas.{right_after}
 use Rattle.write_history.specs.Passes.{PassView}
+use Rattle.kept_ranges.specs.Sound.{KeptRange}
+use Rattle.range_serving.specs.Serving.{StandsFrom}
 use Rattle.cell_slots.specs.Slots.{IsRankAt}
+use Rattle.shared_cells.specs.Bringing.{BringsTo}
 use Rattle.shared_cells.proofs.CellLemmas.{brings, brings_nothing, rank_of_kept, right_here}
 use Rattle.shared_cells.proofs.cell.Cell.bring.Goals as goal
 
@@ -16,37 +19,45 @@ returns-then-not-is_for-clause-brings g c = record {
 
 pub returns-in_default-clause-brings : goal.returns-in_default-clause-brings
 returns-in_default-clause-brings g c = record {
-  brought = λ same. brings_nothing c.args.p c.args.self.now.held c.take_held.new.self.held (sym c.meet.ensures.held ∙ sym c.take_held.ensures.taken ∙ c.in_default.is) c.take_held.ensures.left;
+  brought = λ same.
+      subst (λ (n : ℕ). BringsTo n c.args.p c.args.self.now.held c.take_from.new.self.held) (c.least_position.ensures ∙ c.meet.ensures.moves.same_floor)
+      (brings_nothing c.least_position.result c.args.p c.args.self.now.held c.take_from.result c.take_from.new.self.held
+      (subst (λ (o : Option KeptRange). IfSome o (StandsFrom c.least_position.result) → c.take_from.result ≡ o) c.meet.ensures.held c.take_from.ensures.taken) c.in_default.is c.take_from.ensures.left);
   left = λ other. absurd (other (c.if-not-is_for.ensures.yes refl ∙ ap (λ (n : ℕ). Some n) c.meet.ensures.same_place.rank));
 }
+
+pub catch_up-advanced-requires-clause-from : goal.catch_up-advanced-requires-clause-from
+catch_up-advanced-requires-clause-from g c = subst (λ (n : ℕ). StandsFrom n c.in-Some.state) c.least_position.ensures c.in-Some.ensures.from
 
 pub catch_up-advanced-requires-clause-stands : goal.catch_up-advanced-requires-clause-stands
 catch_up-advanced-requires-clause-stands g c =
     let list = g.R.Reader.list in
-    let place = c.take_held.ensures.same_place.at ∙ c.meet.ensures.same_place.at in
-    rank_of_kept c.take_held.new.self (list c.args.reader.now) (list c.meet.new.reader) c.args.p c.args.rank c.in-Some.state c.requires.within c.meet.ensures.moves.kept
-    (ap (λ (p : PassView). p.view) c.take_held.ensures.pass ∙ c.meet.ensures.met) (c.if-not-is_for.ensures.yes refl ∙ ap (λ (n : ℕ). Some n) (sym c.take_held.ensures.same_place.rank))
+    let place = c.take_from.ensures.same_place.at ∙ c.meet.ensures.same_place.at in
+    rank_of_kept c.take_from.new.self (list c.args.reader.now) (list c.meet.new.reader) c.args.p c.args.rank c.in-Some.state c.requires.within c.meet.ensures.moves.kept
+    (ap (λ (p : PassView). p.view) c.take_from.ensures.pass ∙ c.meet.ensures.met) (c.if-not-is_for.ensures.yes refl ∙ ap (λ (n : ℕ). Some n) (sym c.take_from.ensures.same_place.rank))
     (subst (λ (n : ℕ). IsRankAt (list c.args.reader.now) c.args.p n c.args.rank) (sym place) c.requires.rank) c.in-Some.ensures.right
 
 pub catch_up-advanced-requires-clause-ranked : goal.catch_up-advanced-requires-clause-ranked
 catch_up-advanced-requires-clause-ranked g c =
-    subst (λ (n : ℕ). n ≤ g.R.Reader.top) (sym (c.in-Some.ensures.right.ranked ∙ c.take_held.ensures.same_place.rank))
+    subst (λ (n : ℕ). n ≤ g.R.Reader.top) (sym (c.in-Some.ensures.right.ranked ∙ c.take_from.ensures.same_place.rank))
     (subst (λ (o : Option ℕ). IfSome o (λ r. r ≤ g.R.Reader.top)) (c.if-not-is_for.ensures.yes refl) c.requires.ranked)
 
 pub give_back-requires-clause-right : goal.give_back-requires-clause-right
 give_back-requires-clause-right g c =
     let list = g.R.Reader.list in
-    let met = ap (λ (p : PassView). p.view) c.take_held.ensures.pass ∙ c.meet.ensures.met in
-    right_after (list c.meet.new.reader) (list c.catch_up-advanced.new.reader) c.take_held.new.self.at c.in-Some.state c.catch_up-advanced.new.state c.catch_up-advanced.ensures.moves.kept
-    (right_here c.take_held.new.self (list c.meet.new.reader) c.take_held.new.self.at c.in-Some.state met refl c.in-Some.ensures.right)
+    let met = ap (λ (p : PassView). p.view) c.take_from.ensures.pass ∙ c.meet.ensures.met in
+    right_after (list c.meet.new.reader) (list c.catch_up-advanced.new.reader) c.take_from.new.self.at c.in-Some.state c.catch_up-advanced.new.state c.catch_up-advanced.ensures.moves.kept
+    (right_here c.take_from.new.self (list c.meet.new.reader) c.take_from.new.self.at c.in-Some.state met refl c.in-Some.ensures.right)
     c.catch_up-advanced.ensures.same c.catch_up-advanced.ensures.sound
 
 pub returns-clause-brings : goal.returns-clause-brings
 returns-clause-brings g c =
     let advanced = c.catch_up-advanced in
+    let floor = g.R.Reader.floor c.args.reader.now in
+    let from = subst (λ (n : ℕ). StandsFrom n c.in-Some.state) (c.least_position.ensures ∙ c.meet.ensures.moves.same_floor) c.in-Some.ensures.from in
     record {
       brought = λ same. on_ok_weaker advanced.result (λ brought.
-          brings c.args.p c.args.self.now.held c.give_back.new.self.held c.in-Some.state advanced.new.state (sym c.meet.ensures.held ∙ sym c.take_held.ensures.taken ∙ c.in-Some.is) c.give_back.ensures.held brought) advanced.ensures.brought;
+          brings floor c.args.p c.args.self.now.held c.give_back.new.self.held c.in-Some.state advanced.new.state (sym c.meet.ensures.held ∙ c.in-Some.ensures.some) c.give_back.ensures.held from brought) advanced.ensures.brought;
       left = λ other. absurd (other (c.if-not-is_for.ensures.yes refl ∙ ap (λ (n : ℕ). Some n) c.meet.ensures.same_place.rank));
     }
 

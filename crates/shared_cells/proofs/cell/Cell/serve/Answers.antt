@@ -1,7 +1,8 @@
-use Rattle.std.proofs.Common.{IfSome, sym, ◌∙◌, subst}
+use Rattle.std.proofs.Common.{ℕ, ◌≤◌, IfSome, sym, ◌∙◌, subst}
 use Rattle.std.proofs.lemmas.Option.{none-some}
 use Rattle.join_eval.proofs.MovesLemmas.{moves_trans}
 use Rattle.rank_layers.proofs.PartLemmas.{right_after}
+use Rattle.range_serving.specs.Serving.{StandsFrom}
 use Rattle.shared_cells.specs.Cells.{IsLentFor}
 use Rattle.shared_cells.proofs.CellLemmas.{right_of_lent, rank_of_lent, output_of_lent}
 use Rattle.shared_cells.proofs.cell.Cell.serve.Goals as goal
@@ -11,6 +12,12 @@ serve-read-requires-clause-stands g c =
     let lent = subst (λ o. IfSome o (IsLentFor c.lend.new.self c.args.query.at c.args.query.rank c.args.query.p c.args.part.now)) c.in-Some.is c.in_ok-state.ensures.lent in
     rank_of_lent c.lend.new.self (g.R.Reader.list c.args.reader.now) (g.R.Reader.list c.lend.new.reader) c.args.query.at c.args.query.rank c.args.query.p c.args.part.now c.in-Some.state c.requires.stands.0
     c.requires.within c.lend.ensures.moves.kept c.lend.ensures.met lent c.requires.stands.1
+
+pub serve-read-requires-clause-from : goal.serve-read-requires-clause-from
+serve-read-requires-clause-from g c = subst (λ o. IfSome o (StandsFrom (g.R.Reader.floor c.lend.new.reader))) c.in-Some.is c.in_ok-state.ensures.from
+
+pub serve-read-requires-clause-above : goal.serve-read-requires-clause-above
+serve-read-requires-clause-above g c = subst (λ (n : ℕ). n ≤ c.args.query.p) (sym c.lend.ensures.moves.same_floor) c.requires.above
 
 pub give_back-requires-clause-right : goal.give_back-requires-clause-right
 give_back-requires-clause-right g c =

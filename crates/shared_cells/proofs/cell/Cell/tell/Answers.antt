@@ -6,7 +6,7 @@ use Rattle.std.proofs.lemmas.Option.{none-some, same_Some}
 use Rattle.rank_layers.proofs.PartLemmas.{right_after}
 use Rattle.kept_ranges.specs.Sound.{KeptRange}
 use Rattle.range_state.specs.Since.{AnswersSince}
-use Rattle.range_serving.specs.Serving.{IsBroughtTo}
+use Rattle.range_serving.specs.Serving.{IsBroughtTo, StandsFrom}
 use Rattle.shared_cells.specs.Cells.{IsLentFor}
 use Rattle.shared_cells.proofs.CellLemmas.{right_of_lent, rank_of_lent, told_of_lent}
 use Rattle.shared_cells.proofs.cell.Cell.tell.Goals as goal
@@ -16,6 +16,9 @@ tell-told-requires-clause-stands g c =
     let lent = subst (λ o. IfSome o (IsLentFor c.lend.new.self c.args.query.at c.args.query.rank c.args.query.p c.args.part.now)) c.in-Some.is c.in_ok-state.ensures.lent in
     rank_of_lent c.lend.new.self (g.R.Reader.list c.args.reader.now) (g.R.Reader.list c.lend.new.reader) c.args.query.at c.args.query.rank c.args.query.p c.args.part.now c.in-Some.state c.requires.stands.0
     c.requires.within c.lend.ensures.moves.kept c.lend.ensures.met lent c.requires.stands.1
+
+pub tell-told-requires-clause-from : goal.tell-told-requires-clause-from
+tell-told-requires-clause-from g c = subst (λ o. IfSome o (StandsFrom (g.R.Reader.floor c.lend.new.reader))) c.in-Some.is c.in_ok-state.ensures.from
 
 pub give_back-requires-clause-right : goal.give_back-requires-clause-right
 give_back-requires-clause-right g c =

@@ -6,7 +6,7 @@ use Rattle.growing_history.specs.Entered.{HasEntered}
 use Rattle.write_history.specs.Passes.{PassView}
 use Rattle.base_shards.specs.Changed.{changed_in_all, steps_of_all}
 use Rattle.base_shards.proofs.ChangedLemmas.{one_range_alone}
-use Rattle.shared_reader.proofs.GivenLemmas.{reads_moves}
+use Rattle.shared_reader.proofs.GivenLemmas.{reaches_back, reads_moves}
 use Rattle.shared_reader.proofs.reader.SharedReaderBaseSource.base_changes.Goals as goal
 
 -- the cost of keys that are listed, by the list
@@ -29,7 +29,10 @@ returns-clause-cost g c =
     (returns-clause-exact g c) c.changed.ensures.cost ((λ i. steps_of_all c.args.q c.args.p (c.from_ref-ranges.ensures.value i) (same i)) ∙ one)
 
 pub returns-clause-entered : goal.returns-clause-entered
-returns-clause-entered g c = subst (λ (v : PassView). HasEntered v.view) c.self.view_is c.self.invariant.recorded.entered
+returns-clause-entered g c = subst (λ (v : PassView). HasEntered v.view) c.self.view_is c.self.invariant.0.recorded.entered
 
 pub returns-clause-moves : goal.returns-clause-moves
-returns-clause-moves g c = reads_moves c.self.inside.pass c.args.self.now c.changed.new.pass c.self.invariant.recorded c.self.view_is c.changed.ensures.reads_on
+returns-clause-moves g c = reads_moves c.self.inside.pass c.args.self.now c.changed.new.pass c.self.invariant.0.recorded c.self.view_is c.changed.ensures.reads_on
+
+pub changed-requires-clause-pinned : goal.changed-requires-clause-pinned
+changed-requires-clause-pinned g c = reaches_back c.self.inside.pass c.args.self.now c.self.invariant.0.pinned.pin c.args.q c.self.invariant.0.pinned.pinned c.self.view_is c.requires.above

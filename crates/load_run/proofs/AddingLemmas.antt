@@ -135,6 +135,9 @@ reads_more old between new first next = record {
     same_writers = next.goes_on.same_writers ∙ first.goes_on.same_writers;
     begins = prefix_trans old.view between.view new.view first.goes_on.begins next.goes_on.begins;
     recorded = next.goes_on.recorded;
+    same_mark = next.goes_on.same_mark ∙ first.goes_on.same_mark;
+    higher = omega (arith, first.goes_on.higher, next.goes_on.higher);
+    low = next.goes_on.low;
   };
   none = next.none ∙ first.none;
 }

@@ -3,13 +3,12 @@ use Rattle.std.proofs.Common.{◌≡◌, ℕ, ◌+◌, ◌<◌, ◌≤◌, List,
 use Rattle.std.specs.Prelude.{slice_get, codes}
 use Rattle.std.specs.List.{AllByRecursion, ShiftedDown}
 use Rattle.std.proofs.lemmas.Option.{get_or_from_slice_get}
-use Rattle.atomic_table.specs.Seated.{TableId}
 use Rattle.semantics.specs.Texts.{Text, Table, pairs_within}
 use Rattle.semantics.specs.Histories.{Entry, History, IsPrefix}
 use Rattle.key_ranges.specs.Ranges.{prefix_range}
 use Rattle.growing_history.proofs.PrefixLemmas.{prefix_trans}
 use Rattle.write_history.specs.Entries.{written_by}
-use Rattle.write_history.specs.Passes.{PassView, new_pass, own}
+use Rattle.write_history.specs.Passes.{HistoryId, PassView, new_pass, own}
 use Rattle.load_gen.specs.Plans.{planned}
 use Rattle.load_gen.specs.declared.acts.Act.{Act}
 use Rattle.load_gen.specs.Entries.{declared_joins, entries_of, load_history}
@@ -24,32 +23,34 @@ use Rattle.load_run.specs.declared.held.Held.{Held}
 use Rattle.load_run.specs.declared.text.Tables.{Tables}
 
 -- the clients of a new cache: the first, and the others
-pub record AreNew (history : TableId) (first : PassView) (others : List PassView) : Type 0 where
-  pub first_is : first ≡ new_pass history (length others + 1) 0
-  pub each : (i : ℕ) (d : PassView) → i < length others → get_or others i d ≡ new_pass history (length others + 1) (i + 1)
+pub record AreNew (history : HistoryId) (first : PassView) (others : List PassView) : Type 0 where
+  pub all : history.kinds.writers ≡ length others + 1
+  pub first_is : first ≡ new_pass history 0
+  pub each : (i : ℕ) (d : PassView) → i < length others → get_or others i d ≡ new_pass history (i + 1)
 
-pub are_new : (history : TableId) (count : ℕ) (all others : List PassView) (first : PassView) → length others + 1 ≡ count →
-    ((number : ℕ) → number < count → slice_get all number ≡ Some (new_pass history count number)) → first ≡ get_or all 0 first → ShiftedDown all others 0 → AreNew history first others
-are_new history count all others first counted each is shifted = record {
-  first_is = is ∙ get_or_from_slice_get all 0 (new_pass history count 0) first (each 0 (omega arith)) ∙ ap (λ (n : ℕ). new_pass history n 0) (sym counted);
-  each = λ i d less. shifted i d (omega arith) ∙ get_or_from_slice_get all (i + 1) (new_pass history count (i + 1)) d (each (i + 1) (omega arith)) ∙ ap (λ (n : ℕ). new_pass history n (i + 1)) (sym counted);
+pub are_new : (history : HistoryId) (count : ℕ) (all others : List PassView) (first : PassView) → length others + 1 ≡ count → history.kinds.writers ≡ count →
+    ((number : ℕ) → number < count → slice_get all number ≡ Some (new_pass history number)) → first ≡ get_or all 0 first → ShiftedDown all others 0 → AreNew history first others
+are_new history count all others first counted writers each is shifted = record {
+  all = writers ∙ sym counted;
+  first_is = is ∙ get_or_from_slice_get all 0 (new_pass history 0) first (each 0 (omega arith));
+  each = λ i d less. shifted i d (omega arith) ∙ get_or_from_slice_get all (i + 1) (new_pass history (i + 1)) d (each (i + 1) (omega arith));
 }
 
 -- ---- a history that holds what the clients wrote
 
 -- the first has declared the joins, and each other one has done its share of the acts
-pub record HaveDone (acts : List Act) (history : TableId) (first declared : PassView) (others workers : List PassView) : Type 0 where
+pub record HaveDone (acts : List Act) (history : HistoryId) (first declared : PassView) (others workers : List PassView) : Type 0 where
   pub new : AreNew history first others
   pub added : HasAdded declared_joins first declared
   pub begins : IsPrefix declared_joins declared.view
   pub worked : HaveWorked acts others workers
 
-shared : (acts : List Act) (history : TableId) (first declared : PassView) (others workers : List PassView) (seen : History) → HaveDone acts history first declared others workers →
+shared : (acts : List Act) (history : HistoryId) (first declared : PassView) (others workers : List PassView) (seen : History) → HaveDone acts history first declared others workers →
     HoldsOwn declared workers seen → IsShared (length others) acts seen
 shared acts history first declared others workers seen done whole =
     let counted = done.worked.counted in
     let number : declared.number ≡ 0 = done.added.same_number ∙ ap (λ (p : PassView). p.number) done.new.first_is in
-    let writers : declared.writers ≡ length others + 1 = done.added.same_writers ∙ ap (λ (p : PassView). p.writers) done.new.first_is in
+    let writers : declared.writers ≡ length others + 1 = done.added.same_writers ∙ ap (λ (p : PassView). p.writers) done.new.first_is ∙ done.new.all in
     record {
       begins = prefix_trans declared_joins declared.view seen done.begins whole.begins;
       below = subst (λ (n : ℕ). AllByRecursion (λ (e : Entry). e.client < n) seen) writers whole.recorded.below;
@@ -57,7 +58,7 @@ shared acts history first declared others workers seen done whole =
       each = λ worker less.
           let other : PassView = get_or others worker declared in
           let client : PassView = get_or workers worker declared in
-          let is : other ≡ new_pass history (length others + 1) (worker + 1) = done.new.each worker declared less in
+          let is : other ≡ new_pass history (worker + 1) = done.new.each worker declared less in
           let added = done.worked.each worker declared declared less in
           let mine : other.number ≡ worker + 1 = ap (λ (p : PassView). p.number) is in
           let same : client.number ≡ worker + 1 = added.same_number ∙ mine in
@@ -72,14 +73,14 @@ abbrev holding_by : Text → Table → Holding
 holding_by prefix t = holding_of (pairs_within (prefix_range prefix) t)
 
 -- what was read of a table is what it holds after a load
-table_is : (number steps users : ℕ) (history : TableId) (first declared : PassView) (others workers : List PassView) (prefix : Text) (held : Held) → 1 ≤ length others → 1 ≤ users → users ≤ 9999 →
+table_is : (number steps users : ℕ) (history : HistoryId) (first declared : PassView) (others workers : List PassView) (prefix : Text) (held : Held) → 1 ≤ length others → 1 ≤ users → users ≤ 9999 →
     HaveDone (planned number steps users) history first declared others workers → IsHeldOf declared workers prefix held →
     (held.position ≡ length (load_history number steps users)) × (plain_holding held.holding ≡ table_holding prefix (load_history number steps users))
 table_is number steps users history first declared others workers prefix held some some_users few done is =
     let law = shared_load_is_load number steps users (length others) is.seen some some_users few (shared (planned number steps users) history first declared others workers is.seen done is.whole) in
     (is.holds.at ∙ law.0, is.holds.is ∙ ap (holding_by prefix) law.1)
 
-pub line_is_loads : (number steps users : ℕ) (history : TableId) (first declared : PassView) (others workers : List PassView) (tables : Tables) → 1 ≤ length others → 1 ≤ users → users ≤ 9999 →
+pub line_is_loads : (number steps users : ℕ) (history : HistoryId) (first declared : PassView) (others workers : List PassView) (tables : Tables) → 1 ≤ length others → 1 ≤ users → users ≤ 9999 →
     HaveDone (planned number steps users) history first declared others workers → AreHeldOf declared workers tables →
     holding_line tables.karma.position (plain_holding tables.s.holding) (plain_holding tables.p.holding) (plain_holding tables.v.holding) (plain_holding tables.t.holding) (plain_holding tables.karma.holding)
     ≡ load_line number steps users

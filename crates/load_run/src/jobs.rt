@@ -48,13 +48,29 @@ impl<'g, N: Naming, G> Job<'g, N, G> {
     }
 }
 
-impl<'g, N: Naming, G: Gate> Job<'g, N, G> {
+/// What a thread does, and what comes of it. What a job is stays unseen where threads are made: the prover compares the types
+/// that a thread is given, and a client's type is large.
+pub trait Task: Drop {
+    /// What comes of it.
+    type End: Drop;
+
+    /// That this comes of it.
+    ghost gives: { Self → Self.End → Type 0 };
+
+    /// Does it.
+    fn run<R: Wait>(self, rt: &R, alloc: Global) -> Self::End
+        ensures { gives self result };
+}
+
+impl<'g, N: Naming, G: Gate> Task for Job<'g, N, G> {
+    type End = Result<Client<'g, N, G>, OutOfMemory>;
+
+    ghost gives = { λ job end. IfOk end (IsDone job) };
+
     /// Does the acts in order, and gives the client back.
     ///
     /// `OutOfMemory`: one could not be done. Those before it have been.
-    pub fn work<R: Wait>(self, rt: &R, alloc: Global) -> Result<Client<'g, N, G>, OutOfMemory>
-        ensures { IfOk result (IsDone self.entry) }
-    {
+    fn run<R: Wait>(self, rt: &R, alloc: Global) -> Result<Client<'g, N, G>, OutOfMemory> {
         let Job { mut client, acts } = self;
         do_acts(rt, alloc, &mut client, acts)?;
         Ok(client)

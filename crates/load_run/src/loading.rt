@@ -1,6 +1,6 @@
 // A load by workers, and its line.
 ghost use Rattle.std.specs.Prelude.{◌≡◌, ◌+◌, ◌≤◌, length, IfOk};
-ghost use Rattle.pequod_cache.specs.Sitting.{AreOf, AreWriters};
+ghost use Rattle.pequod_cache.specs.Sitting.{AreOf, AreOfParts, AreWriters};
 ghost use Rattle.load_gen.specs.Lines.{load_line};
 
 use crate::declaring::declare_joins;
@@ -37,7 +37,7 @@ fn make_seats(alloc: Global, workers: u32, cells: u32) -> Result<Seats, OutOfMem
     requires few_cells { cells ≤ 65536 }
     ensures clients { IfOk result (λ seats. AreWriters seats.history (length seats.clients.items) seats.clients.items) }
     ensures two { IfOk result (λ seats. 2 ≤ length seats.clients.items) }
-    ensures shards { IfOk result (λ seats. AreOf seats.history 16 seats.shards.items) }
+    ensures shards { IfOk result (λ seats. AreOfParts seats.history seats.shards.items) }
     ensures cells { IfOk result (λ seats. AreOf seats.history (length seats.cells.items) seats.cells.items) }
     ensures count { IfOk result (λ seats. length seats.cells.items ≡ cells) }
 {
@@ -61,7 +61,7 @@ where
     requires named { seats.history ≡ N.history }
     requires clients { AreWriters N.history (length seats.clients.items) seats.clients.items }
     requires two { 2 ≤ length seats.clients.items }
-    requires shards { AreOf N.history 16 seats.shards.items }
+    requires shards { AreOfParts N.history seats.shards.items }
     requires cells { AreOf N.history (length seats.cells.items) seats.cells.items }
     requires some_cells { 1 ≤ length seats.cells.items }
     requires few_cells { length seats.cells.items ≤ 65536 }

@@ -2,7 +2,7 @@
 ghost use Rattle.std.specs.Prelude.{◌≡◌, ◌≤◌, ℕ, ◌<◌, length, map, slice_index_or, IfOk, Ok};
 ghost use Rattle.load_run.specs.Jobs.{HaveWorked, IsDone};
 
-use crate::jobs::{Job, deal, idle_jobs};
+use crate::jobs::{Task, deal, idle_jobs};
 use base_shards::Naming;
 use load_gen::Act;
 use out_of_memory::OutOfMemory;
@@ -16,20 +16,16 @@ use std::thread::Threads;
 /// What came of each job, in order.
 type Ends<'g, N, G> = Vec<Result<Client<'g, N, G>, OutOfMemory>>;
 
-/// Does the jobs, each in a thread of its own where one can be made, and returns when all have ended.
-fn do_jobs<'g, N, G, R>(
-    rt: &R,
-    alloc: Global,
-    jobs: Vec<Job<'g, N, G>>,
-) -> Result<Ends<'g, N, G>, OutOfMemory>
+/// Does the tasks, each in a thread of its own where one can be made, and returns when all have ended.
+fn do_tasks<T, R>(rt: &R, alloc: Global, tasks: Vec<T>) -> Result<Vec<T::End>, OutOfMemory>
 where
-    N: Naming + Send + Sync,
-    G: Gate + Sync,
+    T: Task + Send,
+    T::End: Send,
     R: Threads + Wait + Sync,
-    ensures count { IfOk result (λ ends. length ends.items ≡ length jobs.entry.items) }
-    ensures each { IfOk result (λ ends. (i : ℕ) (d : _) (e : _) → i < length jobs.entry.items → IfOk (slice_index_or ends.items i e) (IsDone (slice_index_or jobs.entry.items i d))) }
+    ensures count { IfOk result (λ ends. length ends.items ≡ length tasks.items) }
+    ensures each { IfOk result (λ ends. (i : ℕ) (d : _) (e : _) → i < length tasks.items → T.gives (slice_index_or tasks.items i d) (slice_index_or ends.items i e)) }
 {
-    Ok(thread::map_vec(rt, jobs, &|job| job.work(rt, alloc))?)
+    Ok(thread::map_vec(rt, tasks, &|task| task.run(rt, alloc))?)
 }
 
 /// The clients, where each job ended well.
@@ -65,6 +61,6 @@ where
 {
     let mut jobs = idle_jobs(alloc, clients)?;
     deal(&mut jobs, acts)?;
-    let ends = do_jobs(rt, alloc, jobs)?;
+    let ends = do_tasks(rt, alloc, jobs)?;
     all_clients(alloc, ends)
 }

@@ -1,3 +1,4 @@
 pub mod ToldLemmas
 pub mod JoinsLemmas
 pub mod ClientLemmas
+pub mod SeatLemmas

@@ -5,8 +5,8 @@ use Rattle.std.proofs.lemmas.List.{length-append, append-nil, append_cancel_left
 use Rattle.semantics.specs.Histories.{Write, Entry, History, IsPrefix}
 use Rattle.semantics.specs.Verdicts.{Cause, verdict, AllEntered}
 use Rattle.semantics.specs.Answers.{Read, answer}
-use Rattle.protocol.specs.Requests.{write, read}
-use Rattle.protocol.specs.Replies.{done, answered, refused, memory}
+use Rattle.protocol.specs.Requests.{Request, write, read}
+use Rattle.protocol.specs.Replies.{Reply, done, answered, refused, memory}
 use Rattle.protocol.specs.Told.{Told}
 use Rattle.protocol.proofs.Telling.{told-append}
 use Rattle.protocol.proofs.TellingSteps.{told_of_others, told_done, told_refused, told_read, told_no_memory_to_write, told_no_memory_to_read}
@@ -107,3 +107,10 @@ pub told_no_answer : (old new : PassView) (r : Read) → GoesOn old new → own 
 told_no_answer old new r goes same =
     told-append old.view new.view new.view old.number [] (read r ∷ []) [] (memory ∷ []) (told_others old.number old.view new.view goes.begins (same_own old new goes same))
     (told_no_memory_to_read new.view old.number r)
+
+-- what was told is so still, where a pass goes on with no own entry
+pub told_then_others : (old mid new : PassView) (r : Request) (reply : Reply) → GoesOn old mid → GoesOn mid new → own new ≡ own mid → Told old.view mid.view old.number (r ∷ []) (reply ∷ []) →
+    Told old.view new.view old.number (r ∷ []) (reply ∷ [])
+told_then_others old mid new r reply first next same told =
+    told-append old.view mid.view new.view old.number (r ∷ []) [] (reply ∷ []) [] told
+    (told_others old.number mid.view new.view next.begins (subst (λ n. written_by n new.view ≡ written_by n mid.view) first.same_number (same_own mid new next same)))

@@ -1,37 +1,39 @@
 -- A client as contracts see it, and what is true of it.
 use Rattle.std.specs.Prelude.{◌≡◌, ℕ, ◌<◌, ◌≤◌, length, take, Option, Some, None}
-use Rattle.atomic_table.specs.Seated.{TableId}
 use Rattle.semantics.specs.Texts.{Range, Table, pairs_within}
 use Rattle.semantics.specs.Histories.{History, IsPrefix}
 use Rattle.semantics.specs.States.{state}
 use Rattle.join_set.specs.Sets.{Joins, AreJoins}
 use Rattle.write_history.specs.Entries.{IsRecorded}
-use Rattle.write_history.specs.Passes.{PassView, new_pass}
+use Rattle.write_history.specs.Passes.{HistoryId, PassView, new_pass}
+use Rattle.write_history.specs.declared.known.Mark.TheVariants.{Free}
 
 -- the pass that a client has, while it lends it to none
-abbrev pub pass_of : TableId → Option PassView → PassView
+abbrev pub pass_of : HistoryId → Option PassView → PassView
 pass_of history (Some pass) = pass
-pass_of history None = new_pass history 0 0
+pass_of history None = new_pass history 0
 
 -- the joins are those that stood when the last of them had been declared or dropped, which the pass has seen
 pub record KeepsJoins (joins : Joins) (view : History) : Type 0 where
   pub within : joins.changed ≤ length view
   pub are : AreJoins 0 joins (take joins.changed view)
 
--- the client has a pass of the history, which may write and may have seen what it has, and the joins up to a declaration or drop in that
-pub record IsClient (history : TableId) (pass : Option PassView) (joins : Joins) : Type 0 where
+-- the client has a pass of the history, which may write, is not pinned and may have seen what it has, and the joins up to a declaration or drop in that
+pub record IsClient (history : HistoryId) (pass : Option PassView) (joins : Joins) : Type 0 where
   pub has : PassView
   pub is : pass ≡ Some has
   pub same_history : has.history ≡ history
   pub writer : has.number < has.writers
+  pub free : has.mark ≡ Free
   pub recorded : IsRecorded has.writers has.view
   pub kept : KeepsJoins joins has.view
 
--- the updater has a pass of the history, which may have seen what it has, and the joins up to a declaration or drop in that
-pub record IsUpdater (history : TableId) (pass : Option PassView) (joins : Joins) : Type 0 where
+-- the updater has a pass of the history, which is not pinned and may have seen what it has, and the joins up to a declaration or drop in that
+pub record IsUpdater (history : HistoryId) (pass : Option PassView) (joins : Joins) : Type 0 where
   pub has : PassView
   pub is : pass ≡ Some has
   pub same_history : has.history ≡ history
+  pub free : has.mark ≡ Free
   pub recorded : IsRecorded has.writers has.view
   pub kept : KeepsJoins joins has.view
 

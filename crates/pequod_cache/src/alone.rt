@@ -1,7 +1,7 @@
 // The client of a cache that has no other.
 ghost use Rattle.std.specs.Prelude.{◌≡◌, ◌≤◌, [], IfOk, length};
 ghost use Rattle.pequod_cache.specs.Alone.{AreOwn};
-ghost use Rattle.pequod_cache.specs.Sitting.{AreOf, AreWriters};
+ghost use Rattle.pequod_cache.specs.Sitting.{AreOf, AreOfParts, AreWriters};
 
 use crate::cache::Cache;
 use crate::client::Client;
@@ -55,7 +55,7 @@ impl<'a, 'g, R, N: Naming, G: Gate> LoneClient<'a, 'g, R, N, G> {
     ) -> Result<LoneClient<'a, 'g, R, N, G>, OutOfMemory>
         requires named { seats.history ≡ N.history }
         requires client { AreWriters N.history 1 seats.clients.items }
-        requires shards { AreOf N.history 16 seats.shards.items }
+        requires shards { AreOfParts N.history seats.shards.items }
         requires cells { AreOf N.history (length seats.cells.items) seats.cells.items }
         requires some_cells { 1 ≤ length seats.cells.items }
         requires few_cells { length seats.cells.items ≤ 65536 }

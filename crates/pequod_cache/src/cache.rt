@@ -3,8 +3,9 @@ ghost use Rattle.std.specs.Prelude.{◌≡◌, ℕ, ◌<◌, ◌≤◌, length, 
 ghost use Rattle.std.specs.Arc.{arc_value};
 ghost use Rattle.join_set.specs.Sets.{AreJoins};
 ghost use Rattle.write_history.specs.Passes.{GoesOn, new_pass, own};
+ghost use Rattle.write_history.specs.declared.known.Mark.TheVariants.{Free, Pinned};
 ghost use Rattle.pequod_cache.specs.Clients.{KeepsJoins};
-ghost use Rattle.pequod_cache.specs.Sitting.{AreOf, AreWriters, IsFresh};
+ghost use Rattle.pequod_cache.specs.Sitting.{AreOf, AreOfParts, AreWriters, IsFresh};
 
 use crate::client::Client;
 use crate::seats::Seats;
@@ -23,6 +24,8 @@ use write_history::{History, Looked, Pass};
 pub struct Cache<N: Naming> {
     /// The history.
     pub history: Arc<History>,
+    /// The base pairs.
+    pub shards: Arc<BaseShards<N>>,
     /// The cells over the base pairs.
     pub cells: RangeCells<N>,
     ghost named: { arc_value history ≡ N.history },
@@ -38,7 +41,7 @@ impl<N: Naming> Cache<N> {
         limit: u64,
     ) -> Result<Arc<Cache<N>>, OutOfMemory>
         requires named { history ≡ N.history }
-        requires shards { AreOf N.history 16 shards.items }
+        requires shards { AreOfParts N.history shards.items }
         requires cells { AreOf N.history (length cells.items) cells.items }
         requires some_cells { 1 ≤ length cells.items }
         requires few_cells { length cells.items ≤ 65536 }
@@ -48,8 +51,14 @@ impl<N: Naming> Cache<N> {
         let history = Arc::new(alloc, history)?;
         let shards = BaseShards::new(alloc, Arc::try_clone(&history)?, shards, ids)?;
         let shards = Arc::new(alloc, shards)?;
-        let cells = RangeCells::new(alloc, Arc::try_clone(&history)?, shards, cells, limit)?;
-        Ok(Arc::new(alloc, Cache { history, cells })?)
+        let own = Arc::try_clone(&shards)?;
+        let cells = RangeCells::new(alloc, Arc::try_clone(&history)?, own, cells, limit)?;
+        let cache = Cache {
+            history,
+            shards,
+            cells,
+        };
+        Ok(Arc::new(alloc, cache)?)
     }
 
     /// A client of a cache for each of the passes, in order.
@@ -83,13 +92,13 @@ impl<N: Naming> Cache<N> {
     ) -> Result<Vec<Client<'g, N, G>>, OutOfMemory>
         requires named { seats.history ≡ N.history }
         requires clients { AreWriters N.history (length seats.clients.items) seats.clients.items }
-        requires shards { AreOf N.history 16 seats.shards.items }
+        requires shards { AreOfParts N.history seats.shards.items }
         requires cells { AreOf N.history (length seats.cells.items) seats.cells.items }
         requires some_cells { 1 ≤ length seats.cells.items }
         requires few_cells { length seats.cells.items ≤ 65536 }
         requires limit { 1 ≤ limit }
         ensures count { IfOk result (λ clients. length clients.items ≡ length seats.clients.items) }
-        ensures each { IfOk result (λ clients. (number : ℕ) → number < length seats.clients.items → slice_get clients.items number ≡ Some (new_pass N.history (length seats.clients.items) number)) }
+        ensures each { IfOk result (λ clients. (number : ℕ) → number < length seats.clients.items → slice_get clients.items number ≡ Some (new_pass N.history number)) }
     {
         let cache = Cache::share(alloc, seats.history, seats.shards, seats.cells, limit)?;
         Cache::seat(alloc, &cache, seats.clients, gate)
@@ -106,14 +115,14 @@ impl<N: Naming> Cache<N> {
     ) -> Result<(Vec<Client<'g, N, G>>, Updater<'g, N, G>), OutOfMemory>
         requires named { seats.history ≡ N.history }
         requires clients { AreWriters N.history (length seats.clients.items) seats.clients.items }
-        requires shards { AreOf N.history 16 seats.shards.items }
+        requires shards { AreOfParts N.history seats.shards.items }
         requires cells { AreOf N.history (length seats.cells.items) seats.cells.items }
         requires some_cells { 1 ≤ length seats.cells.items }
         requires few_cells { length seats.cells.items ≤ 65536 }
         requires updater { IsFresh N.history seats.updater }
         requires limit { 1 ≤ limit }
         ensures count { IfOk result (λ made. length made.0.items ≡ length seats.clients.items) }
-        ensures each { IfOk result (λ made. (number : ℕ) → number < length seats.clients.items → slice_get made.0.items number ≡ Some (new_pass N.history (length seats.clients.items) number)) }
+        ensures each { IfOk result (λ made. (number : ℕ) → number < length seats.clients.items → slice_get made.0.items number ≡ Some (new_pass N.history number)) }
         ensures updater { IfOk result (λ made. IsFresh N.history made.1) }
     {
         let cache = Cache::share(alloc, seats.history, seats.shards, seats.cells, limit)?;
@@ -121,11 +130,11 @@ impl<N: Naming> Cache<N> {
         Ok((clients, Updater::new(alloc, cache, seats.updater, gate)))
     }
 
-    /// Extends the view of the pass to all entries of the history, brings the joins there, and gives the number of entries.
-    /// It compares two numbers, and after a declaration or drop copies the joins, at the cost of `JoinSet::copy`. While another
-    /// thread has the history's turn, this one sleeps.
+    /// Extends the view of the pass to all entries of the history, pins the pass there, brings the joins there, and gives the
+    /// number of entries. It compares two numbers, and after a declaration or drop copies the joins, at the cost of
+    /// `JoinSet::copy`. While another thread has the history's turn, this one sleeps.
     ///
-    /// On `OutOfMemory` the view is extended all the same, and the joins are as they were.
+    /// On `OutOfMemory` the view is extended all the same, the pass is not pinned, and the joins are as they were.
     pub(crate) fn look<R: Wait>(
         &self,
         rt: &R,
@@ -133,8 +142,10 @@ impl<N: Naming> Cache<N> {
         joins: &mut JoinSet,
     ) -> Result<u64, OutOfMemory>
         requires same_history { pass.old.history ≡ N.history }
+        requires free { pass.old.mark ≡ Free }
         requires kept { KeepsJoins joins.old pass.old.view }
-        ensures goes_on { GoesOn pass.old pass.new }
+        ensures pinned { IfOk result (λ position. GoesOn (record pass.old { mark = Pinned position }) pass.new) }
+        ensures goes_on { OnErr result (GoesOn pass.old pass.new) }
         ensures own { own pass.new ≡ own pass.old }
         ensures length { IfOk result (λ position. position ≡ length pass.new.view) }
         ensures kept { KeepsJoins joins.new pass.new.view }

@@ -8,6 +8,7 @@ ghost use Rattle.join_types.specs.Writes.{plain_write};
 ghost use Rattle.request_codec.specs.Plain.{plain_reply, plain_request};
 ghost use Rattle.write_history.specs.Entries.{IsRecorded};
 ghost use Rattle.write_history.specs.Passes.{GoesOn, own};
+ghost use Rattle.write_history.specs.declared.known.Mark.TheVariants.{Free};
 ghost use Rattle.pequod_cache.specs.Clients.{IsFound};
 
 use crate::cache::Cache;
@@ -25,6 +26,17 @@ use std::sync::ledger::{Blank, Ledger};
 use std::sync::{Arc, Wait};
 use steps::Steps;
 use write_history::{AppendFault, Pass};
+
+/// The entries from one settling of the base pairs to the next.
+const SETTLING: u64 = 4_096;
+
+/// Whether the base pairs are settled after a write with this reply: where it entered at one of every so many positions.
+fn settles(reply: &Reply) -> bool {
+    match reply {
+        Reply::Done(position) => *position % SETTLING == 0,
+        _ => false,
+    }
+}
 
 /// What a client reads of a range, and after how many entries.
 #[derive(Debug, Drop)]
@@ -68,6 +80,7 @@ impl<'g, N: Naming, G> Client<'g, N, G> {
     ) -> Client<'g, N, G>
         requires same_history { pass.history ≡ N.history }
         requires writer { pass.number < pass.writers }
+        requires free { pass.mark ≡ Free }
         requires recorded { IsRecorded pass.writers pass.view }
         ensures { result ≡ pass }
     {
@@ -82,10 +95,8 @@ impl<'g, N: Naming, G> Client<'g, N, G> {
 }
 
 impl<'g, N: Naming, G: Gate> Client<'g, N, G> {
-    /// Appends the write to the history, or says why it may not enter: `Done` with its position, `Refused` with the number of
-    /// entries after which this is the cause, or `Memory`, and then nothing entered. While another thread has the history's
-    /// turn, this one sleeps.
-    pub fn write<R: Wait>(&mut self, rt: &R, change: Write) -> Reply
+    /// Appends the write to the history, or says why it may not enter.
+    fn enter<R: Wait>(&mut self, rt: &R, change: Write) -> Reply
         ensures told { Told self.old.view self.new.view self.old.number (write (plain_write change) ∷ []) (plain_reply result ∷ []) }
         ensures goes_on { GoesOn self.old self.new }
     {
@@ -97,6 +108,35 @@ impl<'g, N: Naming, G: Gate> Client<'g, N, G> {
             Err(AppendFault::Refused(position, cause)) => Reply::Refused(position, cause),
             Err(AppendFault::OutOfMemory) => Reply::Memory,
         }
+    }
+
+    /// Settles the base pairs, where it was told the position of one of every so many entries.
+    fn settle_after<R: Wait>(&mut self, rt: &R, reply: &Reply)
+        ensures goes_on { GoesOn self.old self.new }
+        ensures own { own self.new ≡ own self.old }
+    {
+        let Some(pass) = &mut self.pass else {
+            unreachable!()
+        };
+        if !settles(reply) {
+            return;
+        }
+        self.cache.shards.settle(rt, pass);
+    }
+
+    /// Appends the write to the history, or says why it may not enter: `Done` with its position, `Refused` with the number of
+    /// entries after which this is the cause, or `Memory`, and then nothing entered. While another thread has the history's
+    /// turn, this one sleeps.
+    ///
+    /// After every 4,096th entry of the history the one who wrote it settles the base pairs, as `BaseShards::settle` does: what is
+    /// kept of entries is so at most the last 65,536, some 4,096 more, and those that a read still reaches back to.
+    pub fn write<R: Wait>(&mut self, rt: &R, change: Write) -> Reply
+        ensures told { Told self.old.view self.new.view self.old.number (write (plain_write change) ∷ []) (plain_reply result ∷ []) }
+        ensures goes_on { GoesOn self.old self.new }
+    {
+        let reply = self.enter(rt, change);
+        self.settle_after(rt, &reply);
+        reply
     }
 
     /// Puts the value at the key. It answers as `write` does.
@@ -131,10 +171,10 @@ impl<'g, N: Naming, G: Gate> Client<'g, N, G> {
         self.write(rt, Write::Drop(position))
     }
 
-    /// The pairs of the range in the state after all entries that the history has now: it looks first, brings its joins
-    /// there, and reads there. For the joins it compares two numbers; after a declaration or drop it copies them once, and the
-    /// cells of joins that stand no more, or have another rank, are evicted first. While another thread has what it needs,
-    /// this one sleeps.
+    /// The pairs of the range in the state after all entries that the history has now: it looks first, brings its joins there, and
+    /// reads there. While it reads, it is pinned there. For the joins it compares two numbers; after a declaration or drop it
+    /// copies them once, and the cells of joins that stand no more, or have another rank, are evicted first. While another thread
+    /// has what it needs, this one sleeps.
     ///
     /// It may report that it found no memory.
     pub fn read<R: Wait>(&mut self, rt: &R, range: &Range) -> Result<Found, OutOfMemory>
@@ -172,6 +212,8 @@ impl<'g, N: Naming, G: Gate> Client<'g, N, G> {
         let cells = &self.cache.cells;
         let reading = cells.read(rt, pass, joins, position, range, self.gate, &mut steps);
         let Reading { pass, found } = reading;
+        let mut pass = pass;
+        self.cache.history.unpin(rt, &mut pass);
         self.pass = Some(pass);
         Ok(Found {
             position,

@@ -2,6 +2,7 @@
 ghost use Rattle.std.specs.Prelude.{◌≡◌, ◌<◌};
 ghost use Rattle.write_history.specs.Entries.{IsRecorded};
 ghost use Rattle.write_history.specs.Passes.{GoesOn, own};
+ghost use Rattle.write_history.specs.declared.known.Mark.TheVariants.{Free};
 ghost use Rattle.range_cells.specs.Turns.{IsWithinView};
 
 use crate::cache::Cache;
@@ -48,6 +49,7 @@ impl<'g, N: Naming, G> Updater<'g, N, G> {
         gate: &'g G,
     ) -> Updater<'g, N, G>
         requires same_history { pass.history ≡ N.history }
+        requires free { pass.mark ≡ Free }
         requires recorded { IsRecorded pass.writers pass.view }
         ensures { result ≡ pass }
     {
@@ -95,6 +97,8 @@ impl<'g, N: Naming, G: Gate> Updater<'g, N, G> {
         let cells = &self.cache.cells;
         let turned = cells.turn(rt, pass, joins, position, self.gate, &mut steps);
         let Turned { pass, turn } = turned;
+        let mut pass = pass;
+        self.cache.history.unpin(rt, &mut pass);
         self.pass = Some(pass);
         turn
     }

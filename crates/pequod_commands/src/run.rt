@@ -1,6 +1,6 @@
 // Serving one client over a source and a sink.
 ghost use Rattle.std.specs.Prelude.{◌≡◌, ◌≢◌, ◌≤◌, [], length};
-ghost use Rattle.pequod_cache.specs.Sitting.{AreOf, AreWriters};
+ghost use Rattle.pequod_cache.specs.Sitting.{AreOf, AreOfParts, AreWriters};
 ghost use Rattle.pq_io.specs.Faults.{Rose};
 ghost use Rattle.session.specs.Ends.{plain_end};
 ghost use Rattle.pequod_commands.specs.Statuses.{status_of, RunsTo};
@@ -61,7 +61,7 @@ fn serve_alone<N: Naming, R: Wait, L: Link, G: Gate>(
 ) -> Status
     requires named { seats.history ≡ N.history }
     requires client { AreWriters N.history 1 seats.clients.items }
-    requires shards { AreOf N.history 16 seats.shards.items }
+    requires shards { AreOfParts N.history seats.shards.items }
     requires cells { AreOf N.history (length seats.cells.items) seats.cells.items }
     requires some_cells { 1 ≤ length seats.cells.items }
     requires few_cells { length seats.cells.items ≤ 65536 }

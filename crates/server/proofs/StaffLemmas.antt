@@ -4,11 +4,10 @@ use Rattle.std.specs.Prelude.{slice_get}
 use Rattle.std.proofs.lemmas.List.{map-append, length-map, get_or-set_same}
 use Rattle.std.proofs.lemmas.Option.{slice_get-get_or, slice_get_within}
 use Rattle.std.proofs.Math.Seq.{drop-length, take-length}
-use Rattle.atomic_table.specs.Seated.{TableId}
 use Rattle.semantics.specs.Joins.{Join}
 use Rattle.semantics.specs.Histories.{declare, Entry, History, IsPrefix}
 use Rattle.growing_history.proofs.PrefixLemmas.{prefix_trans}
-use Rattle.write_history.specs.Passes.{PassView, GoesOn, new_pass}
+use Rattle.write_history.specs.Passes.{HistoryId, PassView, GoesOn, new_pass}
 use Rattle.server.specs.Staffs.{declared, AreStaff, HasMet, HaveMet}
 
 -- ---- entries behind a beginning
@@ -97,32 +96,32 @@ past_first [] i = refl
 past_first (x ∷ xs) i = ap (λ (k : ℕ). slice_get (x ∷ xs) k) (sym (add-one i))
 
 -- the clients but the first of a new cache, which have met one that has seen the declarations first
-pub are_staff : (history : TableId) (joins : List Join) (count : ℕ) (all olds news : List PassView) (view : History) →
-    ((number : ℕ) → number < count → slice_get all number ≡ Some (new_pass history count number)) → length all ≡ count → olds ≡ drop 1 all →
+pub are_staff : (history : HistoryId) (joins : List Join) (count : ℕ) (all olds news : List PassView) (view : History) →
+    ((number : ℕ) → number < count → slice_get all number ≡ Some (new_pass history number)) → history.kinds.writers ≡ count → length all ≡ count → olds ≡ drop 1 all →
     length news ≡ length olds → IsPrefix (declared joins) view → HaveMet view olds news → AreStaff history joins news
-are_staff history joins count all olds news view each counted rest same begins met i within client is =
+are_staff history joins count all olds news view each writers counted rest same begins met i within client is =
     let size : i < length olds = omega arith in
     let old : slice_get olds i ≡ slice_get all (i + 1) = ap (λ (l : List PassView). slice_get l i) rest ∙ past_first all i in
     let there = slice_get-get_or olds i client size in
     let below = slice_get_within all (i + 1) (get_or olds i client) (sym old ∙ there) in
     let was = old ∙ each (i + 1) (omega arith) in
-    let has = met i (new_pass history count (i + 1)) client was is in
+    let has = met i (new_pass history (i + 1)) client was is in
     record {
       same_history = has.goes_on.same_history;
       numbered = has.goes_on.same_number;
-      writer = omega (arith, has.goes_on.same_number, has.goes_on.same_writers);
+      writer = omega (arith, writers, has.goes_on.same_number, has.goes_on.same_writers);
       begins = prefix_trans (declared joins) view client.view begins has.begins;
     }
 
 -- ---- the first of the new clients
 
 -- the client that stands first has the number 0
-pub first_is_0 : (history : TableId) (n len : ℕ) (all front : List PassView) (first : PassView) → front ≡ take 1 all → len ≡ 1 → Some first ≡ Some (get_or front (len - 1) first) →
-    slice_get all 0 ≡ Some (new_pass history n 0) → first.number ≡ 0
-first_is_0 history n len all front first cut one is each =
+pub first_is_0 : (history : HistoryId) (len : ℕ) (all front : List PassView) (first : PassView) → front ≡ take 1 all → len ≡ 1 → Some first ≡ Some (get_or front (len - 1) first) →
+    slice_get all 0 ≡ Some (new_pass history 0) → first.number ≡ 0
+first_is_0 history len all front first cut one is each =
     let at : len - 1 ≡ 0 = omega arith in
-    let whole : all ≡ new_pass history n 0 ∷ (by_first all (new_pass history n 0) each).0 = (by_first all (new_pass history n 0) each).1 in
-    let same : Some first ≡ Some (new_pass history n 0) =
+    let whole : all ≡ new_pass history 0 ∷ (by_first all (new_pass history 0) each).0 = (by_first all (new_pass history 0) each).1 in
+    let same : Some first ≡ Some (new_pass history 0) =
     is ∙ ap (λ i. Some (get_or front i first)) at ∙ ap (λ xs. Some (get_or xs 0 first)) cut ∙ ap (λ xs. Some (get_or (take 1 xs) 0 first)) whole in
-    let is_first : first ≡ new_pass history n 0 = cc in
+    let is_first : first ≡ new_pass history 0 = cc in
     ap (λ (p : PassView). p.number) is_first

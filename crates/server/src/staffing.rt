@@ -1,7 +1,7 @@
 // The clients of the workers.
 ghost use Rattle.std.specs.Prelude.{◌≡◌, ◌+◌, ◌≤◌, length, slice_get, IfOk, OnOk, Some};
 ghost use Rattle.semantics.specs.Histories.{IsPrefix, declare};
-ghost use Rattle.pequod_cache.specs.Sitting.{AreOf, AreWriters, IsFresh};
+ghost use Rattle.pequod_cache.specs.Sitting.{AreOf, AreOfParts, AreWriters, IsFresh};
 ghost use Rattle.server.specs.Staffs.{AreDeclarable, AreStaff, HaveMet, declared};
 
 use base_shards::Naming;
@@ -81,7 +81,7 @@ pub fn staff<'g, N: Naming, G: Gate, R: Wait>(
     requires named { seats.history ≡ N.history }
     requires clients { AreWriters N.history (length seats.clients.items) seats.clients.items }
     requires two { 2 ≤ length seats.clients.items }
-    requires shards { AreOf N.history 16 seats.shards.items }
+    requires shards { AreOfParts N.history seats.shards.items }
     requires cells { AreOf N.history (length seats.cells.items) seats.cells.items }
     requires some_cells { 1 ≤ length seats.cells.items }
     requires few_cells { length seats.cells.items ≤ 65536 }

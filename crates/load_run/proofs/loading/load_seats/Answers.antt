@@ -20,7 +20,7 @@ returns g c =
     let is = line_is_loads load.number load.steps load.users g.N.Naming.history c.remove-first.result c.declare_joins.new.first others.items c.in_ok-workers.workers.items c.in_ok-tables.tables
     some c.requires.some_users c.requires.few_users
     (record {
-      new = are_new g.N.Naming.history (length c.args.seats.clients.items) all.items others.items c.remove-first.result counted c.in_ok-clients.ensures.each c.remove-first.ensures.value c.remove-first.ensures.by_index.1;
+      new = are_new g.N.Naming.history (length c.args.seats.clients.items) all.items others.items c.remove-first.result counted c.requires.clients.all c.in_ok-clients.ensures.each c.remove-first.ensures.value c.remove-first.ensures.by_index.1;
       added = c.in_ok-declare_joins.ensures.added;
       begins = c.in_ok-declare_joins.ensures.begins;
       worked = subst (λ (acts : List Act). HaveWorked acts others.items c.in_ok-workers.workers.items) c.in_ok-acts.ensures c.in_ok-workers.ensures;

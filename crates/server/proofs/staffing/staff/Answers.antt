@@ -10,7 +10,7 @@ declare_all-requires g c =
     let counted = c.in_ok-clients.clients.ok.0 in
     let one = c.in_ok-workers.ensures.len in
     record {
-      numbered = first_is_0 g.N.Naming.history (length c.args.seats.clients.items) _ c.in_ok-clients.clients.items _ c.in-Some.first c.in_ok-workers.ensures.items c.in_ok-workers.ensures.len (c.in-Some.ensures.value c.in-Some.first (omega arith))
+      numbered = first_is_0 g.N.Naming.history _ c.in_ok-clients.clients.items _ c.in-Some.first c.in_ok-workers.ensures.items c.in_ok-workers.ensures.len (c.in-Some.ensures.value c.in-Some.first (omega arith))
           (c.in_ok-clients.ensures.each 0 (omega (arith, c.requires.two)));
     }
 
@@ -38,4 +38,4 @@ returns-clause-each g c =
     let back = put_back news olds.items olds.len olds.ok.0 (rw lent at same) in
     subst (λ (clients : List PassView). AreStaff g.N.Naming.history c.args.joins.items clients) (sym back)
     (are_staff g.N.Naming.history c.args.joins.items _ c.in_ok-clients.clients.items c.deref_mut.result.now news c.declare_all.new.first.view
-    c.in_ok-clients.ensures.each c.in_ok-clients.ensures.count (lent ∙ c.in_ok-workers.ensures.tail) same c.in_ok-declare_all.ensures.declared c.meet_all.ensures)
+    c.in_ok-clients.ensures.each c.requires.clients.all c.in_ok-clients.ensures.count (lent ∙ c.in_ok-workers.ensures.tail) same c.in_ok-declare_all.ensures.declared c.meet_all.ensures)

@@ -6,16 +6,16 @@ use Rattle.pequod_cache.proofs.cache.Cache.look.Goals as goal
 
 pub returns-in_err-looked-clause-kept : goal.returns-in_err-looked-clause-kept
 returns-in_err-looked-clause-kept g c =
-    keeps_longer c.args.joins.now c.args.pass.now.view c.look_joins.new.pass.view c.look_joins.ensures.goes_on.begins c.requires.kept
+    keeps_longer c.args.joins.now c.args.pass.now.view c.look_joins.new.pass.view c.in_err-looked.ensures.goes_on.begins c.requires.kept
 
 pub returns-in_default-clause-kept : goal.returns-in_default-clause-kept
 returns-in_default-clause-kept g c =
-    keeps_longer c.args.joins.now c.args.pass.now.view c.look_joins.new.pass.view c.look_joins.ensures.goes_on.begins c.requires.kept
+    keeps_longer c.args.joins.now c.args.pass.now.view c.look_joins.new.pass.view c.in_ok-looked.ensures.pinned.begins c.requires.kept
 
 pub returns-in_default-clause-brought : goal.returns-in_default-clause-brought
 returns-in_default-clause-brought g c =
     let view = c.look_joins.new.pass.view in
-    let kept = keeps_longer c.args.joins.now c.args.pass.now.view view c.look_joins.ensures.goes_on.begins c.requires.kept in
+    let kept = keeps_longer c.args.joins.now c.args.pass.now.view view c.in_ok-looked.ensures.pinned.begins c.requires.kept in
     let same = subst (λ (told : Option Joins). IfNone told (changed_at view ≡ c.changed_at.result)) c.in_default.is c.in_ok-looked.ensures.told.same in
     all_kept c.args.joins.now view kept (same ∙ c.changed_at.ensures.changed)
 

@@ -11,6 +11,10 @@ pub new-requires-clause-writer : goal.new-requires-clause-writer
 new-requires-clause-writer g c =
     (next_writer g.N.Naming.history c.args.passes.items c.loop-pass.clients.items c.loop-pass.pass-iterator.rest.items _ c.in-Some.pass c.requires c.loop-pass.invariant.2 c.in-Some.ensures.steps.0).1
 
+pub new-requires-clause-free : goal.new-requires-clause-free
+new-requires-clause-free g c =
+    (next_writer g.N.Naming.history c.args.passes.items c.loop-pass.clients.items c.loop-pass.pass-iterator.rest.items _ c.in-Some.pass c.requires c.loop-pass.invariant.2 c.in-Some.ensures.steps.0).2
+
 pub returns : goal.returns
 returns g c =
     let rest = c.loop-pass.pass-iterator.rest in

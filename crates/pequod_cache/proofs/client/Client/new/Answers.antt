@@ -10,6 +10,7 @@ invariant_of-result g c = record {
   is = refl;
   same_history = c.requires.same_history;
   writer = c.requires.writer;
+  free = c.requires.free;
   recorded = c.requires.recorded;
   kept = subst (λ (joins : Joins). KeepsJoins joins c.args.pass.view) (sym c.new.ensures) (keeps_none c.args.pass.view);
 }

@@ -1,6 +1,6 @@
 // A client that is alone, of a cache or of a core, beside one that keeps nothing.
 ghost use Rattle.std.specs.Prelude.{◌≡◌, ◌≤◌, length};
-ghost use Rattle.pequod_cache.specs.Sitting.{AreOf, AreWriters};
+ghost use Rattle.pequod_cache.specs.Sitting.{AreOf, AreOfParts, AreWriters};
 
 use crate::asking::{Ask, FIRST_JOINS, position_told};
 use base_shards::Naming;
@@ -68,7 +68,7 @@ fn ask_lone_client<N: Naming, R: Wait + Abort>(
 ) -> Result<(), Fail>
     requires named { seats.history ≡ N.history }
     requires client { AreWriters N.history 1 seats.clients.items }
-    requires shards { AreOf N.history 16 seats.shards.items }
+    requires shards { AreOfParts N.history seats.shards.items }
     requires cells { AreOf N.history (length seats.cells.items) seats.cells.items }
     requires some_cells { 1 ≤ length seats.cells.items }
     requires few_cells { length seats.cells.items ≤ 65536 }

@@ -29,9 +29,9 @@ pub const JOINS: [&str; 10] = [
 /// How many of the joins are declared first.
 pub const FIRST_JOINS: usize = 7;
 
-/// The tables that are written, and those of the outputs.
-pub const TABLES: [&str; 10] = [
-    "s", "p", "v", "t", "karma", "votes", "best", "top", "page", "wall",
+/// The tables that are written, those of the outputs, and one that no join reads.
+pub const TABLES: [&str; 11] = [
+    "s", "p", "v", "t", "karma", "votes", "best", "top", "page", "wall", "fill",
 ];
 
 /// A user, who is a poster too: of them there are few, so that most of what is asked meets what others wrote.
@@ -70,6 +70,8 @@ enum Act {
     Withdraw,
     /// A put at a key of `karma`.
     Claim,
+    /// A put in the table that no join reads.
+    Fill,
     Karma,
     Best,
     Timeline,
@@ -211,6 +213,16 @@ impl Ask {
         }
     }
 
+    /// A put, whose key is drawn, in the table that no join reads.
+    pub fn fill(generator: &mut Lcg64Xsh32) -> Ask {
+        Ask {
+            act: Act::Fill,
+            user: pick(generator, &PEOPLE),
+            poster: Person::Ann,
+            time: 1 + generator.next_word() % TIMES,
+        }
+    }
+
     /// A request that is drawn. A drop is of the join at this position.
     pub fn draw(generator: &mut Lcg64Xsh32, position: u64) -> Ask {
         let act = if generator.next_word() % REQUESTS_FOR_A_CHANGE == 0 {
@@ -250,6 +262,7 @@ impl Ask {
             Act::Intrude => put(&["t", user, time, poster], "no"),
             Act::Withdraw => Request::Remove(key(rt, alloc, &["t", user, time, poster])),
             Act::Claim => put(&["karma", poster], time),
+            Act::Fill => put(&["fill", user, time], time),
             Act::Karma => Request::Get(key(rt, alloc, &["karma", poster])),
             Act::Best => Request::Get(key(rt, alloc, &["best", poster])),
             Act::Timeline => Request::Scan(behind(rt, alloc, &["t", user])),

@@ -1,6 +1,6 @@
 // What clients are told on their links, alone and beside others, and each call once, with ample memory.
 ghost use Rattle.std.specs.Prelude.{◌≡◌, ◌≤◌, IfOk, length};
-ghost use Rattle.pequod_cache.specs.Sitting.{AreOf, AreWriters, IsFresh};
+ghost use Rattle.pequod_cache.specs.Sitting.{AreOf, AreOfParts, AreWriters, IsFresh};
 
 use base_shards::Naming;
 use join_lang::parse;
@@ -100,7 +100,7 @@ pub fn make_seats(alloc: Global, clients: u32) -> Result<Seats, OutOfMemory>
     requires some { 1 ≤ clients }
     requires few { clients ≤ 65 }
     ensures clients { IfOk result (λ seats. AreWriters seats.history (length seats.clients.items) seats.clients.items) }
-    ensures shards { IfOk result (λ seats. AreOf seats.history 16 seats.shards.items) }
+    ensures shards { IfOk result (λ seats. AreOfParts seats.history seats.shards.items) }
     ensures cells { IfOk result (λ seats. AreOf seats.history (length seats.cells.items) seats.cells.items) }
     ensures count { IfOk result (λ seats. length seats.cells.items ≡ 4) }
     ensures updater { IfOk result (λ seats. IsFresh seats.history seats.updater) }
@@ -135,7 +135,7 @@ fn run<N: Naming, R: Wait + Abort>(
 ) -> Result<(), Fail>
     requires named { seats.history ≡ N.history }
     requires clients { AreWriters N.history (length seats.clients.items) seats.clients.items }
-    requires shards { AreOf N.history 16 seats.shards.items }
+    requires shards { AreOfParts N.history seats.shards.items }
     requires cells { AreOf N.history (length seats.cells.items) seats.cells.items }
     requires count { length seats.cells.items ≡ 4 }
 {
@@ -236,7 +236,7 @@ fn two_put_and_meet<N: Naming + Send + Sync, R: Threads + Wait + Abort + Sync>(
 ) -> Result<(), Fail>
     requires named { seats.history ≡ N.history }
     requires clients { AreWriters N.history (length seats.clients.items) seats.clients.items }
-    requires shards { AreOf N.history 16 seats.shards.items }
+    requires shards { AreOfParts N.history seats.shards.items }
     requires cells { AreOf N.history (length seats.cells.items) seats.cells.items }
     requires count { length seats.cells.items ≡ 4 }
 {
@@ -275,6 +275,47 @@ pub fn put_at<N: Naming, G: Gate, R: Wait + Abort>(
         panic!(rt; "no cause against it")
     };
     assert!(rt; position == wanted);
+}
+
+/// Puts a value at a key so often, as the first entries, and reads the pair after the last.
+fn put_often<N: Naming, R: Wait + Abort>(
+    rt: &R,
+    alloc: Global,
+    client: &mut Client<'_, N, OpenGate>,
+    count: u64,
+) {
+    for position in 1..=count {
+        put_at(rt, alloc, client, ("k|a", "1"), position);
+    }
+    let found = client.read(rt, &table(rt, alloc, "k")).expect(rt, "memory");
+    assert!(rt; found.position == count && found.pairs.len() == 1);
+}
+
+/// The one client of a cache puts so often.
+fn make_and_put<N: Naming, R: Wait + Abort>(
+    rt: &R,
+    alloc: Global,
+    gate: &OpenGate,
+    seats: Seats,
+    count: u64,
+) -> Result<(), Fail>
+    requires named { seats.history ≡ N.history }
+    requires clients { AreWriters N.history (length seats.clients.items) seats.clients.items }
+    requires shards { AreOfParts N.history seats.shards.items }
+    requires cells { AreOf N.history (length seats.cells.items) seats.cells.items }
+    requires count { length seats.cells.items ≡ 4 }
+{
+    let mut clients = Cache::<N>::make(alloc, seats, 1_000, gate)?;
+    let mut client = clients.pop().expect(rt, "a client");
+    put_often(rt, alloc, &mut client, count);
+    Ok(())
+}
+
+#[test]
+fn one_client_puts_70_000_times(rt: HostRuntime) -> Result<(), Fail> {
+    let alloc = rt.alloc();
+    let seats = make_seats(alloc, 1)?;
+    make_and_put::<Brand, _>(&rt, alloc, &OpenGate, seats, 70_000)
 }
 
 /// How many pairs of a user's timeline there are, and after how many entries.
@@ -327,7 +368,7 @@ fn make_and_turn<N: Naming, R: Wait + Abort>(
 ) -> Result<(), Fail>
     requires named { seats.history ≡ N.history }
     requires clients { AreWriters N.history (length seats.clients.items) seats.clients.items }
-    requires shards { AreOf N.history 16 seats.shards.items }
+    requires shards { AreOfParts N.history seats.shards.items }
     requires cells { AreOf N.history (length seats.cells.items) seats.cells.items }
     requires count { length seats.cells.items ≡ 4 }
     requires updater { IsFresh N.history seats.updater }

@@ -4,8 +4,10 @@ use out_of_memory::OutOfMemory;
 use std::alloc::Global;
 use std::sync::{Arc, Mutex, Wait};
 
-/// How often a thread looks for a stage before it gives up.
-const LOOKS: u32 = 10_000_000;
+/// How often a thread looks for a stage of a few requests before it gives up.
+pub const FEW_LOOKS: u32 = 10_000_000;
+/// How often a thread looks for a stage of many requests before it gives up.
+pub const MANY_LOOKS: u32 = 1_000_000_000;
 
 /// How far the two have come.
 #[derive(Clone, Copy, Debug, PartialEq, Eq, PartialOrd, Ord)]
@@ -20,6 +22,8 @@ pub enum Stage {
 /// How far they have come, and whether a thread gave up.
 #[derive(Clone, Copy)]
 pub struct Progress {
+    /// How often a thread looks for a stage before it gives up.
+    pub looks: u32,
     /// How far they have come.
     pub stage: Stage,
     /// Whether a thread gave up.
@@ -29,14 +33,18 @@ pub struct Progress {
 /// What the threads tell one another of it.
 pub type Course = Arc<Mutex<Progress>>;
 
-/// Tells the other that a stage has come.
+/// Tells the other that a stage has come. One that comes later stays.
 pub fn come_to<R: Wait>(rt: &R, course: &Course, stage: Stage) {
-    course.lock(rt).stage = stage;
+    let mut progress = course.lock(rt);
+    if progress.stage < stage {
+        progress.stage = stage;
+    }
 }
 
 /// Goes on when the stage has come.
 pub fn wait_for<R: Wait>(rt: &R, course: &Course, stage: Stage) {
-    for _ in 0..LOOKS {
+    let looks = course.lock(rt).looks;
+    for _ in 0..looks {
         if course.lock(rt).stage >= stage {
             return;
         }
@@ -44,9 +52,10 @@ pub fn wait_for<R: Wait>(rt: &R, course: &Course, stage: Stage) {
     course.lock(rt).gave_up = true;
 }
 
-/// A course on which neither has come anywhere.
-pub fn begin(alloc: Global) -> Result<Course, OutOfMemory> {
+/// A course on which neither has come anywhere, and on which a thread looks so often for a stage before it gives up.
+pub fn begin(alloc: Global, looks: u32) -> Result<Course, OutOfMemory> {
     let begun = Progress {
+        looks,
         stage: Stage::Begun,
         gave_up: false,
     };

@@ -1,12 +1,14 @@
 // Two threads read where the ranks of two joins stand the other way round. One is held at the gate with the cell of the one join
 // until the other has the cell of the other.
 ghost use Rattle.std.specs.Prelude.{◌≡◌, ◌≤◌, All, length};
-ghost use Rattle.write_history.specs.Passes.{MayAppend};
+ghost use Rattle.pequod_cache.specs.Sitting.{AreOf, AreOfParts};
+ghost use Rattle.cache_trials.specs.Passes.{IsWriter};
 
-use crate::course::{Course, Stage, begin, come_to, wait_for};
-use crate::kept::{Kept, Seats, keep, make_seats, pop_pass, read_at, write};
+use crate::course::{Course, FEW_LOOKS, Stage, begin, come_to, wait_for};
+use crate::kept::{Kept, keep, make_seats, pop_pass, read_at, write};
 use base_shards::Naming;
 use key_space::Range;
+use pequod_cache::Seats;
 use pq_io::Gate;
 use std::alloc::Global;
 use std::marker::Brand;
@@ -60,14 +62,12 @@ fn expect_value<N: Naming, G: Gate, R: Wait + Abort>(
     place: (u64, &str, &str),
     value: &str,
 ) -> Pass
-    requires { MayAppend N.history pass }
-    ensures { MayAppend N.history result }
+    requires { IsWriter N.history pass }
+    ensures { IsWriter N.history result }
 {
     let range = Range::read(alloc, place.1, place.2).expect(rt, "a range");
     let blank = Blank::new(1);
-    let (pass, seen) = read_at::<N, G, Brand, R>(
-        rt, alloc, kept, pass, place.0, &range, gate, blank,
-    );
+    let (pass, seen) = read_at::<N, G, Brand, R>(rt, kept, pass, place.0, &range, gate, blank);
     assert!(rt; seen.pairs.len() == 1);
     assert!(rt; seen.pairs.first().expect(rt, "a pair").value.text() == value);
     pass
@@ -82,8 +82,8 @@ fn read_before<N: Naming, G: Gate, R: Wait + Abort>(
     gate: &G,
     course: &Course,
 ) -> Pass
-    requires { MayAppend N.history pass }
-    ensures { MayAppend N.history result }
+    requires { IsWriter N.history pass }
+    ensures { IsWriter N.history result }
 {
     wait_for(rt, course, Stage::Held);
     expect_value(rt, alloc, kept, pass, gate, (4, "a|", "a}"), "N")
@@ -91,8 +91,8 @@ fn read_before<N: Naming, G: Gate, R: Wait + Abort>(
 
 /// Enters what changes the ranks.
 fn write_all<R: Wait + Abort>(rt: &R, alloc: Global, history: &History, pass: &mut Pass)
-    requires { MayAppend history.now pass.old }
-    ensures { MayAppend history.now pass.new }
+    requires { IsWriter history.now pass.old }
+    ensures { IsWriter history.now pass.new }
 {
     for text in &WRITES {
         write(rt, alloc, history, pass, text);
@@ -108,15 +108,14 @@ fn cross<N: Naming + Send + Sync, G: Gate + Sync, R: Threads + Wait + Abort + Sy
     course: &Course,
 ) -> Result<(), Fail>
     requires named { seats.history ≡ N.history }
-    requires writers { All (λ p. MayAppend N.history p) seats.writers.items }
-    requires shard_count { length seats.shards.items ≡ 16 }
-    requires shards { All (λ p. p.history ≡ N.history) seats.shards.items }
+    requires writers { All (λ p. IsWriter N.history p) seats.clients.items }
+    requires shards { AreOfParts N.history seats.shards.items }
     requires some { 1 ≤ length seats.cells.items }
     requires few { length seats.cells.items ≤ 65536 }
-    requires cells { All (λ p. p.history ≡ N.history) seats.cells.items }
+    requires cells { AreOf N.history (length seats.cells.items) seats.cells.items }
 {
-    let mut first = pop_pass(rt, &seats.history, &mut seats.writers);
-    let second = pop_pass(rt, &seats.history, &mut seats.writers);
+    let mut first = pop_pass(rt, &seats.history, &mut seats.clients);
+    let second = pop_pass(rt, &seats.history, &mut seats.clients);
     let history = Arc::new(alloc, seats.history)?;
     let kept: Kept<N> = keep(alloc, history, seats.shards, seats.cells, 100)?;
     let kept = &kept;
@@ -132,7 +131,7 @@ fn cross<N: Naming + Send + Sync, G: Gate + Sync, R: Threads + Wait + Abort + Sy
 #[test]
 fn ranks_that_change_places_hold_nobody(rt: HostRuntime) -> Result<(), Fail> {
     let alloc: Global = rt.alloc();
-    let course = begin(alloc)?;
+    let course = begin(alloc, FEW_LOOKS)?;
     let gate = Crossing {
         rt: &rt,
         course: Arc::try_clone(&course)?,

@@ -1,9 +1,9 @@
 // Two clients on two threads, of which one is held at the gate in the midst of a scan while the other is answered.
-ghost use Rattle.std.specs.Prelude.{◌≡◌, length};
-ghost use Rattle.pequod_cache.specs.Sitting.{AreOf, AreWriters};
+ghost use Rattle.std.specs.Prelude.{◌≡◌, ◌≤◌, length};
+ghost use Rattle.pequod_cache.specs.Sitting.{AreOf, AreOfParts, AreWriters};
 
 use crate::clients::{make_seats, put_at};
-use crate::course::{Course, Stage, begin, come_to, wait_for};
+use crate::course::{Course, FEW_LOOKS, MANY_LOOKS, Stage, begin, come_to, wait_for};
 use base_shards::Naming;
 use join_lang::parse;
 use key_space::Range;
@@ -77,44 +77,74 @@ fn expect_timeline<N: Naming, G: Gate, R: Wait + Abort>(
     expect_one(rt, alloc, client, bounds, position, wanted);
 }
 
-/// While the other is held, puts a pair of another table and reads that table.
+/// Puts a pair so often, behind three entries.
+fn put_often<N: Naming, G: Gate, R: Wait + Abort>(
+    rt: &R,
+    alloc: Global,
+    client: &mut Client<'_, N, G>,
+    count: u64,
+)
+    requires { count ≤ 100000 }
+{
+    for position in 4..4 + count {
+        put_at(rt, alloc, client, ("q|1", "x"), position);
+    }
+}
+
+/// While the other is held, puts a pair of another table so often and reads that table.
 fn pass_by<'g, N: Naming, G: Gate, R: Wait + Abort>(
     rt: &R,
     alloc: Global,
     course: &Course,
     client: Client<'g, N, G>,
-) -> Client<'g, N, G> {
+    count: u64,
+) -> Client<'g, N, G>
+    requires { count ≤ 100000 }
+{
     let mut client = client;
     wait_for(rt, course, Stage::Held);
-    put_at(rt, alloc, &mut client, ("q|1", "x"), 4);
-    expect_one(rt, alloc, &mut client, ("q|", "q}"), 4, ("q|1", "x"));
+    put_often(rt, alloc, &mut client, count);
+    expect_one(
+        rt,
+        alloc,
+        &mut client,
+        ("q|", "q}"),
+        3 + count,
+        ("q|1", "x"),
+    );
     come_to(rt, course, Stage::Passed);
     client
 }
 
 /// Reads the timeline, and once more: the first read is after the entries that it found when it began, though the other wrote
-/// before it ended.
+/// before it ended, so many.
 fn read_twice<N: Naming, G: Gate, R: Wait + Abort>(
     rt: &R,
     alloc: Global,
     client: Client<'_, N, G>,
-) {
+    count: u64,
+)
+    requires { count ≤ 100000 }
+{
     let mut client = client;
     expect_timeline(rt, alloc, &mut client, 3);
-    expect_timeline(rt, alloc, &mut client, 4);
+    expect_timeline(rt, alloc, &mut client, 3 + count);
 }
 
-/// One client of a cache is held in a read, and the other passes by, each on a thread. Then the other reads what was held.
+/// One client of a cache is held in a read, and the other passes by with so many puts, each on a thread. Then the other reads what
+/// was held.
 fn hold_and_pass<N: Naming + Send + Sync, G: Gate + Sync, R: Threads + Wait + Abort + Sync>(
     rt: &R,
     alloc: Global,
     gate: &G,
     seats: Seats,
     course: &Course,
+    count: u64,
 ) -> Result<(), Fail>
+    requires few { count ≤ 100000 }
     requires named { seats.history ≡ N.history }
     requires clients { AreWriters N.history (length seats.clients.items) seats.clients.items }
-    requires shards { AreOf N.history 16 seats.shards.items }
+    requires shards { AreOfParts N.history seats.shards.items }
     requires cells { AreOf N.history (length seats.cells.items) seats.cells.items }
     requires count { length seats.cells.items ≡ 4 }
 {
@@ -124,23 +154,40 @@ fn hold_and_pass<N: Naming + Send + Sync, G: Gate + Sync, R: Threads + Wait + Ab
     write_timeline(rt, alloc, &mut held);
     let (_, mut other) = thread::join(
         rt,
-        move || read_twice(rt, alloc, held),
-        move || pass_by(rt, alloc, course, other),
+        move || read_twice(rt, alloc, held, count),
+        move || pass_by(rt, alloc, course, other, count),
     );
-    expect_timeline(rt, alloc, &mut other, 4);
+    expect_timeline(rt, alloc, &mut other, 3 + count);
+    Ok(())
+}
+
+/// One client is held while the other puts so often. Each gives up where it looked so often for the other.
+fn hold_while<R: Threads + Wait + Abort + Sync>(
+    rt: &R,
+    alloc: Global,
+    count: u64,
+    looks: u32,
+) -> Result<(), Fail>
+    requires { count ≤ 100000 }
+{
+    let course = begin(alloc, looks)?;
+    let gate = Holding {
+        rt,
+        course: Arc::try_clone(&course)?,
+    };
+    let seats = make_seats(alloc, 2)?;
+    hold_and_pass::<Brand, _, _>(rt, alloc, &gate, seats, &course, count)?;
+    assert!(rt; !course.lock(rt).gave_up);
     Ok(())
 }
 
 #[test]
 fn a_held_read_holds_no_other_client(rt: HostRuntime) -> Result<(), Fail> {
-    let alloc: Global = rt.alloc();
-    let course = begin(alloc)?;
-    let gate = Holding {
-        rt: &rt,
-        course: Arc::try_clone(&course)?,
-    };
-    let seats = make_seats(alloc, 2)?;
-    hold_and_pass::<Brand, _, _>(&rt, alloc, &gate, seats, &course)?;
-    assert!(rt; !course.lock(&rt).gave_up);
-    Ok(())
+    hold_while(&rt, rt.alloc(), 1, FEW_LOOKS)
+}
+
+/// What the held read asks for is kept, and its cell is filled anew for the next read.
+#[test]
+fn a_held_read_keeps_what_it_reads(rt: HostRuntime) -> Result<(), Fail> {
+    hold_while(&rt, rt.alloc(), 70_000, MANY_LOOKS)
 }

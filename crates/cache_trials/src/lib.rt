@@ -8,6 +8,9 @@
 // they meet and read all tables. The writes that were acknowledged, each at its position, are the history; each reply has to be
 // what evaluating the joins afresh gives after the entries that it names, and no client is answered at a position below one
 // that it was told before. What is held against the replies knows nothing of what a cache keeps.
+//
+// What is let go of old entries is seen only past 65,536 of them. So some tests write as many and more: four clients that are asked as
+// before, a client that is held in a read meanwhile, and reads of cells that stand just near enough or too far behind.
 #![tactic(auto)]
 
 #[cfg(test)]
@@ -21,6 +24,8 @@ mod clients;
 #[cfg(test)]
 mod course;
 #[cfg(test)]
+mod far_rows;
+#[cfg(test)]
 mod flips;
 #[cfg(test)]
 mod held;
@@ -28,6 +33,8 @@ mod held;
 mod kept;
 #[cfg(test)]
 mod kept_rows;
+#[cfg(test)]
+mod playing;
 #[cfg(test)]
 mod threads;
 #[cfg(test)]

@@ -1,6 +1,6 @@
 // How much threads do together, each with a client and tables of its own: `bench/threads.sh` runs these and takes the time.
 ghost use Rattle.std.specs.Prelude.{◌≡◌, length};
-ghost use Rattle.pequod_cache.specs.Sitting.{AreOf, AreWriters};
+ghost use Rattle.pequod_cache.specs.Sitting.{AreOf, AreOfParts, AreWriters};
 
 use crate::clients::{make_seats, table};
 use base_shards::Naming;
@@ -67,7 +67,7 @@ fn share_the_work<N: Naming + Send + Sync, R: Threads + Wait + Abort + Sync>(
 ) -> Result<(), Fail>
     requires named { seats.history ≡ N.history }
     requires clients { AreWriters N.history (length seats.clients.items) seats.clients.items }
-    requires shards { AreOf N.history 16 seats.shards.items }
+    requires shards { AreOfParts N.history seats.shards.items }
     requires cells { AreOf N.history (length seats.cells.items) seats.cells.items }
     requires count { length seats.cells.items ≡ 4 }
 {

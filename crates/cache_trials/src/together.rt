@@ -1,6 +1,6 @@
 // Four clients of one cache, each on a thread of its own.
 ghost use Rattle.std.specs.Prelude.{◌≡◌, ◌≤◌, length};
-ghost use Rattle.pequod_cache.specs.Sitting.{AreOf, AreWriters};
+ghost use Rattle.pequod_cache.specs.Sitting.{AreOf, AreOfParts, AreWriters};
 
 use crate::asking::{Ask, FIRST_JOINS, TABLES, position_told};
 use crate::checking::{Afresh, Answered, expect_ascending};
@@ -20,6 +20,17 @@ use std::thread::Threads;
 
 /// How many clients there are.
 const CLIENTS: u32 = 4;
+
+/// How much each client is asked.
+#[derive(Clone, Copy)]
+struct Asked {
+    /// How many drawn requests.
+    count: usize,
+    /// How many puts follow each of them in a table that no join reads.
+    fills: usize,
+    /// How many entries there are in the end, at least.
+    entries: usize,
+}
 
 /// A client with what it asked and was answered, and the position of a join that its last declaration was told.
 #[derive(Drop)]
@@ -47,13 +58,28 @@ impl<S: Service> Talk<S> {
         }
     }
 
-    /// The client is asked so often what is drawn from a number.
-    fn ask_drawn<R: Abort>(self, rt: &R, alloc: Global, number: u64, count: usize) -> Talk<S> {
+    /// The client is asked to put so often in a table that no join reads.
+    fn ask_to_fill<R: Abort>(
+        &mut self,
+        rt: &R,
+        alloc: Global,
+        generator: &mut Lcg64Xsh32,
+        count: usize,
+    ) {
+        for _ in 0..count {
+            let ask = Ask::fill(generator);
+            self.ask(rt, alloc, ask);
+        }
+    }
+
+    /// The client is asked what is drawn from a number.
+    fn ask_drawn<R: Abort>(self, rt: &R, alloc: Global, number: u64, asked: Asked) -> Talk<S> {
         let mut talk = self;
         let mut generator = Lcg64Xsh32::seed_from_u64(number);
-        for _ in 0..count {
+        for _ in 0..asked.count {
             let ask = Ask::draw(&mut generator, talk.told);
             talk.ask(rt, alloc, ask);
+            talk.ask_to_fill(rt, alloc, &mut generator, asked.fills);
         }
         talk
     }
@@ -87,7 +113,7 @@ fn begin<'a, 'g, N: Naming, R: Wait + Abort>(
 ) -> Result<Vec<Talk<ClientService<'a, 'g, R, N, OpenGate>>>, Fail>
     requires named { seats.history ≡ N.history }
     requires clients { AreWriters N.history (length seats.clients.items) seats.clients.items }
-    requires shards { AreOf N.history 16 seats.shards.items }
+    requires shards { AreOfParts N.history seats.shards.items }
     requires cells { AreOf N.history (length seats.cells.items) seats.cells.items }
     requires some_cells { 1 ≤ length seats.cells.items }
     requires few_cells { length seats.cells.items ≤ 65536 }
@@ -106,22 +132,33 @@ fn begin<'a, 'g, N: Naming, R: Wait + Abort>(
     Ok(talks)
 }
 
-/// Each client is asked so often on a thread of its own. Then they meet, and each is asked for all that stands.
-fn talk_together<'a, 'g, N: Naming + Send + Sync, R: Threads + Wait + Abort + Sync>(
-    rt: &'a R,
+/// Each client is asked so much on a thread of its own. What a client is stays unseen here: the prover compares the types that a
+/// thread is given, and a client's type is large.
+fn ask_apart<S: Service + Send + Drop, R: Threads + Abort + Sync>(
+    rt: &R,
     alloc: Global,
-    talks: Vec<Talk<ClientService<'a, 'g, R, N, OpenGate>>>,
-    count: usize,
-) -> Result<Vec<Talk<ClientService<'a, 'g, R, N, OpenGate>>>, Fail> {
+    talks: Vec<Talk<S>>,
+    asked: Asked,
+) -> Result<Vec<Talk<S>>, Fail> {
     let mut jobs = Vec::new(alloc);
     for talk in talks {
         jobs.push((talk, jobs.len() as u64))?;
     }
-    let mut talks = thread::map_vec(
+    Ok(thread::map_vec(
         rt,
         jobs,
-        &|(talk, number)| talk.ask_drawn(rt, alloc, number, count),
-    )?;
+        &|(talk, number)| talk.ask_drawn(rt, alloc, number, asked),
+    )?)
+}
+
+/// Each client is asked so much on a thread of its own. Then they meet, and each is asked for all that stands.
+fn talk_together<'a, 'g, N: Naming + Send + Sync, R: Threads + Wait + Abort + Sync>(
+    rt: &'a R,
+    alloc: Global,
+    talks: Vec<Talk<ClientService<'a, 'g, R, N, OpenGate>>>,
+    asked: Asked,
+) -> Result<Vec<Talk<ClientService<'a, 'g, R, N, OpenGate>>>, Fail> {
+    let mut talks = ask_apart(rt, alloc, talks, asked)?;
     let mut last = talks.pop().expect(rt, "a client");
     meet(rt, &mut last, talks.as_mut_slice());
     meet(rt, &mut last, talks.as_mut_slice());
@@ -173,30 +210,32 @@ fn expect_afresh<R: Abort>(rt: &R, alloc: Global, places: &[Vec<Answered>]) {
     }
 }
 
-/// Four clients are asked so often by threads, and all that they were answered is what evaluating afresh gives.
+/// Four clients are asked so much by threads, and all that they were answered is what evaluating afresh gives.
 fn hold<N: Naming + Send + Sync, R: Threads + Wait + Abort + Sync>(
     rt: &R,
     alloc: Global,
     gate: &OpenGate,
     seats: Seats,
     rows: u64,
-    count: usize,
+    asked: Asked,
 ) -> Result<(), Fail>
     requires named { seats.history ≡ N.history }
     requires clients { AreWriters N.history (length seats.clients.items) seats.clients.items }
-    requires shards { AreOf N.history 16 seats.shards.items }
+    requires shards { AreOfParts N.history seats.shards.items }
     requires cells { AreOf N.history (length seats.cells.items) seats.cells.items }
     requires some_cells { 1 ≤ length seats.cells.items }
     requires few_cells { length seats.cells.items ≤ 65536 }
     requires some_rows { 1 ≤ rows }
 {
     let talks = begin::<N, R>(rt, alloc, gate, seats, rows)?;
-    let talks = talk_together(rt, alloc, talks, count)?;
+    let talks = talk_together(rt, alloc, talks, asked)?;
     let all = answers_of(alloc, talks)?;
     let mut places = places(alloc, all.as_slice())?;
     for answers in all {
         put_in_place(rt, answers, places.as_mut_slice())?;
     }
+    let last = places.get(asked.entries).expect(rt, "so many places");
+    assert!(rt; !last.is_empty());
     expect_afresh(rt, alloc, places.as_slice());
     Ok(())
 }
@@ -205,12 +244,35 @@ fn hold<N: Naming + Send + Sync, R: Threads + Wait + Abort + Sync>(
 fn few_cells_and_rows(rt: HostRuntime) -> Result<(), Fail> {
     let alloc = rt.alloc();
     let seats = Seats::make(alloc, CLIENTS, 3)?;
-    hold::<Brand, _>(&rt, alloc, &OpenGate, seats, 12, 20_000)
+    let asked = Asked {
+        count: 20_000,
+        fills: 0,
+        entries: 10_000,
+    };
+    hold::<Brand, _>(&rt, alloc, &OpenGate, seats, 12, asked)
 }
 
 #[test]
 fn many_cells_and_rows(rt: HostRuntime) -> Result<(), Fail> {
     let alloc = rt.alloc();
     let seats = Seats::make(alloc, CLIENTS, 64)?;
-    hold::<Brand, _>(&rt, alloc, &OpenGate, seats, 100_000, 5_000)
+    let asked = Asked {
+        count: 5_000,
+        fills: 0,
+        entries: 2_500,
+    };
+    hold::<Brand, _>(&rt, alloc, &OpenGate, seats, 100_000, asked)
+}
+
+/// Most of the entries are let go meanwhile, and cells that stand too far behind are filled anew.
+#[test]
+fn more_entries_than_are_kept(rt: HostRuntime) -> Result<(), Fail> {
+    let alloc = rt.alloc();
+    let seats = Seats::make(alloc, CLIENTS, 64)?;
+    let asked = Asked {
+        count: 100,
+        fills: 350,
+        entries: 140_000,
+    };
+    hold::<Brand, _>(&rt, alloc, &OpenGate, seats, 100_000, asked)
 }

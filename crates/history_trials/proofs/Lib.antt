@@ -1,2 +1,2 @@
 mod ShardTrialLemmas
-mod CellTrialLemmas
+mod SeatTrialLemmas

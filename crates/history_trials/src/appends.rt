@@ -1,8 +1,10 @@
 // What many threads append, whose order nobody knows beforehand, and each call once, with ample memory.
-ghost use Rattle.std.specs.Prelude.{◌≡◌, ℕ, ◌<◌, ◌≤◌, [], ◌∷◌, true, codes, length, slice_index_or, IfOk};
+ghost use Rattle.std.specs.Prelude.{◌≡◌, ℕ, ◌<◌, ◌≤◌, All, [], ◌∷◌, true, codes, length, slice_index_or, IfOk};
 ghost use Rattle.semantics.specs.Patterns.{literal, is_pattern};
 ghost use Rattle.write_history.specs.Passes.{MayAppend, HasSeen};
+ghost use Rattle.write_history.specs.declared.known.Mark.TheVariants.{Free, Noted, Pinned};
 
+use crate::seats::{Seats, make_seats, pin, pop_shard, pop_writer};
 use join_types::{Cause, Entry, Join, JoinSource, Kind, Op, Write};
 use key_pattern::{Pattern, Segment};
 use key_space::{Key, Value};
@@ -27,7 +29,7 @@ fn removal_of(rt: &impl Abort, alloc: Global, key: &str) -> Write {
 }
 
 /// What the write puts.
-fn number_of<'a>(rt: &impl Abort, write: &'a Write) -> &'a str {
+pub fn number_of<'a>(rt: &impl Abort, write: &'a Write) -> &'a str {
     match write {
         Write::Put(_, value) => value.text(),
         Write::Remove(_) | Write::Declare(_) | Write::Drop(_) => panic!(rt; "no put"),
@@ -43,7 +45,8 @@ fn appended<R: Wait + Abort>(
     count: u32,
 ) -> (Pass, u64)
     requires { MayAppend history.now pass }
-    ensures { HasSeen history.now result.0 result.1 }
+    ensures seen { HasSeen history.now result.0 result.1 }
+    ensures mark { result.0.mark ≡ pass.mark }
 {
     let mut last = 0;
     for number in 0..count {
@@ -91,7 +94,8 @@ fn expect_same(
     Ok(())
 }
 
-/// Two threads append 100 puts each, by passes of their own, which meet then.
+/// Two threads append 100 puts each, by passes of their own, which meet then. Both were pinned before the first put, and may ask for
+/// it.
 fn two_meet<R: Threads + Wait + Abort + Sync>(
     rt: &R,
     alloc: Global,
@@ -99,7 +103,8 @@ fn two_meet<R: Threads + Wait + Abort + Sync>(
     first: Pass,
     second: Pass,
 ) -> Result<(), Fail>
-    requires { MayAppend history.now first × MayAppend history.now second }
+    requires may { MayAppend history.now first × MayAppend history.now second }
+    requires pinned { (first.mark ≡ Pinned 0) × (second.mark ≡ Pinned 0) }
 {
     let ((mut first, one), (mut second, other)) = thread::join(
         rt,
@@ -109,9 +114,9 @@ fn two_meet<R: Threads + Wait + Abort + Sync>(
     history.meet(rt, &mut first, &mut second);
     let last = one.max(other);
     assert!(rt; last == 200);
-    let seen = history.entries(rt, &mut first, 0, last)?;
+    let seen = entries_between(rt, history, &mut first, 0, last);
     expect_own_orders(rt, alloc, &seen, 2, 100)?;
-    let seen = history.entries(rt, &mut second, 0, last)?;
+    let seen = entries_between(rt, history, &mut second, 0, last);
     expect_own_orders(rt, alloc, &seen, 2, 100)?;
     assert!(rt; history.look(rt, &mut first) == 200);
     Ok(())
@@ -119,10 +124,25 @@ fn two_meet<R: Threads + Wait + Abort + Sync>(
 
 #[test]
 fn two_threads_append_and_meet(rt: HostRuntime) -> Result<(), Fail> {
-    let (history, mut passes) = History::new(rt.alloc(), 2)?;
-    let second = passes.pop().ok_or("a second pass")?;
-    let first = passes.pop().ok_or("a first pass")?;
-    two_meet(&rt, rt.alloc(), &history, first, second)
+    let mut seats = make_seats(rt.alloc(), 2, 0, 0, 0)?;
+    let second = pop_at_start(&rt, &seats.history, &mut seats.writers);
+    let first = pop_at_start(&rt, &seats.history, &mut seats.writers);
+    two_meet(&rt, rt.alloc(), &seats.history, first, second)
+}
+
+/// Takes out the last pass that may write, and pins it in a history without entries.
+fn pop_at_start<R: Wait + Abort>(rt: &R, history: &History, writers: &mut Vec<Pass>) -> Pass
+    requires may { All (λ p. MayAppend history.now p) writers.old.items }
+    requires free { All (λ p. p.mark ≡ Free) writers.old.items }
+    ensures pass { MayAppend history.now result }
+    ensures pinned { result.mark ≡ Pinned 0 }
+    ensures others { All (λ p. MayAppend history.now p) writers.new.items }
+    ensures others_free { All (λ p. p.mark ≡ Free) writers.new.items }
+{
+    let mut pass = pop_writer(rt, history, writers);
+    let at = pin(rt, history, &mut pass);
+    assert!(rt; at == 0);
+    pass
 }
 
 /// Each pass appends so many puts, in a thread of its own, and says at which position the last entered.
@@ -147,7 +167,8 @@ fn all_append<R: Threads + Wait + Abort + Sync>(
 fn meet_each<R: Wait>(rt: &R, history: &History, reader: &mut Pass, done: Vec<(Pass, u64)>) -> u64
     requires same_history { reader.old.history ≡ history.now }
     requires seen { (i : ℕ) (d : _) → i < length done.items → HasSeen history.now (slice_index_or done.items i d).0 (slice_index_or done.items i d).1 }
-    ensures { HasSeen history.now reader.new result }
+    ensures seen { HasSeen history.now reader.new result }
+    ensures mark { reader.new.mark ≡ reader.old.mark }
 {
     let mut last = 0;
     for (mut pass, position) in done {
@@ -157,24 +178,60 @@ fn meet_each<R: Wait>(rt: &R, history: &History, reader: &mut Pass, done: Vec<(P
     last
 }
 
-/// So many threads append so many puts each, and a pass that only reads meets theirs.
+/// So many threads append so many puts each, and a pass that has noted no position, and so may ask for every entry, meets theirs.
 fn all_meet<R: Threads + Wait + Abort + Sync>(
     rt: &R,
     alloc: Global,
     writers: u32,
     count: u32,
 ) -> Result<(), Fail>
-    requires { 0 < writers }
+    requires some { 0 < writers }
+    requires few { writers ≤ 8 }
 {
-    let (history, mut passes) = History::with_readers(alloc, writers, 1)?;
-    let mut reader = passes.pop().ok_or("a reader")?;
+    let Seats {
+        history,
+        writers: passes,
+        mut shards,
+        ..
+    } = make_seats(alloc, writers, 0, 1, 0)?;
+    let mut reader = pop_shard(rt, &history, &mut shards);
     let done = all_append(rt, alloc, &history, passes, count)?;
     let last = meet_each(rt, &history, &mut reader, done);
     assert!(rt; last == u64::from(writers) * u64::from(count));
-    let seen = history.entries(rt, &mut reader, 0, last)?;
+    let seen = entries_of(rt, &history, &mut reader, last);
     expect_own_orders(rt, alloc, &seen, writers, count)?;
     assert!(rt; history.look(rt, &mut reader) == last);
     Ok(())
+}
+
+/// The first so many entries, by a pass that has noted no position.
+fn entries_of<R: Wait + Abort>(
+    rt: &R,
+    history: &History,
+    reader: &mut Pass,
+    count: u64,
+) -> Vec<Entry>
+    requires seen { HasSeen history.now reader.old count }
+    requires noted { reader.old.mark ≡ Noted 0 }
+    ensures { reader.new ≡ reader.old }
+{
+    history.entries(rt, reader, 0, count).expect(rt, "memory")
+}
+
+/// The entries from one position to another, by a pass that was pinned before the first.
+fn entries_between<R: Wait + Abort>(
+    rt: &R,
+    history: &History,
+    pass: &mut Pass,
+    from: u64,
+    to: u64,
+) -> Vec<Entry>
+    requires seen { HasSeen history.now pass.old to }
+    requires order { from ≤ to }
+    requires pinned { pass.old.mark ≡ Pinned 0 }
+    ensures { pass.new ≡ pass.old }
+{
+    history.entries(rt, pass, from, to).expect(rt, "memory")
 }
 
 #[test]
@@ -256,6 +313,7 @@ fn offered<R: Wait + Abort>(
     requires { MayAppend history.now pass }
     ensures may { MayAppend history.now result.0 }
     ensures seen { HasSeen history.now result.0 result.1 }
+    ensures mark { result.0.mark ≡ pass.mark }
 {
     let mut last = 0;
     for number in 0..count {
@@ -271,7 +329,8 @@ fn offered<R: Wait + Abort>(
     (pass, last)
 }
 
-/// A join is declared before the puts of two threads, and another behind them; no join stands at the position of a put.
+/// A join is declared before the puts of two threads, and another behind them; no join stands at the position of a put. Both passes
+/// were pinned before the first entry.
 fn declared_between<R: Threads + Wait + Abort + Sync>(
     rt: &R,
     alloc: Global,
@@ -279,7 +338,8 @@ fn declared_between<R: Threads + Wait + Abort + Sync>(
     mut first: Pass,
     second: Pass,
 ) -> Result<(), Fail>
-    requires { MayAppend history.now first × MayAppend history.now second }
+    requires may { MayAppend history.now first × MayAppend history.now second }
+    requires pinned { (first.mark ≡ Pinned 0) × (second.mark ≡ Pinned 0) }
 {
     let declared = history.append(rt, &mut first, Write::Declare(copy_of(rt, alloc, "b")?));
     assert!(rt; matches!(&declared, Ok(1)), "{declared:?}");
@@ -298,7 +358,7 @@ fn declared_between<R: Threads + Wait + Abort + Sync>(
     history.meet(rt, &mut first, &mut second);
     let last = one.max(other);
     assert!(rt; last == 101);
-    let declaration = history.entries(rt, &mut first, 0, 1)?;
+    let declaration = entries_between(rt, history, &mut first, 0, 1);
     let write = Write::Declare(copy_of(rt, alloc, "b")?);
     expect_same(
         rt,
@@ -306,32 +366,37 @@ fn declared_between<R: Threads + Wait + Abort + Sync>(
         &declaration,
         vec![in alloc; Entry { client: 0, write }]?,
     )?;
-    let seen = history.entries(rt, &mut first, 1, last)?;
+    let seen = entries_between(rt, history, &mut first, 1, last);
     expect_own_orders(rt, alloc, &seen, 2, 50)
 }
 
 #[test]
 fn a_declared_join_refuses_puts(rt: HostRuntime) -> Result<(), Fail> {
-    let (history, mut passes) = History::new(rt.alloc(), 2)?;
-    let second = passes.pop().ok_or("a second pass")?;
-    let first = passes.pop().ok_or("a first pass")?;
-    declared_between(&rt, rt.alloc(), &history, first, second)
+    let mut seats = make_seats(rt.alloc(), 2, 0, 0, 0)?;
+    let second = pop_at_start(&rt, &seats.history, &mut seats.writers);
+    let first = pop_at_start(&rt, &seats.history, &mut seats.writers);
+    declared_between(&rt, rt.alloc(), &seats.history, first, second)
 }
 
 #[test]
 fn each_call_answers_with_ample_memory(rt: HostRuntime) -> Result<(), Fail> {
     let alloc = rt.alloc();
-    let (history, mut passes) = History::with_readers(alloc, 1, 1)?;
-    let mut reader = passes.pop().ok_or("a reader")?;
-    let mut writer = passes.pop().ok_or("a writer")?;
-    assert!(rt; passes.is_empty());
+    let Seats {
+        history,
+        mut writers,
+        mut shards,
+        ..
+    } = make_seats(alloc, 1, 0, 1, 0)?;
+    let mut reader = pop_shard(&rt, &history, &mut shards);
+    let mut writer = pop_writer(&rt, &history, &mut writers);
+    assert!(rt; writers.is_empty() && shards.is_empty());
     assert!(rt; history.look(&rt, &mut reader) == 0);
     let put = history.append(&rt, &mut writer, put_of(&rt, alloc, "a|x", 7));
     assert!(rt; matches!(&put, Ok(1)), "{put:?}");
     let removed = history.append(&rt, &mut writer, removal_of(&rt, alloc, "a|y"));
     assert!(rt; matches!(&removed, Ok(2)), "{removed:?}");
     assert!(rt; history.look(&rt, &mut reader) == 2);
-    let seen = history.entries(&rt, &mut reader, 0, 2)?;
+    let seen = entries_of(&rt, &history, &mut reader, 2);
     let put = Entry {
         client: 0,
         write: put_of(&rt, alloc, "a|x", 7),
@@ -342,6 +407,10 @@ fn each_call_answers_with_ample_memory(rt: HostRuntime) -> Result<(), Fail> {
     };
     expect_same(&rt, alloc, &seen, vec![in alloc; put, remove]?)?;
     assert!(rt; History::with_readers(alloc, u32::MAX, 1).is_err());
+    assert!(rt; History::with_pins(alloc, u32::MAX, 1, 0, 0).is_err());
+    assert!(rt; History::with_pins(alloc, 1, 1, u32::MAX, 0).is_err());
+    assert!(rt; History::with_pins(alloc, 1, 1, 1, u32::MAX).is_err());
+    assert!(rt; History::new(alloc, 3)?.1.len() == 3);
     Ok(())
 }
 
@@ -359,6 +428,7 @@ fn append_next<R: Wait + Abort>(
     requires same_history { reader.old.history ≡ history.now }
     ensures may { MayAppend history.now writer.new }
     ensures same_history { reader.new.history ≡ history.now }
+    ensures mark { reader.new.mark ≡ reader.old.mark }
 {
     let before = history.look(rt, reader);
     let mut entered = history.append(rt, writer, write);
@@ -372,7 +442,7 @@ fn append_next<R: Wait + Abort>(
     );
 }
 
-/// Appends so many puts behind the first entry, and compares all that have entered.
+/// Appends so many puts behind the first entry, and compares all that have entered. The reader has noted no position.
 fn append_behind<R: Wait + Abort>(
     rt: &R,
     alloc: Global,
@@ -383,6 +453,7 @@ fn append_behind<R: Wait + Abort>(
 ) -> Result<(), Fail>
     requires may { MayAppend history.now writer }
     requires same_history { reader.history ≡ history.now }
+    requires noted { reader.mark ≡ Noted 0 }
 {
     for number in 0..count {
         let put = put_of(rt, alloc, "p|", number);
@@ -391,16 +462,22 @@ fn append_behind<R: Wait + Abort>(
     }
     let last = history.look(rt, &mut reader);
     assert!(rt; last == 1 + u64::from(count));
-    let seen = history.entries(rt, &mut reader, 1, last)?;
-    expect_own_orders(rt, alloc, &seen, 1, count)
+    let seen = entries_of(rt, history, &mut reader, last);
+    let behind = seen.get(1..).expect(rt, "the first entry");
+    expect_own_orders(rt, alloc, behind, 1, count)
 }
 
 #[test]
 fn an_append_without_memory_leaves_nothing(rt: HostRuntime) -> Result<(), Fail> {
     let alloc = rt.alloc();
-    let (history, mut passes) = History::with_readers(alloc, 1, 1)?;
-    let mut reader = passes.pop().ok_or("a reader")?;
-    let mut writer = passes.pop().ok_or("a writer")?;
+    let Seats {
+        history,
+        mut writers,
+        mut shards,
+        ..
+    } = make_seats(alloc, 1, 0, 1, 0)?;
+    let mut reader = pop_shard(&rt, &history, &mut shards);
+    let mut writer = pop_writer(&rt, &history, &mut writers);
     let join = Write::Declare(copy_of(&rt, alloc, "b")?);
     let again = Write::Declare(copy_of(&rt, alloc, "b")?);
     append_next(&rt, &history, &mut writer, &mut reader, join, again);

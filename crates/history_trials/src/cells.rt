@@ -1,10 +1,11 @@
 // Cells that are given, found and evicted, and each call once, with ample memory.
-ghost use Rattle.std.specs.Prelude.{◌≡◌, ◌<◌, ◌≤◌, All, length, IfOk};
+ghost use Rattle.std.specs.Prelude.{◌≡◌, ◌≤◌, All, length};
 ghost use Rattle.std.specs.Arc.{arc_value};
+ghost use Rattle.write_history.specs.declared.known.Mark.TheVariants.{Noted};
 
+use crate::seats::{Seats, make_seats};
 use base_shards::{BaseShards, Naming};
 use key_space::Range;
-use out_of_memory::OutOfMemory;
 use shared_cells::{Part, RankedJoin, SharedCells};
 use shared_reader::Use;
 use std::alloc::Global;
@@ -22,27 +23,6 @@ const RAISED: RankedJoin = RankedJoin { at: 1, rank: 1 };
 
 /// Another join.
 const SECOND: RankedJoin = RankedJoin { at: 2, rank: 0 };
-
-/// A history, and so many passes of it.
-fn make_passes(alloc: Global, count: u32) -> Result<(History, Vec<Pass>), OutOfMemory>
-    requires { 0 < count }
-    ensures count { IfOk result (λ made. length made.1.items ≡ count) }
-    ensures each { IfOk result (λ made. All (λ pass. pass.history ≡ made.0) made.1.items) }
-{
-    History::new(alloc, count)
-}
-
-/// A history, and its passes for the parts of the base pairs and for two cells.
-fn make_seats(alloc: Global) -> Result<(History, Vec<Pass>, Vec<Pass>), OutOfMemory>
-    ensures shard_count { IfOk result (λ made. length made.1.items ≡ 16) }
-    ensures shards { IfOk result (λ made. All (λ pass. pass.history ≡ made.0) made.1.items) }
-    ensures cell_count { IfOk result (λ made. length made.2.items ≡ 2) }
-    ensures cells { IfOk result (λ made. All (λ pass. pass.history ≡ made.0) made.2.items) }
-{
-    let (history, mut passes) = make_passes(alloc, 18)?;
-    let cells = passes.split_off(16)?;
-    Ok((history, passes, cells))
-}
 
 /// The range between two bounds.
 fn range_of(rt: &impl Abort, alloc: Global, low: &str, high: &str) -> Range {
@@ -192,8 +172,12 @@ fn give_many<N: Naming, R: Wait + Abort>(
 #[test]
 fn many_parts_are_one(rt: HostRuntime) -> Result<(), Fail> {
     let alloc = rt.alloc();
-    let (history, passes) = make_passes(alloc, 33)?;
-    give_many::<Brand, _>(&rt, alloc, &history, passes)
+    let Seats {
+        history,
+        readers,
+        ..
+    } = make_seats(alloc, 1, 0, 0, 33)?;
+    give_many::<Brand, _>(&rt, alloc, &history, readers)
 }
 
 /// That threads may share a value.
@@ -273,6 +257,7 @@ fn make_and_try<N: Naming + Send + Sync, R: Wait + Abort>(
     requires named { arc_value history ≡ N.history }
     requires shard_count { length shards.items ≡ 16 }
     requires shards { All (λ pass. pass.history ≡ N.history) shards.items }
+    requires noted { All (λ pass. pass.mark ≡ Noted 0) shards.items }
     requires cell_count { length cells.items ≡ 2 }
     requires cells { All (λ pass. pass.history ≡ N.history) cells.items }
 {
@@ -291,8 +276,9 @@ fn cells_are_given_evicted_and_settled(rt: HostRuntime) -> Result<(), Fail> {
     let alloc = rt.alloc();
     let all = [Tried::Ranked, Tried::Evicted, Tried::Lost, Tried::Settled];
     for tried in all {
-        let (history, shards, cells) = make_seats(alloc)?;
-        make_and_try::<Brand, _>(&rt, alloc, Arc::new(alloc, history)?, shards, cells, tried)?;
+        let seats = make_seats(alloc, 1, 0, 16, 2)?;
+        let history = Arc::new(alloc, seats.history)?;
+        make_and_try::<Brand, _>(&rt, alloc, history, seats.shards, seats.readers, tried)?;
     }
     Ok(())
 }

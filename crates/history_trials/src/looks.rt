@@ -1,8 +1,11 @@
 // What a look that asks for joins gives, by the position that is known.
 ghost use Rattle.std.specs.Prelude.{◌≡◌};
 ghost use Rattle.write_history.specs.Passes.{MayAppend};
+ghost use Rattle.write_history.specs.declared.known.Mark.TheVariants.{Pinned};
+ghost use Rattle.history_trials.specs.Seated.{IsFree};
 
 use crate::appends::{copy_of, put_of};
+use crate::seats::{Seats, make_seats, pop_pinned, pop_writer, unpin};
 use join_types::Write;
 use std::process::Abort;
 use std::sync::Wait;
@@ -27,20 +30,31 @@ fn expect_entered<R: Wait + Abort>(
     );
 }
 
-/// Looks with a position that is known, or where no memory is found once more.
+/// Looks with a position that is known, or where no memory is found once more: then the pass was not pinned.
+fn look_and_pin<R: Wait + Abort>(rt: &R, history: &History, reader: &mut Pass, known: u64) -> Looked
+    requires { IsFree history.now reader.old }
+    ensures same_history { reader.new.history ≡ history.now }
+    ensures pinned { reader.new.mark ≡ Pinned result.length }
+{
+    match history.look_joins(rt, reader, known) {
+        Ok(looked) => looked,
+        Err(_) => history.look_joins(rt, reader, known).expect(rt, "memory"),
+    }
+}
+
+/// Looks with a position that is known, and takes the pin away.
 fn look_for_joins<R: Wait + Abort>(
     rt: &R,
     history: &History,
     reader: &mut Pass,
     known: u64,
 ) -> Looked
-    requires { reader.old.history ≡ history.now }
-    ensures { reader.new.history ≡ history.now }
+    requires { IsFree history.now reader.old }
+    ensures { IsFree history.now reader.new }
 {
-    match history.look_joins(rt, reader, known) {
-        Ok(looked) => looked,
-        Err(_) => history.look_joins(rt, reader, known).expect(rt, "memory"),
-    }
+    let looked = look_and_pin(rt, history, reader, known);
+    unpin(rt, history, reader, looked.length);
+    looked
 }
 
 /// Expects that a look with the position that is known finds so many entries, and is given no joins.
@@ -51,8 +65,8 @@ fn expect_known<R: Wait + Abort>(
     known: u64,
     entries: u64,
 )
-    requires { reader.old.history ≡ history.now }
-    ensures { reader.new.history ≡ history.now }
+    requires { IsFree history.now reader.old }
+    ensures { IsFree history.now reader.new }
 {
     let looked = look_for_joins(rt, history, reader, known);
     assert!(rt; looked.length == entries);
@@ -70,8 +84,8 @@ fn expect_joins<R: Wait + Abort>(
     count: usize,
     last: u64,
 )
-    requires { reader.old.history ≡ history.now }
-    ensures { reader.new.history ≡ history.now }
+    requires { IsFree history.now reader.old }
+    ensures { IsFree history.now reader.new }
 {
     let looked = look_for_joins(rt, history, reader, known);
     assert!(rt; looked.length == entries);
@@ -85,9 +99,14 @@ fn expect_joins<R: Wait + Abort>(
 #[test]
 fn a_look_gives_the_joins_that_are_not_known(rt: HostRuntime) -> Result<(), Fail> {
     let alloc = rt.alloc();
-    let (history, mut passes) = History::with_readers(alloc, 1, 1)?;
-    let mut reader = passes.pop().ok_or("a reader")?;
-    let mut writer = passes.pop().ok_or("a writer")?;
+    let Seats {
+        history,
+        mut writers,
+        mut pinned,
+        ..
+    } = make_seats(alloc, 1, 1, 0, 0)?;
+    let mut reader = pop_pinned(&rt, &history, &mut pinned);
+    let mut writer = pop_writer(&rt, &history, &mut writers);
     expect_known(&rt, &history, &mut reader, 0, 0);
     let join = copy_of(&rt, alloc, "b")?;
     expect_entered(&rt, &history, &mut writer, Write::Declare(join), 1);

@@ -1,8 +1,11 @@
 // Reads of one thread at every position, parts that two threads bring forward, and each call once, with ample memory.
-ghost use Rattle.std.specs.Prelude.{◌≡◌, ◌+◌, ◌<◌, All, length, IfOk};
+ghost use Rattle.std.specs.Prelude.{◌≡◌, ◌<◌, All, length};
 ghost use Rattle.std.specs.Arc.{arc_value};
 ghost use Rattle.write_history.specs.Passes.{MayAppend, HasSeen};
+ghost use Rattle.write_history.specs.declared.known.Mark.TheVariants.{Free, Noted};
+ghost use Rattle.history_trials.specs.Seated.{IsPinned};
 
+use crate::seats::{make_seats, pin, pop_writer, unpin};
 use base_shards::{BaseShards, Naming, SHARDS};
 use join_types::{Pair, Write};
 use key_space::{Key, Range, Value};
@@ -19,7 +22,7 @@ use steps::Steps;
 use write_history::{History, Pass};
 
 /// Puts the value at the key, or removes the key, and says at which position.
-fn write<R: Wait + Abort>(
+pub fn write<R: Wait + Abort>(
     rt: &R,
     alloc: Global,
     history: &History,
@@ -30,6 +33,7 @@ fn write<R: Wait + Abort>(
     requires { MayAppend history.now pass.old }
     ensures may { MayAppend history.now pass.new }
     ensures seen { HasSeen history.now pass.new result }
+    ensures mark { pass.new.mark ≡ pass.old.mark }
 {
     let key = Key::read(alloc, key).expect(rt, "a key");
     let write = match value {
@@ -41,32 +45,13 @@ fn write<R: Wait + Abort>(
         .expect(rt, "no cause against it")
 }
 
-/// A history, and so many passes of it.
-fn make_history(alloc: Global, count: u32) -> Result<(History, Vec<Pass>), OutOfMemory>
-    requires { 0 < count }
-    ensures count { IfOk result (λ made. length made.1.items ≡ count) }
-    ensures each { IfOk result (λ made. All (λ p. MayAppend made.0 p) made.1.items) }
-{
-    History::new(alloc, count)
-}
-
-/// Takes out the last pass.
-fn pop_pass(rt: &impl Abort, history: &History, passes: &mut Vec<Pass>) -> Pass
-    requires { All (λ p. MayAppend history.now p) passes.old.items }
-    ensures pass { MayAppend history.now result }
-    ensures each { All (λ p. MayAppend history.now p) passes.new.items }
-    ensures count { length passes.new.items + 1 ≡ length passes.old.items }
-{
-    passes.pop().expect(rt, "a pass")
-}
-
 /// The range between two bounds.
-fn range_of(rt: &impl Abort, alloc: Global, low: &str, high: &str) -> Range {
+pub fn range_of(rt: &impl Abort, alloc: Global, low: &str, high: &str) -> Range {
     Range::read(alloc, low, high).expect(rt, "a range")
 }
 
-/// The pairs of the range after the first p entries. The pass has seen so many entries as are known.
-fn pairs<N: Naming, L: Ledger, R: Wait + Abort>(
+/// The pairs of the range after the first p entries. The pass is pinned after so many entries as are known.
+pub fn pairs<N: Naming, L: Ledger, R: Wait + Abort>(
     rt: &R,
     shards: &BaseShards<N>,
     pass: &mut Pass,
@@ -78,18 +63,21 @@ fn pairs<N: Naming, L: Ledger, R: Wait + Abort>(
     requires name { blank.name ≡ L.name }
     requires parts { blank.parts ≡ L.parts }
     requires some { 0 < blank.parts }
-    requires seen { HasSeen N.history pass.old known }
-    ensures seen { HasSeen N.history pass.new known }
+    requires pinned { IsPinned N.history pass.old known }
+    ensures pinned { IsPinned N.history pass.new known }
     ensures may { MayAppend N.history pass.old → MayAppend N.history pass.new }
 {
     let mut steps: Steps<L> = Steps::open(blank);
     assert!(rt; p <= known);
+    let back = known - p;
+    assert!(rt; back <= 65_536);
     let found = shards.pairs_at(rt, pass, p, range, &mut steps);
     found.expect(rt, "memory")
 }
 
-/// The keys that change in the ranges after the first q entries, up to the p-th.
-fn changed<N: Naming, L: Ledger, R: Wait + Abort>(
+/// The keys that change in the ranges after the first q entries, up to the p-th. The pass is pinned after so many entries as are
+/// known.
+pub fn changed<N: Naming, L: Ledger, R: Wait + Abort>(
     rt: &R,
     shards: &BaseShards<N>,
     pass: &mut Pass,
@@ -101,18 +89,21 @@ fn changed<N: Naming, L: Ledger, R: Wait + Abort>(
     requires name { blank.name ≡ L.name }
     requires parts { blank.parts ≡ L.parts }
     requires some { 0 < blank.parts }
-    requires seen { HasSeen N.history pass.old known }
-    ensures { HasSeen N.history pass.new known }
+    requires pinned { IsPinned N.history pass.old known }
+    ensures pinned { IsPinned N.history pass.new known }
+    ensures may { MayAppend N.history pass.old → MayAppend N.history pass.new }
 {
     let (q, p) = between;
     let mut steps: Steps<L> = Steps::open(blank);
     assert!(rt; q <= p && p <= known);
+    let back = known - q;
+    assert!(rt; back <= 65_536);
     let found = shards.changed(rt, pass, q, p, ranges, &mut steps);
     found.expect(rt, "memory")
 }
 
 /// The keys as text, with a space behind each.
-fn named(alloc: Global, keys: Vec<Key>) -> Result<String, Fail> {
+pub fn named(alloc: Global, keys: Vec<Key>) -> Result<String, Fail> {
     let mut text = String::new(alloc);
     for key in keys {
         text.push_str(key.text())?;
@@ -122,7 +113,7 @@ fn named(alloc: Global, keys: Vec<Key>) -> Result<String, Fail> {
 }
 
 /// The pairs as text, with a space behind each.
-fn shown(alloc: Global, pairs: Vec<Pair>) -> Result<String, Fail> {
+pub fn shown(alloc: Global, pairs: Vec<Pair>) -> Result<String, Fail> {
     let mut text = String::new(alloc);
     for pair in pairs {
         text.push_str(pair.key.text())?;
@@ -134,9 +125,10 @@ fn shown(alloc: Global, pairs: Vec<Pair>) -> Result<String, Fail> {
 }
 
 /// Writes puts, one that is put again, and removals, in two tables of different parts, and says at which position the last.
-fn write_rows<R: Wait + Abort>(rt: &R, alloc: Global, history: &History, pass: &mut Pass) -> u64
+pub fn write_rows<R: Wait + Abort>(rt: &R, alloc: Global, history: &History, pass: &mut Pass) -> u64
     requires { MayAppend history.now pass.old }
-    ensures { HasSeen history.now pass.new result }
+    ensures may { MayAppend history.now pass.new }
+    ensures mark { pass.new.mark ≡ pass.old.mark }
 {
     write(rt, alloc, history, pass, "k|b", Some("1"));
     write(rt, alloc, history, pass, "k|a", Some("x"));
@@ -145,6 +137,20 @@ fn write_rows<R: Wait + Abort>(rt: &R, alloc: Global, history: &History, pass: &
     write(rt, alloc, history, pass, "k|b", Some("2"));
     write(rt, alloc, history, pass, "k|a", None)
 }
+
+/// What is read after the first so many of these writes.
+pub const EARLY: [(u64, &str, &str, &str); 10] = [
+    (6, "k|", "k}", "k|b=2 "),
+    (0, "k|", "k}", ""),
+    (1, "k|", "k}", "k|b=1 "),
+    (2, "k|", "k}", "k|a=x k|b=1 "),
+    (4, "k|", "k}", "k|a=x k|b=1 "),
+    (5, "k|", "k}", "k|a=x k|b=2 "),
+    (5, "k|b", "k|c", "k|b=2 "),
+    (3, "j|", "j}", ""),
+    (4, "j|", "j}", "j|z=9 "),
+    (6, "i|", "i}", ""),
+];
 
 /// The rows are written and read by one pass; the part is at the last position first, and is read at earlier ones then.
 fn read_rows<N: Naming, R: Wait + Abort>(
@@ -156,25 +162,16 @@ fn read_rows<N: Naming, R: Wait + Abort>(
 ) -> Result<(), Fail>
     requires named { arc_value history ≡ N.history }
     requires count { length passes.items ≡ 16 }
-    requires each { All (λ p. MayAppend N.history p) passes.items }
+    requires each { All (λ p. p.history ≡ N.history) passes.items }
+    requires noted { All (λ p. p.mark ≡ Noted 0) passes.items }
     requires writer { MayAppend N.history pass }
+    requires free { pass.mark ≡ Free }
 {
     let shards: BaseShards<N> = BaseShards::new(alloc, Arc::try_clone(&history)?, passes, 4)?;
-    let last = write_rows(rt, alloc, &history, &mut pass);
-    assert!(rt; last == 6);
-    let rows = [
-        (6, "k|", "k}", "k|b=2 "),
-        (0, "k|", "k}", ""),
-        (1, "k|", "k}", "k|b=1 "),
-        (2, "k|", "k}", "k|a=x k|b=1 "),
-        (4, "k|", "k}", "k|a=x k|b=1 "),
-        (5, "k|", "k}", "k|a=x k|b=2 "),
-        (5, "k|b", "k|c", "k|b=2 "),
-        (3, "j|", "j}", ""),
-        (4, "j|", "j}", "j|z=9 "),
-        (6, "i|", "i}", ""),
-    ];
-    for (p, low, high, wanted) in rows {
+    let written = write_rows(rt, alloc, &history, &mut pass);
+    let last = pin(rt, &history, &mut pass);
+    assert!(rt; written == 6 && last == 6);
+    for (p, low, high, wanted) in EARLY {
         let range = range_of(rt, alloc, low, high);
         let found = pairs::<N, Brand, R>(rt, &shards, &mut pass, last, p, &range, Blank::new(1));
         assert!(rt; shown(alloc, found)?.as_str() == wanted);
@@ -190,7 +187,7 @@ fn read_changes<N: Naming, R: Wait + Abort>(
     pass: &mut Pass,
     last: u64,
 ) -> Result<(), Fail>
-    requires { HasSeen N.history pass.old last }
+    requires { IsPinned N.history pass.old last }
 {
     let mut ranges = Vec::new(alloc);
     ranges.push(range_of(rt, alloc, "k|", "k}"))?;
@@ -221,13 +218,43 @@ fn read_changes<N: Naming, R: Wait + Abort>(
 #[test]
 fn one_thread_reads_at_every_position(rt: HostRuntime) -> Result<(), Fail> {
     let alloc = rt.alloc();
-    let (history, mut passes) = make_history(alloc, 17)?;
-    let pass = pop_pass(&rt, &history, &mut passes);
-    read_rows::<Brand, _>(&rt, alloc, Arc::new(alloc, history)?, passes, pass)
+    let mut seats = make_seats(alloc, 1, 0, 16, 0)?;
+    let pass = pop_writer(&rt, &seats.history, &mut seats.writers);
+    let history = Arc::new(alloc, seats.history)?;
+    read_rows::<Brand, _>(&rt, alloc, history, seats.shards, pass)
+}
+
+/// Reads a table at the position of a put, which has so many keys then, and at that of the first one, and counts the pairs of another
+/// table. The pass is pinned meanwhile.
+fn read_both<N: Naming, R: Wait + Abort>(
+    rt: &R,
+    history: &History,
+    shards: &BaseShards<N>,
+    pass: &mut Pass,
+    tables: (&Range, &Range),
+    positions: (u64, u64),
+    count: usize,
+) -> usize
+    requires named { history.now ≡ N.history }
+    requires writer { MayAppend N.history pass.old }
+    requires free { pass.old.mark ≡ Free }
+    ensures writer { MayAppend N.history pass.new }
+    ensures free { pass.new.mark ≡ Free }
+{
+    let (mine, theirs) = tables;
+    let (first, last) = positions;
+    let at = pin(rt, history, pass);
+    let found = pairs::<N, Brand, R>(rt, shards, pass, at, last, mine, Blank::new(1));
+    assert!(rt; found.len() == count);
+    let found = pairs::<N, Brand, R>(rt, shards, pass, at, first, mine, Blank::new(1));
+    assert!(rt; found.len() == 1);
+    let found = pairs::<N, Brand, R>(rt, shards, pass, at, last, theirs, Blank::new(1));
+    unpin(rt, history, pass, at);
+    found.len()
 }
 
 /// Puts a value at so many keys of a table, and reads the table at the position of each put, at that of the first one,
-/// and another table. Says at which position the last put entered.
+/// and another table.
 fn put_and_read<N: Naming, R: Wait + Abort>(
     rt: &R,
     alloc: Global,
@@ -236,31 +263,30 @@ fn put_and_read<N: Naming, R: Wait + Abort>(
     mut pass: Pass,
     own: &str,
     other: &str,
-) -> (Pass, u64)
+) -> Pass
     requires named { history.now ≡ N.history }
     requires writer { MayAppend N.history pass }
-    ensures { HasSeen N.history result.0 result.1 }
+    requires free { pass.mark ≡ Free }
+    ensures writer { MayAppend N.history result }
+    ensures free { result.mark ≡ Free }
 {
     let mine = table(rt, alloc, own);
     let theirs = table(rt, alloc, other);
     let mut first = 0;
-    let mut last = 0;
     let mut met = 0;
     for number in 0..COUNT {
         let key = format!(in alloc; "{own}|{number}").expect(rt, "memory");
-        last = write(rt, alloc, history, &mut pass, key.as_str(), Some("1"));
+        let last = write(rt, alloc, history, &mut pass, key.as_str(), Some("1"));
         if number == 0 {
             first = last;
         }
-        let found = pairs::<N, Brand, R>(rt, shards, &mut pass, last, last, &mine, Blank::new(1));
-        assert!(rt; found.len() == number.saturating_add(1));
-        let found = pairs::<N, Brand, R>(rt, shards, &mut pass, last, first, &mine, Blank::new(1));
-        assert!(rt; found.len() == 1);
-        let found = pairs::<N, Brand, R>(rt, shards, &mut pass, last, last, &theirs, Blank::new(1));
-        assert!(rt; met <= found.len() && found.len() <= COUNT);
-        met = found.len();
+        let tables = (&mine, &theirs);
+        let count = number.saturating_add(1);
+        let found = read_both(rt, history, shards, &mut pass, tables, (first, last), count);
+        assert!(rt; met <= found && found <= COUNT);
+        met = found;
     }
-    (pass, last)
+    pass
 }
 
 /// How many keys a thread puts: those of two threads are more than a part takes at a time.
@@ -285,18 +311,20 @@ fn two_put_and_read<N: Naming + Send + Sync, R: Threads + Wait + Abort + Sync>(
 ) -> Result<(), Fail>
     requires named { arc_value history ≡ N.history }
     requires count { length passes.items ≡ 16 }
-    requires each { All (λ p. MayAppend N.history p) passes.items }
+    requires each { All (λ p. p.history ≡ N.history) passes.items }
+    requires noted { All (λ p. p.mark ≡ Noted 0) passes.items }
     requires writers { MayAppend N.history first × MayAppend N.history second }
+    requires free { (first.mark ≡ Free) × (second.mark ≡ Free) }
 {
     let shards: BaseShards<N> = BaseShards::new(alloc, Arc::try_clone(&history)?, passes, 0)?;
     let (history, shards) = (&*history, &shards);
-    let ((mut first, one), (mut second, other)) = thread::join(
+    let (mut first, mut second) = thread::join(
         rt,
         move || put_and_read(rt, alloc, history, shards, first, "a", "b"),
         move || put_and_read(rt, alloc, history, shards, second, "b", "a"),
     );
     history.meet(rt, &mut first, &mut second);
-    let last = one.max(other);
+    let last = pin(rt, history, &mut first);
     assert!(rt; last == 1_040);
     for (name, count) in [("a", COUNT), ("b", COUNT), ("c", 0)] {
         let whole = table(rt, alloc, name);
@@ -309,10 +337,11 @@ fn two_put_and_read<N: Naming + Send + Sync, R: Threads + Wait + Abort + Sync>(
 #[test]
 fn two_threads_put_and_read(rt: HostRuntime) -> Result<(), Fail> {
     let alloc = rt.alloc();
-    let (history, mut passes) = make_history(alloc, 18)?;
-    let second = pop_pass(&rt, &history, &mut passes);
-    let first = pop_pass(&rt, &history, &mut passes);
-    two_put_and_read::<Brand, _>(&rt, alloc, Arc::new(alloc, history)?, passes, first, second)
+    let mut seats = make_seats(alloc, 2, 0, 16, 0)?;
+    let second = pop_writer(&rt, &seats.history, &mut seats.writers);
+    let first = pop_writer(&rt, &seats.history, &mut seats.writers);
+    let history = Arc::new(alloc, seats.history)?;
+    two_put_and_read::<Brand, _>(&rt, alloc, history, seats.shards, first, second)
 }
 
 /// Follows the ranges between these bounds for an id.
@@ -377,7 +406,8 @@ fn mark_rows<N: Naming, R: Wait + Abort>(
 ) -> Result<(), Fail>
     requires named { arc_value history ≡ N.history }
     requires count { length passes.items ≡ 16 }
-    requires each { All (λ p. MayAppend N.history p) passes.items }
+    requires each { All (λ p. p.history ≡ N.history) passes.items }
+    requires noted { All (λ p. p.mark ≡ Noted 0) passes.items }
     requires writer { MayAppend N.history pass }
 {
     let shards: BaseShards<N> = BaseShards::new(alloc, Arc::try_clone(&history)?, passes, 4)?;
@@ -415,7 +445,8 @@ fn mark_rows<N: Naming, R: Wait + Abort>(
 #[test]
 fn ids_are_marked_by_what_is_written(rt: HostRuntime) -> Result<(), Fail> {
     let alloc = rt.alloc();
-    let (history, mut passes) = make_history(alloc, 17)?;
-    let pass = pop_pass(&rt, &history, &mut passes);
-    mark_rows::<Brand, _>(&rt, alloc, Arc::new(alloc, history)?, passes, pass)
+    let mut seats = make_seats(alloc, 1, 0, 16, 0)?;
+    let pass = pop_writer(&rt, &seats.history, &mut seats.writers);
+    let history = Arc::new(alloc, seats.history)?;
+    mark_rows::<Brand, _>(&rt, alloc, history, seats.shards, pass)
 }

@@ -72,6 +72,17 @@ fn advance(rt: &impl Abort, base: &mut BaseVersions, entries: &[Entry]) -> Resul
     Ok(())
 }
 
+/// Lets go of what nobody asks for who asks from a position on.
+fn trim(rt: &impl Abort, base: &mut BaseVersions, to: u64)
+    ensures shard { base.new.shard ≡ base.old.shard }
+    ensures shards { base.new.shards ≡ base.old.shards }
+{
+    let position = base.position();
+    assert!(rt; base.start() <= to && to <= position);
+    base.trim(to);
+    assert!(rt; base.start() == to && base.position() == position);
+}
+
 /// The pairs of a range at a position, as text.
 fn pairs<L: Ledger>(
     rt: &impl Abort,
@@ -89,7 +100,7 @@ fn pairs<L: Ledger>(
     let (p, low, high) = at;
     let range = Range::read(alloc, low, high).expect(rt, "a range");
     let mut steps: Steps<L> = Steps::open(blank);
-    assert!(rt; p <= base.position());
+    assert!(rt; base.start() <= p && p <= base.position());
     let found = base.pairs_at(p, &range, &mut steps)?;
     let mut text = String::new(alloc);
     for pair in found {
@@ -118,7 +129,7 @@ fn changed<L: Ledger>(
     let (q, p, low, high) = at;
     let range = Range::read(alloc, low, high).expect(rt, "a range");
     let mut steps: Steps<L> = Steps::open(blank);
-    assert!(rt; q <= p && p <= base.position());
+    assert!(rt; base.start() <= q && q <= p && p <= base.position());
     let found = base.changed(q, p, &range, &mut steps)?;
     let mut text = String::new(alloc);
     for key in found {
@@ -137,28 +148,111 @@ fn longest(alloc: Global, text: &str) -> Result<String, Fail> {
     Ok(whole)
 }
 
+/// The pairs of the table `k` after so many entries.
+const PAIRS: [(u64, &str); 11] = [
+    (0, ""),
+    (1, "k|b=1 "),
+    (2, "k|a=x k|b=1 "),
+    (3, "k|a=x k|b=1 "),
+    (4, "k|a=x k|b=2 "),
+    (5, "k|a=x k|b=2 "),
+    (6, "k|b=2 "),
+    (7, "k|b=2 "),
+    (8, "k|b=2 k|d=y "),
+    (9, "k|d=y "),
+    (10, "k|b=3 k|d=y "),
+];
+
+/// The keys of the table `k` that change after so many entries, up to so many.
+const CHANGES: [(u64, u64, &str); 10] = [
+    (0, 0, ""),
+    (0, 10, "k|a k|b k|c k|d "),
+    (1, 6, "k|a k|b k|c "),
+    (2, 3, "k|c "),
+    (3, 5, "k|b "),
+    (4, 5, ""),
+    (5, 6, "k|a "),
+    (6, 10, "k|b k|d "),
+    (9, 10, "k|b "),
+    (10, 10, ""),
+];
+
+/// The pairs of the table at each position from one on.
+fn expect_pairs(rt: &impl Abort, alloc: Global, base: &BaseVersions, from: u64) -> Result<(), Fail>
+    requires one { base.now.shards ≡ 1 }
+    requires first { base.now.shard ≡ 0 }
+{
+    for (p, wanted) in PAIRS {
+        if from <= p {
+            let found = pairs::<Brand>(rt, alloc, base, (p, "k|", "k}"), Blank::new(1))?;
+            assert!(rt; found.as_str() == wanted);
+        }
+    }
+    Ok(())
+}
+
+/// The keys that change in the table after each position from one on.
+fn expect_changes(
+    rt: &impl Abort,
+    alloc: Global,
+    base: &BaseVersions,
+    from: u64,
+) -> Result<(), Fail>
+    requires one { base.now.shards ≡ 1 }
+    requires first { base.now.shard ≡ 0 }
+{
+    for (q, p, wanted) in CHANGES {
+        if from <= q {
+            let found = changed::<Brand>(rt, alloc, base, (q, p, "k|", "k}"), Blank::new(1))?;
+            assert!(rt; found.as_str() == wanted);
+        }
+    }
+    Ok(())
+}
+
 #[test]
 fn pairs_at_positions(rt: HostRuntime) -> Result<(), Fail> {
     let alloc = rt.alloc();
     let base = known(&rt, alloc, 0, 1)?;
-    let rows = [
-        (0, ""),
-        (1, "k|b=1 "),
-        (2, "k|a=x k|b=1 "),
-        (3, "k|a=x k|b=1 "),
-        (4, "k|a=x k|b=2 "),
-        (5, "k|a=x k|b=2 "),
-        (6, "k|b=2 "),
-        (7, "k|b=2 "),
-        (8, "k|b=2 k|d=y "),
-        (9, "k|d=y "),
-        (10, "k|b=3 k|d=y "),
-    ];
-    for (p, wanted) in rows {
-        let found = pairs::<Brand>(&rt, alloc, &base, (p, "k|", "k}"), Blank::new(1))?;
-        assert!(rt; found.as_str() == wanted);
+    expect_pairs(&rt, alloc, &base, 0)
+}
+
+#[test]
+fn what_is_trimmed_is_read_from_the_start_on(rt: HostRuntime) -> Result<(), Fail> {
+    let alloc = rt.alloc();
+    let mut base = known(&rt, alloc, 0, 1)?;
+    for to in [0, 1, 2, 3, 5, 6, 9, 10] {
+        trim(&rt, &mut base, to);
+        expect_pairs(&rt, alloc, &base, to)?;
+        expect_changes(&rt, alloc, &base, to)?;
     }
     Ok(())
+}
+
+#[test]
+fn what_is_trimmed_at_once_is_read_from_the_start_on(rt: HostRuntime) -> Result<(), Fail> {
+    let alloc = rt.alloc();
+    for to in 0..=10 {
+        let mut base = known(&rt, alloc, 0, 1)?;
+        trim(&rt, &mut base, to);
+        expect_pairs(&rt, alloc, &base, to)?;
+        expect_changes(&rt, alloc, &base, to)?;
+    }
+    Ok(())
+}
+
+#[test]
+fn entries_come_after_a_trim(rt: HostRuntime) -> Result<(), Fail> {
+    let alloc = rt.alloc();
+    let entries = entries(&rt, alloc)?;
+    assert!(rt; entries.len() == 10);
+    let mut base = BaseVersions::new(alloc, 0, 1);
+    advance(&rt, &mut base, &entries[..6])?;
+    trim(&rt, &mut base, 6);
+    advance(&rt, &mut base, &entries[6..])?;
+    assert!(rt; base.start() == 6 && base.position() == 10);
+    expect_pairs(&rt, alloc, &base, 6)?;
+    expect_changes(&rt, alloc, &base, 6)
 }
 
 #[test]
@@ -190,19 +284,12 @@ fn changed_keys(rt: HostRuntime) -> Result<(), Fail> {
     let alloc = rt.alloc();
     let base = known(&rt, alloc, 0, 1)?;
     let longest = longest(alloc, "k|a")?;
+    expect_changes(&rt, alloc, &base, 0)?;
     let rows = [
-        (0, 0, "k|", "k}", ""),
-        (0, 10, "k|", "k}", "k|a k|b k|c k|d "),
-        (2, 3, "k|", "k}", "k|c "),
-        (3, 5, "k|", "k}", "k|b "),
-        (4, 5, "k|", "k}", ""),
         (4, 5, "j|", "j}", "j|z "),
-        (5, 6, "k|", "k}", "k|a "),
-        (6, 10, "k|", "k}", "k|b k|d "),
         (0, 10, "k|b", "k|d", "k|b k|c "),
         (0, 10, "k|", longest.as_str(), "k|a "),
         (0, 10, longest.as_str(), "k}", "k|b k|c k|d "),
-        (10, 10, "k|", "k}", ""),
         (0, 10, "a|", "a}", ""),
     ];
     for (q, p, low, high, wanted) in rows {
@@ -212,39 +299,51 @@ fn changed_keys(rt: HostRuntime) -> Result<(), Fail> {
     Ok(())
 }
 
+/// The values at keys of the second of two shards after so many entries.
+const VALUES: [(u64, &str, Option<&str>); 10] = [
+    (0, "k|b", None),
+    (1, "k|b", Some("1")),
+    (3, "k|b", Some("1")),
+    (7, "k|b", Some("2")),
+    (9, "k|b", None),
+    (10, "k|b", Some("3")),
+    (5, "k|a", Some("x")),
+    (6, "k|a", None),
+    (10, "k|c", None),
+    (10, "k|e", None),
+];
+
+/// The values at each position from one on.
+fn expect_values(rt: &impl Abort, alloc: Global, base: &BaseVersions, from: u64)
+    requires two { base.now.shards ≡ 2 }
+    requires second { base.now.shard ≡ 1 }
+{
+    for (p, text, wanted) in VALUES {
+        if from <= p {
+            let key = key(rt, alloc, text);
+            assert!(rt; value_at(rt, base, p, &key) == wanted);
+        }
+    }
+}
+
 #[test]
 fn values_at_positions(rt: HostRuntime) -> Result<(), Fail> {
     let alloc = rt.alloc();
-    let base = known(&rt, alloc, 1, 2)?;
-    let rows = [
-        (0, "k|b", None),
-        (1, "k|b", Some("1")),
-        (3, "k|b", Some("1")),
-        (7, "k|b", Some("2")),
-        (9, "k|b", None),
-        (10, "k|b", Some("3")),
-        (5, "k|a", Some("x")),
-        (6, "k|a", None),
-        (10, "k|c", None),
-        (10, "k|e", None),
-    ];
-    for (p, text, wanted) in rows {
-        let key = key(&rt, alloc, text);
-        assert!(rt; p <= base.position());
-        let found = value_at(&rt, &base, p, &key);
-        assert!(rt; found == wanted);
+    for to in 0..=10 {
+        let mut base = known(&rt, alloc, 1, 2)?;
+        trim(&rt, &mut base, to);
+        expect_values(&rt, alloc, &base, to);
     }
     Ok(())
 }
 
 /// The value at a key of the second of two shards, as text.
 fn value_at<'a>(rt: &impl Abort, base: &'a BaseVersions, p: u64, key: &Key) -> Option<&'a str>
-    requires within { p ≤ base.now.position }
     requires two { base.now.shards ≡ 2 }
     requires second { base.now.shard ≡ 1 }
 {
     let shard = shard_of(key.table(), 2);
-    assert!(rt; shard == 1);
+    assert!(rt; shard == 1 && base.start() <= p && p <= base.position());
     match base.get_at(p, key) {
         None => None,
         Some(value) => Some(value.text()),

@@ -1,6 +1,6 @@
 // What is written to links that two workers serve, or one alone, and how serving ends, with ample memory.
 ghost use Rattle.std.specs.Prelude.{◌≡◌, ◌≤◌, IfOk, length};
-ghost use Rattle.pequod_cache.specs.Sitting.{AreOf, AreWriters, IsFresh};
+ghost use Rattle.pequod_cache.specs.Sitting.{AreOf, AreOfParts, AreWriters, IsFresh};
 ghost use Rattle.join_types.specs.declared.write.Write.TheVariants.{Declare};
 ghost use Rattle.server.specs.Staffs.{AreDeclarable};
 
@@ -50,7 +50,7 @@ fn make_seats(alloc: Global, clients: u32) -> Result<Seats, OutOfMemory>
     requires few { clients ≤ 65 }
     ensures clients { IfOk result (λ seats. AreWriters seats.history (length seats.clients.items) seats.clients.items) }
     ensures two { IfOk result (λ seats. 2 ≤ length seats.clients.items) }
-    ensures shards { IfOk result (λ seats. AreOf seats.history 16 seats.shards.items) }
+    ensures shards { IfOk result (λ seats. AreOfParts seats.history seats.shards.items) }
     ensures cells { IfOk result (λ seats. AreOf seats.history (length seats.cells.items) seats.cells.items) }
     ensures count { IfOk result (λ seats. length seats.cells.items ≡ 4) }
     ensures updater { IfOk result (λ seats. IsFresh seats.history seats.updater) }
@@ -69,7 +69,7 @@ fn serve<N: Naming + Send + Sync, R: Threads + Wait + Abort + Sync>(
     requires named { seats.history ≡ N.history }
     requires clients { AreWriters N.history (length seats.clients.items) seats.clients.items }
     requires two { 2 ≤ length seats.clients.items }
-    requires shards { AreOf N.history 16 seats.shards.items }
+    requires shards { AreOfParts N.history seats.shards.items }
     requires cells { AreOf N.history (length seats.cells.items) seats.cells.items }
     requires count { length seats.cells.items ≡ 4 }
     requires updater { IsFresh N.history seats.updater }

@@ -1,5 +1,5 @@
-use Rattle.write_history.specs.Passes.{MayAppend}
+use Rattle.cache_trials.specs.Passes.{IsWriter}
 use Rattle.cache_trials.proofs.flips.write_all.Given as goal
 
 abbrev pub invariant-loop-text : goal.invariant-loop-text
-invariant-loop-text g l = MayAppend l.history l.pass
+invariant-loop-text g l = IsWriter l.history l.pass

@@ -17,9 +17,9 @@ max_within a b bound first second = grind (arith, common_steps)
 
 pub loop-pass-preserved : goal.loop-pass-preserved
 loop-pass-preserved g c =
-    let now = one_more (λ p. HasSeen c.args.history.now p.0 p.1) _ _ _ c.in-Some.ensures.steps.0 c.loop-pass.invariant.3 in
+    let now = one_more (λ p. HasSeen c.args.history.now p.0 p.1) _ _ _ c.in-Some.ensures.steps.0 c.loop-pass.invariant.4 in
     let longer = prefix_length _ _ c.meet.ensures.first.begins in
     let other = prefix_length _ _ c.meet.ensures.told.1 in
     let first : c.loop-pass.last ≤ length c.meet.new.a.view = omega (arith, c.loop-pass.invariant.2.within) in
     let second : c.in-Some.position ≤ length c.meet.new.a.view = omega (arith, now.0.within) in
-    (tt, tt, record { same_history = c.meet.ensures.first.same_history ∙ c.loop-pass.invariant.2.same_history; within = subst (λ n. n ≤ length c.meet.new.a.view) (sym c.max-last.ensures) (max_within _ _ _ first second) }, now.1)
+    (tt, tt, record { same_history = c.meet.ensures.first.same_history ∙ c.loop-pass.invariant.2.same_history; within = subst (λ n. n ≤ length c.meet.new.a.view) (sym c.max-last.ensures) (max_within _ _ _ first second) }, c.meet.ensures.first.same_mark ∙ c.loop-pass.invariant.3, now.1)

@@ -1,5 +1,0 @@
-use Rattle.cache_trials.proofs.kept.play_row.Given as goal
-
--- the history that was just made
-abbrev pub ghosts-play : goal.ghosts-play
-ghosts-play g a = record { history = a.seats.history }

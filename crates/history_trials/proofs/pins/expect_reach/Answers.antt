@@ -1,0 +1,6 @@
+use Rattle.std.proofs.Common.{◌∙◌}
+use Rattle.history_trials.proofs.SeatTrialLemmas.{asks_from_reach}
+use Rattle.history_trials.proofs.pins.expect_reach.Goals as goal
+
+pub reach-first-requires-clause-pinned : goal.reach-first-requires-clause-pinned
+reach-first-requires-clause-pinned g c = (c.args.at, c.requires.pinned)

@@ -1,4 +1,0 @@
-use Rattle.history_trials.proofs.versions.pairs_at_positions.Given as goal
-
-abbrev pub ghosts-pairs : goal.ghosts-pairs
-ghosts-pairs g a = record { name = a.blank.name; parts = a.blank.parts }

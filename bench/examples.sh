@@ -78,6 +78,15 @@ attempt "a load of 2,000 acts with one row kept" 0 "$folder/wanted" load --numbe
 attempt "a load of 2,000 acts by 4 workers" 0 "$folder/wanted" load --number 7 --steps 2000 --workers 4
 attempt "a load of 2,000 acts by 4 workers with one row kept" 0 "$folder/wanted" load --number 7 --steps 2000 --workers 4 --rows 1
 attempt "a load of 2,000 acts by 64 workers" 0 "$folder/wanted" load --number 7 --steps 2000 --workers 64
+"$program" load --steps 100000 --users 1000 > "$folder/wanted" 2> /dev/null
+attempt "a load of 100,000 acts by 4 workers as by one" 0 "$folder/wanted" load --steps 100000 --users 1000 --workers 4
+
+# A million puts of a thousand keys, in less room than all entries or all versions would take: what is old goes.
+seq 1000000 | awk '{ printf "[\"put\",\"k|%d\",\"%d\"]\n", $1 % 1000, $1 } END { print "[\"get\",\"k|1\"]" }' > "$folder/puts"
+echo '["value",1000000,"999001"]' > "$folder/wanted"
+(ulimit -v 60000; "$program" run < "$folder/puts") 2> "$folder/message" | tail -n 1 > "$folder/written"
+judge "a million puts in 60 MB" 0 "${PIPESTATUS[0]}" "$folder/wanted"
+
 attempt "a script that is not there" 9 /dev/null replay none
 attempt "a file that is not there" 9 /dev/null check none
 attempt "a server's joins file that is refused" 7 clash.written serve 127.0.0.1:0 --joins clash.joins

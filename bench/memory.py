@@ -1,7 +1,8 @@
 #!/usr/bin/env python3
 """Prints what memory the built program takes as a server, by its resident memory: at the start, for each cell, for an idle
-connection, for each kind of write, for each row that is kept, for each pair of which an aggregate is kept, and for each range
-of stored pairs that a kept range was made of. It writes with the client of clients/python.
+connection, for each kind of write as long as it is among the last ones, for a pair that stands, after many puts at a few keys,
+for each row that is kept, for each pair of which an aggregate is kept, and for each range of stored pairs that a kept range was
+made of. It writes with the client of clients/python.
 
 Usage: bench/memory.py PROGRAM
 It wants Linux, whose /proc tells the memory of a process, and about 1 GB of memory.
@@ -18,6 +19,8 @@ import pequod  # noqa: E402
 JOIN = "t|<user>|<time>|<poster> = check s|<user>|<poster> copy p|<poster>|<time>"
 COUNT = "karma|<author> = count v|<author>|<voter>"
 WRITES = 200_000
+MANY_WRITES = 1_000_000
+LAST = 60_000
 BATCH = 5_000
 READERS = 200
 POSTS = 5_000
@@ -93,21 +96,38 @@ def measure_connections(path):
             client.close()
 
 
-def measure_writes(path):
+def measure_last_writes(path):
     kinds = (
         ("a put of a new key of 8 bytes and a value of 5", lambda to, number: to.put(f"k|{number + BATCH:06}", "value")),
-        ("a put of 5 bytes at a key that stands", lambda to, number: to.put(f"k|{number % 1_000 + BATCH:06}", "other")),
-        ("a put of 200 bytes at a key that stands", lambda to, number: to.put(f"k|{number % 1_000 + BATCH:06}", "x" * 200)),
-        ("a remove", lambda to, number: to.remove(f"k|{number % 1_000 + BATCH:06}")),
+        ("a put of 5 bytes at a key that stands", lambda to, number: to.put(f"k|{number % 1_000:06}", "other")),
+        ("a put of 200 bytes at a key that stands", lambda to, number: to.put(f"k|{number % 1_000:06}", "x" * 200)),
+        ("a remove", lambda to, number: to.remove(f"k|{number % 1_000:06}")),
     )
-    with Server(path) as server, server.connect() as client:
-        do_all(client, lambda to, number: to.put(f"k|{number:06}", "value"), BATCH)
-        for name, make in kinds:
-            before, clock = server.kilobytes(), time.perf_counter()
-            count = do_all(client, make, WRITES)
-            seconds = time.perf_counter() - clock
+    for name, make in kinds:
+        with Server(path) as server, server.connect() as client:
+            do_all(client, lambda to, number: to.put(f"k|{number:06}", "value"), BATCH)
+            before = server.kilobytes()
+            count = do_all(client, make, LAST)
             each = (server.kilobytes() - before) * 1024 / count
-            print(f"{name}: {each:.0f} bytes, {count / seconds:.0f} a second in pipelines of {BATCH}")
+            print(f"{name}, as long as it is among the last writes: {each:.0f} bytes")
+
+
+def measure_pairs(path):
+    with Server(path) as server, server.connect() as client:
+        do_all(client, lambda to, number: to.put(f"k|{number:06}", "value"), WRITES)
+        before = server.kilobytes()
+        count = do_all(client, lambda to, number: to.put(f"k|{number + WRITES:06}", "value"), WRITES)
+        each = (server.kilobytes() - before) * 1024 / count
+        print(f"a pair that stands, with a key of 8 bytes and a value of 5, past the last writes: {each:.0f} bytes")
+
+
+def measure_overwrites(path):
+    with Server(path) as server, server.connect() as client:
+        for done in range(WRITES, MANY_WRITES + 1, WRITES):
+            clock = time.perf_counter()
+            do_all(client, lambda to, number: to.put(f"k|{number % 1_000:06}", "other"), WRITES)
+            rate = WRITES / (time.perf_counter() - clock)
+            print(f"after {done} puts at 1,000 keys: {server.kilobytes()} kB; {rate:.0f} a second in pipelines of {BATCH}")
 
 
 def measure_rows(path):
@@ -143,10 +163,22 @@ def measure_ranges(path):
         print(f"a range that a kept range was made of, that of a followed poster with no posts: {each:.0f} bytes, over {ranges} ranges")
 
 
+MEASURES = (
+    measure_start,
+    measure_connections,
+    measure_last_writes,
+    measure_pairs,
+    measure_overwrites,
+    measure_rows,
+    measure_sources,
+    measure_ranges,
+)
+
+
 def main():
     if len(sys.argv) != 2:
         sys.exit(__doc__)
-    for measure in (measure_start, measure_connections, measure_writes, measure_rows, measure_sources, measure_ranges):
+    for measure in MEASURES:
         measure(sys.argv[1])
 
 

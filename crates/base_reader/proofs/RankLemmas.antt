@@ -28,10 +28,10 @@ join_of_number joins i at j is also =
     (i, there.1 ∙ ap (λ k. Some (record { position = at; join = k })) same)
 
 -- it was declared there, in each history in which these are the joins at some position
-pub join_declared : (h : History) (p at : ℕ) (joins : Joins) (j : Join) → AreJoins 0 joins (take p h) → IsJoinIn joins.standing at (Some j) → IsDeclared h at j
+pub join_declared : {floor : ℕ} (h : History) (p at : ℕ) (joins : Joins) (j : Join) → AreJoins floor joins (take p h) → IsJoinIn joins.standing at (Some j) → IsDeclared h at j
 join_declared h p at joins j are found =
     standing_declared h p found.0 (record { position = at; join = j }) (ap (λ js. slice_get js found.0) (sym are.standing) ∙ found.1)
 
 -- the join that was declared at a position and stands after the first p entries is among these joins
-pub join_among : (h : History) (p at rank : ℕ) (joins : Joins) (j : Join) → AreJoins 0 joins (take p h) → StandsAs h p at rank j → IsJoinIn joins.standing at (Some j)
+pub join_among : {floor : ℕ} (h : History) (p at rank : ℕ) (joins : Joins) (j : Join) → AreJoins floor joins (take p h) → StandsAs h p at rank j → IsJoinIn joins.standing at (Some j)
 join_among h p at rank joins j are stands = (stands.stands.place, ap (λ js. slice_get js stands.stands.place) are.standing ∙ stands.stands.stands)

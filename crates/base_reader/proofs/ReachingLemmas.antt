@@ -101,15 +101,15 @@ picked_all range rank joins i ats past is =
 -- ---- what is said of the joins between two positions
 
 pub steady_between : (joins : Joins) (q : ℕ) (range : Range) → joins.changed ≤ q → SaysBetween joins q range Steady
-steady_between joins q range upto h p order within are = omega (arith, upto, are.changed)
+steady_between joins q range upto h p floor above order within are = omega (arith, upto, are.changed)
 
 pub bare_between : (joins : Joins) (q : ℕ) (range : Range) → bare_since q (table_of range.low) joins ≡ true → SaysBetween joins q range Bare
-bare_between joins q range bare h p order within are = (bare_by_joins joins h q p range order within are).0 bare
+bare_between joins q range bare h p floor above order within are = (bare_by_joins floor joins h q p range above order within are).0 bare
 
 pub other_between : (joins : Joins) (q : ℕ) (range : Range) → q < joins.changed → bare_since q (table_of range.low) joins ≡ false → SaysBetween joins q range Other
-other_between joins q range later computed h p order within are = (
+other_between joins q range later computed h p floor above order within are = (
   omega (arith, later, are.changed),
-  λ bare. false≢true (sym computed ∙ (bare_by_joins joins h q p range order within are).1 bare),
+  λ bare. false≢true (sym computed ∙ (bare_by_joins floor joins h q p range above order within are).1 bare),
 )
 
 -- ---- joins that hide nothing

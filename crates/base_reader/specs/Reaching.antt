@@ -28,9 +28,9 @@ abbrev pub IsJoinIn : List DeclaredJoin → ℕ → Option Join → Type 0
 IsJoinIn joins at None = StandsNot joins at
 IsJoinIn joins at (Some j) = (place : ℕ) × (slice_get joins place ≡ Some (record { position = at; join = j }))
 
--- what is said of the joins between a position and the one after which these joins stand
+-- what is said of the joins between a position and the one after which these joins stand, which tell of dropped ones from a floor on
 abbrev pub SaysBetween : Joins → ℕ → Range → Between → Type 0
-SaysBetween joins q range answer = (h : History) (p : ℕ) → q ≤ p → p ≤ length h → AreJoins 0 joins (take p h) → TellsBetween h q p range answer
+SaysBetween joins q range answer = (h : History) (p floor : ℕ) → floor ≤ q → q ≤ p → p ≤ length h → AreJoins floor joins (take p h) → TellsBetween h q p range answer
 
 -- what is answered of keys that were put or removed: these are listed, unless a join is declared or dropped between and the range is not bare throughout
 abbrev pub AnswersKeys : List Text → Between → Changed → Type 0

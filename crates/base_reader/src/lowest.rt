@@ -33,7 +33,8 @@ fn visible<S: BaseSource>(
     p: u64,
     pairs: Vec<Pair>,
 ) -> Result<Vec<Pair>, OutOfMemory>
-    requires { p ≤ length (S.list source.old) }
+    requires within { p ≤ length (S.list source.old) }
+    requires above { S.floor source.old ≤ p }
     ensures visible { IfOk result (λ left. left.items ≡ pairs_where (λ key. not (is_computed (joins_of (take p (S.list source.old))) key)) pairs.items) }
     ensures moves { Moves S.list S.floor S.went source.old source.new }
 {
@@ -81,6 +82,7 @@ pub fn lowest_between<S: BaseSource>(
 ) -> Result<Between, OutOfMemory>
     requires order { q ≤ p }
     requires within { p ≤ length (S.list source.old) }
+    requires above { S.floor source.old ≤ q }
     ensures said { IfOk result (TellsBetween (S.list source.old) q p range.now) }
     ensures moves { Moves S.list S.floor S.went source.old source.new }
 {
@@ -100,7 +102,8 @@ pub fn lowest_reached<S: BaseSource>(
     range: &Range,
     rank: u8,
 ) -> Result<Vec<u64>, OutOfMemory>
-    requires { p ≤ length (S.list source.old) }
+    requires within { p ≤ length (S.list source.old) }
+    requires above { S.floor source.old ≤ p }
     ensures reached { IfOk result (λ ats. ats.items ≡ map (λ s. s.position) (reached range.now rank (joins_of (take p (S.list source.old))))) }
     ensures moves { Moves S.list S.floor S.went source.old source.new }
 {

@@ -68,16 +68,18 @@ pub trait BaseSource {
         ensures counted { steps.old ≤ steps.new }
         ensures cost { IfOk result (λ keys. steps.new ≡ steps.old + 1 + length keys.items) };
 
-    /// Lends the joins after the first p entries, where the source has them at hand. Constant.
+    /// Lends the joins after the first p entries, where the source has them at hand. What they tell of dropped joins holds from the
+    /// floor on. Constant.
     fn joins_at_hand(&self, p: u64) -> Option<&JoinSet>
         requires { p ≤ length (list self.now) }
-        ensures { IfSome (option_copied result) (λ joins. AreJoins 0 joins (take p (list self.now))) };
+        ensures { IfSome (option_copied result) (λ joins. AreJoins (floor self.now) joins (take p (list self.now))) };
 
-    /// Makes the joins after the first p entries. Linear in the joins that were declared; each that stands then is compared with
-    /// each.
+    /// Makes the joins after the first p entries. What they tell of dropped joins holds from the floor on. Linear in the joins that
+    /// stood at the floor or were declared later; each that stands then is compared with each.
     fn make_joins(&mut self, p: u64) -> Result<JoinSet, OutOfMemory>
-        requires { p ≤ length (list self.old) }
-        ensures joins { IfOk result (λ joins. AreJoins 0 joins (take p (list self.old))) }
+        requires within { p ≤ length (list self.old) }
+        requires above { floor self.old ≤ p }
+        ensures joins { IfOk result (λ joins. AreJoins (floor self.old) joins (take p (list self.old))) }
         ensures moves { Moves list floor went self.old self.new };
 
     /// What two calls leave, one after the other.

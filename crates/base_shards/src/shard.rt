@@ -88,7 +88,7 @@ impl<N: Naming> Shard<N> {
     }
 
     /// The shard's pass and the other see what either has seen.
-    fn meet<R: Wait>(&mut self, rt: &R, history: &History, pass: &mut Pass)
+    fn meet<R>(&mut self, rt: &R, history: &History, pass: &mut Pass)
         requires history { history.now ≡ N.history }
         requires same_history { pass.old.history ≡ N.history }
         ensures goes_on { GoesOn pass.old pass.new }

@@ -4,9 +4,10 @@ ghost use Rattle.std.specs.Prelude.{◌<◌, length};
 use join_lang::parse;
 use join_types::Cause;
 use key_space::{Key, Range, Value};
+use plain_history::PlainHistory;
 use rand_core::utils::NextWord;
 use rand_pcg::Lcg64Xsh32;
-use request_codec::{Reply, Request};
+use request_codec::{Reply, Request, write};
 use session::Service;
 use std::alloc::Global;
 use std::process::Abort;
@@ -51,6 +52,48 @@ const TIMES: u32 = 4;
 /// Of so many requests one declares or drops a join.
 const REQUESTS_FOR_A_CHANGE: u32 = 32;
 
+/// Of `OTHERS` requests that neither declare nor drop a join so many are scans.
+const SCANS: u32 = 19;
+
+/// How many there are of those requests and scans together.
+const OTHERS: u32 = 33;
+
+/// What a scan goes over.
+#[derive(Clone, Copy)]
+enum View {
+    Timeline,
+    /// All timelines from the midst of one on.
+    Timelines,
+    Tops,
+    Page,
+    Walls,
+    /// All of the table at a place of `TABLES`.
+    Whole(usize),
+}
+
+/// The views as they are drawn, each as often as it stands here.
+const VIEWS: [View; 19] = [
+    View::Timeline,
+    View::Timeline,
+    View::Timeline,
+    View::Timelines,
+    View::Timelines,
+    View::Tops,
+    View::Tops,
+    View::Tops,
+    View::Page,
+    View::Page,
+    View::Page,
+    View::Walls,
+    View::Walls,
+    View::Walls,
+    View::Whole(1),
+    View::Whole(2),
+    View::Whole(3),
+    View::Whole(8),
+    View::Whole(9),
+];
+
 /// A kind of request.
 #[derive(Clone, Copy)]
 enum Act {
@@ -74,18 +117,15 @@ enum Act {
     Fill,
     Karma,
     Best,
-    Timeline,
-    /// All timelines from the midst of one on.
-    Timelines,
-    Tops,
-    Page,
-    Walls,
-    /// All of the table at a place of `TABLES`.
-    Whole(usize),
+    Scan,
+    /// A scan after so many entries.
+    ScanAt(u64),
+    /// What changed in what is scanned since so many entries.
+    Changes(u64),
 }
 
-/// The kinds as they are drawn, each as often as it stands here, beside declarations and drops.
-const DRAWN: [Act; 33] = [
+/// The kinds as they are drawn, each as often as it stands here, beside scans, declarations and drops.
+const DRAWN: [Act; 14] = [
     Act::Subscribe,
     Act::Unsubscribe,
     Act::Post,
@@ -100,31 +140,13 @@ const DRAWN: [Act; 33] = [
     Act::Karma,
     Act::Best,
     Act::Best,
-    Act::Timeline,
-    Act::Timeline,
-    Act::Timeline,
-    Act::Timelines,
-    Act::Timelines,
-    Act::Tops,
-    Act::Tops,
-    Act::Tops,
-    Act::Page,
-    Act::Page,
-    Act::Page,
-    Act::Walls,
-    Act::Walls,
-    Act::Walls,
-    Act::Whole(1),
-    Act::Whole(2),
-    Act::Whole(3),
-    Act::Whole(8),
-    Act::Whole(9),
 ];
 
-/// One request: its kind, and whom and when it is about.
+/// One request: its kind, what it scans, and whom and when it is about.
 #[derive(Clone, Copy)]
 pub struct Ask {
     act: Act,
+    view: View,
     user: Person,
     poster: Person,
     time: u32,
@@ -153,6 +175,20 @@ fn draw_change(generator: &mut Lcg64Xsh32, position: u64) -> Act {
     match generator.next_word() % 4 {
         0 => Act::Drop(position),
         _ => Act::Declare(generator.next_word() as usize % JOINS.len()),
+    }
+}
+
+/// A position that is drawn, one of the first so many.
+pub fn draw_position(generator: &mut Lcg64Xsh32, count: u64) -> u64 {
+    u64::from(generator.next_word()) % count.max(1)
+}
+
+/// A kind of request that neither declares nor drops a join.
+fn draw_other(generator: &mut Lcg64Xsh32) -> Act {
+    if generator.next_word() % OTHERS < SCANS {
+        Act::Scan
+    } else {
+        pick(generator, &DRAWN)
     }
 }
 
@@ -190,7 +226,7 @@ fn from<R: Abort>(rt: &R, alloc: Global, segments: &[&str]) -> Range {
 impl Ask {
     /// A request that declares the join at a place of `JOINS`.
     pub fn declare(place: usize) -> Ask {
-        Ask::of(Act::Declare(place))
+        Ask::of(Act::Declare(place), View::Timeline)
     }
 
     /// Whether it declares a join.
@@ -200,13 +236,14 @@ impl Ask {
 
     /// A request for all of the table at a place of `TABLES`.
     pub fn whole(place: usize) -> Ask {
-        Ask::of(Act::Whole(place))
+        Ask::of(Act::Scan, View::Whole(place))
     }
 
     /// A request of a kind for which it does not matter whom and when it is about.
-    fn of(act: Act) -> Ask {
+    fn of(act: Act, view: View) -> Ask {
         Ask {
             act,
+            view,
             user: Person::Ann,
             poster: Person::Ann,
             time: 1,
@@ -216,32 +253,105 @@ impl Ask {
     /// A put, whose key is drawn, in the table that no join reads.
     pub fn fill(generator: &mut Lcg64Xsh32) -> Ask {
         Ask {
-            act: Act::Fill,
             user: pick(generator, &PEOPLE),
-            poster: Person::Ann,
             time: 1 + generator.next_word() % TIMES,
+            ..Ask::of(Act::Fill, View::Timeline)
         }
     }
 
-    /// A request that is drawn. A drop is of the join at this position.
-    pub fn draw(generator: &mut Lcg64Xsh32, position: u64) -> Ask {
-        let act = if generator.next_word() % REQUESTS_FOR_A_CHANGE == 0 {
-            draw_change(generator, position)
-        } else {
-            pick(generator, &DRAWN)
-        };
+    /// A request of a kind, of which all else is drawn.
+    fn about(generator: &mut Lcg64Xsh32, act: Act) -> Ask {
         Ask {
             act,
+            view: pick(generator, &VIEWS),
             user: pick(generator, &PEOPLE),
             poster: pick(generator, &PEOPLE),
             time: 1 + generator.next_word() % TIMES,
         }
     }
 
+    /// A request that is drawn, and asks for no earlier position. A drop is of the join at this position.
+    pub fn draw(generator: &mut Lcg64Xsh32, position: u64) -> Ask {
+        let act = if generator.next_word() % REQUESTS_FOR_A_CHANGE == 0 {
+            draw_change(generator, position)
+        } else {
+            draw_other(generator)
+        };
+        Ask::about(generator, act)
+    }
+
+    /// A declaration or a drop that is drawn, a drop of the join at this position.
+    pub fn change(generator: &mut Lcg64Xsh32, position: u64) -> Ask {
+        let act = draw_change(generator, position);
+        Ask::about(generator, act)
+    }
+
+    /// A scan that is drawn.
+    pub fn scan(generator: &mut Lcg64Xsh32) -> Ask {
+        Ask::about(generator, Act::Scan)
+    }
+
+    /// A request for what it scans after so many entries.
+    pub fn at(self, position: u64) -> Ask {
+        Ask {
+            act: Act::ScanAt(position),
+            ..self
+        }
+    }
+
+    /// A request for what changed in what it scans since so many entries.
+    pub fn since(self, position: u64) -> Ask {
+        Ask {
+            act: Act::Changes(position),
+            ..self
+        }
+    }
+
+    /// A request that is drawn and asks for an earlier position, where there are so many entries. The position may lie just ahead.
+    pub fn look_back(generator: &mut Lcg64Xsh32, entries: u64) -> Ask {
+        let position = draw_position(generator, entries.saturating_add(2));
+        let ask = Ask::scan(generator);
+        if generator.next_word() % 2 == 0 {
+            ask.at(position)
+        } else {
+            ask.since(position)
+        }
+    }
+
+    /// Whether it is a scan at a position.
+    pub fn is_scan_at(&self) -> bool {
+        matches!(self.act, Act::ScanAt(_))
+    }
+
+    /// The time as it stands in keys.
+    fn time_text<R: Abort>(&self, rt: &R, alloc: Global) -> String {
+        format!(in alloc; "{}", self.time).expect(rt, "memory")
+    }
+
+    /// What it scans.
+    fn range<R: Abort>(&self, rt: &R, alloc: Global) -> Range {
+        let user = self.user.name();
+        match self.view {
+            View::Timeline => behind(rt, alloc, &["t", user]),
+            View::Timelines => {
+                let time = self.time_text(rt, alloc);
+                let time = time.as_str();
+                from(rt, alloc, &["t", user, time])
+            }
+            View::Tops => behind(rt, alloc, &["top", user]),
+            View::Page => behind(rt, alloc, &["page", user]),
+            View::Walls => behind(rt, alloc, &["wall", user]),
+            View::Whole(place) => {
+                let table = TABLES.get(place).expect(rt, "a table");
+                behind(rt, alloc, &[table])
+            }
+        }
+    }
+
     /// The request.
     pub fn request<R: Abort>(&self, rt: &R, alloc: Global) -> Request {
         let (user, poster) = (self.user.name(), self.poster.name());
-        let time = format!(in alloc; "{}", self.time).expect(rt, "memory");
+        let time = self.time_text(rt, alloc);
         let time = time.as_str();
         let put = |segments: &[&str], text: &str| {
             let value = Value::read(alloc, text).expect(rt, "a value");
@@ -265,15 +375,9 @@ impl Ask {
             Act::Fill => put(&["fill", user, time], time),
             Act::Karma => Request::Get(key(rt, alloc, &["karma", poster])),
             Act::Best => Request::Get(key(rt, alloc, &["best", poster])),
-            Act::Timeline => Request::Scan(behind(rt, alloc, &["t", user])),
-            Act::Timelines => Request::Scan(from(rt, alloc, &["t", user, time])),
-            Act::Tops => Request::Scan(behind(rt, alloc, &["top", user])),
-            Act::Page => Request::Scan(behind(rt, alloc, &["page", user])),
-            Act::Walls => Request::Scan(behind(rt, alloc, &["wall", user])),
-            Act::Whole(place) => {
-                let table = TABLES.get(place).expect(rt, "a table");
-                Request::Scan(behind(rt, alloc, &[table]))
-            }
+            Act::Scan => Request::Scan(self.range(rt, alloc)),
+            Act::ScanAt(position) => Request::ScanAt(self.range(rt, alloc), position),
+            Act::Changes(position) => Request::Changes(self.range(rt, alloc), position),
         }
     }
 
@@ -283,5 +387,21 @@ impl Ask {
             Request::Quit => panic!(rt; "no client is asked to quit"),
             request => client.answer(request),
         }
+    }
+}
+
+/// What plain evaluation answers to a request.
+pub fn answer_afresh<R: Abort>(rt: &R, request: Request, history: &mut PlainHistory) -> Reply {
+    match request {
+        Request::Quit => panic!(rt; "no client is asked to quit"),
+        request => history.answer(request).expect(rt, "memory"),
+    }
+}
+
+/// The line of a reply.
+pub fn line_of<R: Abort>(rt: &R, alloc: Global, reply: &Reply) -> Vec<u8> {
+    match reply {
+        Reply::Unread(_) => panic!(rt; "a request was not read"),
+        reply => write(alloc, reply).expect(rt, "memory"),
     }
 }

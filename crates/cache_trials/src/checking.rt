@@ -1,8 +1,8 @@
 // Replies held to plain evaluation.
-use crate::asking::Ask;
-use key_space::Key;
-use plain_client::PlainClient;
-use request_codec::{Reply, Request, write};
+use crate::asking::{Ask, answer_afresh, line_of};
+use key_space::{Key, Range};
+use plain_history::PlainHistory;
+use request_codec::{Reply, Request};
 use std::alloc::Global;
 use std::process::Abort;
 
@@ -21,9 +21,17 @@ impl Answered {
             | Reply::Found(position, _)
             | Reply::Absent(position)
             | Reply::Pairs(position, _)
-            | Reply::Refused(position, _) => position,
+            | Reply::Refused(position, _)
+            | Reply::Gone(position)
+            | Reply::Ahead(position)
+            | Reply::Changes(_, position, _) => position,
             _ => panic!(rt; "a reply that names no position"),
         }
+    }
+
+    /// Whether the position is that of the request, where the request is a scan at a position.
+    fn is_of_request(&self) -> bool {
+        self.ask.is_scan_at() && matches!(self.reply, Reply::Pairs(_, _))
     }
 
     /// Whether it is a write that entered.
@@ -32,10 +40,14 @@ impl Answered {
     }
 }
 
-/// No reply names fewer entries than one before it, and each write that entered comes behind all of these.
+/// No reply names fewer entries than one before it, but where the request names them, and each write that entered comes behind all of
+/// these.
 pub fn expect_ascending<R: Abort>(rt: &R, answers: &[Answered]) {
     let mut last = 0;
     for (place, answered) in answers.iter().enumerate() {
+        if answered.is_of_request() {
+            continue;
+        }
         let position = answered.position(rt);
         let later = last < position || last == position && !answered.has_entered();
         assert!(rt; later, "answer {place}: position {position} after {last}");
@@ -43,16 +55,17 @@ pub fn expect_ascending<R: Abort>(rt: &R, answers: &[Answered]) {
     }
 }
 
-/// What stands after a beginning of the history: who judges its writes, and the writes that its state follows from, which are
-/// the last put at each key where a pair stands, hidden or not, and the declarations of the joins that stand, with their
-/// positions. Reads are answered by a client that is made from these once one is asked after a write, and keeps nothing.
+/// What stands after a beginning of the history: the history, which judges its writes, and the writes that its state follows from,
+/// which are the last put at each key where a pair stands, hidden or not, and the declarations of the joins that stand, with their
+/// positions. Reads after this beginning are answered by plain evaluation of a history of these writes alone, which is made once one
+/// is asked after a write.
 #[derive(Drop)]
 pub struct Afresh {
     alloc: Global,
-    plain: PlainClient,
+    plain: PlainHistory,
     joins: Vec<(u64, Ask)>,
     puts: Vec<(Key, Ask)>,
-    reader: Option<PlainClient>,
+    reader: Option<PlainHistory>,
 }
 
 impl Afresh {
@@ -60,32 +73,32 @@ impl Afresh {
     pub fn new(alloc: Global) -> Afresh {
         Afresh {
             alloc,
-            plain: PlainClient::new(alloc),
+            plain: PlainHistory::new(alloc),
             joins: Vec::new(alloc),
             puts: Vec::new(alloc),
             reader: None,
         }
     }
 
-    /// A client of a history with the writes that the state follows from, and no others.
-    fn make_reader<R: Abort>(&self, rt: &R) -> PlainClient {
-        let mut reader = PlainClient::new(self.alloc);
+    /// A history of the writes that the state follows from, and no others.
+    fn make_reader<R: Abort>(&self, rt: &R) -> PlainHistory {
+        let mut reader = PlainHistory::new(self.alloc);
         let joins = self.joins.iter().map(|(_, ask)| ask);
         // The puts come first: while a join stands nothing is put under its output.
         for ask in self.puts.iter().map(|(_, ask)| ask).chain(joins) {
-            let reply = ask.put_to(rt, self.alloc, &mut reader);
+            let reply = answer_afresh(rt, ask.request(rt, self.alloc), &mut reader);
             assert!(rt; matches!(reply, Reply::Done(_)));
         }
         reader
     }
 
-    /// What a read finds in the state at this point.
-    fn read<R: Abort>(&mut self, rt: &R, ask: Ask) -> Reply {
+    /// What a read, which names no position, finds in the state at this point.
+    fn read<R: Abort>(&mut self, rt: &R, request: Request) -> Reply {
         let mut reader = match self.reader.take() {
             Some(reader) => reader,
             None => self.make_reader(rt),
         };
-        let found = ask.put_to(rt, self.alloc, &mut reader);
+        let found = answer_afresh(rt, request, &mut reader);
         self.reader = Some(reader);
         let position = self.plain.len();
         match found {
@@ -96,11 +109,21 @@ impl Afresh {
         }
     }
 
+    /// The reply to a scan at a position.
+    fn read_at<R: Abort>(&mut self, rt: &R, range: Range, at: u64) -> Reply {
+        if at == self.plain.len() {
+            return self.read(rt, Request::Scan(range));
+        }
+        answer_afresh(rt, Request::ScanAt(range, at), &mut self.plain)
+    }
+
     /// The reply to a request at this point. To a write that no cause refuses it is the one that is given as it enters.
     fn reply<R: Abort>(&mut self, rt: &R, ask: Ask) -> Reply {
         match ask.request(rt, self.alloc) {
-            Request::Get(_) | Request::Scan(_) => self.read(rt, ask),
-            _ => ask.put_to(rt, self.alloc, &mut self.plain),
+            Request::Get(key) => self.read(rt, Request::Get(key)),
+            Request::Scan(range) => self.read(rt, Request::Scan(range)),
+            Request::ScanAt(range, at) => self.read_at(rt, range, at),
+            request => answer_afresh(rt, request, &mut self.plain),
         }
     }
 
@@ -152,13 +175,5 @@ impl Afresh {
         for answered in answers.iter().filter(|answered| !answered.has_entered()) {
             self.expect(rt, answered);
         }
-    }
-}
-
-/// The line of a reply.
-fn line_of<R: Abort>(rt: &R, alloc: Global, reply: &Reply) -> Vec<u8> {
-    match reply {
-        Reply::Unread(_) => panic!(rt; "a request was not read"),
-        reply => write(alloc, reply).expect(rt, "memory"),
     }
 }

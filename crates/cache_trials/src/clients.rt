@@ -19,7 +19,7 @@ use std::thread;
 use std::thread::Threads;
 
 /// Which client is asked, a line that it is sent, and the line that it answers.
-type Row = (usize, &'static str, &'static str);
+pub type Row = (usize, &'static str, &'static str);
 
 /// A join is declared, its sources are put and removed, and its output is read.
 const OF_A_JOIN: [Row; 10] = [
@@ -109,7 +109,7 @@ pub fn make_seats(alloc: Global, clients: u32) -> Result<Seats, OutOfMemory>
 }
 
 /// The service answers a line on a link with this line.
-fn expect_line<S: Service, R: Abort>(
+pub fn expect_line<S: Service, R: Abort>(
     rt: &R,
     alloc: Global,
     service: &mut S,
@@ -126,7 +126,7 @@ fn expect_line<S: Service, R: Abort>(
 }
 
 /// Each row is a link of its client, one after another.
-fn run<N: Naming, R: Wait + Abort>(
+pub fn run<N: Naming, R: Wait + Abort>(
     rt: &R,
     alloc: Global,
     gate: &OpenGate,

@@ -52,7 +52,7 @@ read 65540 t|ann| t|ann}
 ",
 };
 
-/// A turn lets go of what such a cell keeps, and the next read fills it.
+/// A turn lets go of what such a cell keeps and fills it, so that the next read need not.
 const TURNED_TOO_FAR: Row = Row {
     cells: 1,
     limit: 100,
@@ -67,8 +67,8 @@ read 65540 t|ann| t|ann}
 turn cells
 ",
     wanted: "1: t|ann|100|bob=Hi
-brought 0
-1: t|ann|100|bob=Hi t|ann|120|bob=Yo
+brought 0 to 65540
+0: t|ann|100|bob=Hi t|ann|120|bob=Yo
 idle
 ",
 };

@@ -1,13 +1,16 @@
 // The parts of a cache as a test has them, with reads at any position, and two threads that read and evict at once. All with ample
 // memory.
-ghost use Rattle.std.specs.Prelude.{◌≡◌, ◌<◌, ◌≤◌, All, length, IfOk};
+ghost use Rattle.std.specs.Prelude.{◌≡◌, ◌+◌, ◌<◌, ◌≤◌, All, length, take, IfOk};
 ghost use Rattle.std.specs.Arc.{arc_value};
+ghost use Rattle.join_set.specs.Sets.{AreJoins};
+ghost use Rattle.write_history.specs.Marks.{reach};
 ghost use Rattle.write_history.specs.declared.known.Mark.TheVariants.{Pinned};
 ghost use Rattle.pequod_cache.specs.Sitting.{AreOf, AreOfParts};
 ghost use Rattle.cache_trials.specs.Passes.{IsAtEnd, IsWriter};
 
 use base_shards::{BaseShards, Naming};
 use join_lang::parse;
+use join_set::JoinSet;
 use join_types::{Pair, Write};
 use key_space::{Key, Range, Value};
 use out_of_memory::OutOfMemory;
@@ -130,7 +133,7 @@ pub struct Seen {
 }
 
 /// Looks, and pins the pass there. Says after how many entries.
-fn pin<R: Wait + Abort>(rt: &R, history: &History, pass: &mut Pass) -> u64
+pub fn pin<R: Wait + Abort>(rt: &R, history: &History, pass: &mut Pass) -> u64
     requires { IsWriter history.now pass.old }
     ensures { IsAtEnd history.now pass.new result }
 {
@@ -138,7 +141,7 @@ fn pin<R: Wait + Abort>(rt: &R, history: &History, pass: &mut Pass) -> u64
 }
 
 /// Takes away the pin, which is after so many entries.
-fn unpin<R: Wait>(rt: &R, history: &History, pass: Pass, _at: u64) -> Pass
+pub fn unpin<R: Wait>(rt: &R, history: &History, pass: Pass, _at: u64) -> Pass
     requires same_history { pass.history ≡ history.now }
     requires writer { pass.number < pass.writers }
     requires pinned { pass.mark ≡ Pinned _at }
@@ -147,6 +150,24 @@ fn unpin<R: Wait>(rt: &R, history: &History, pass: Pass, _at: u64) -> Pass
     let mut pass = pass;
     history.unpin(rt, &mut pass);
     pass
+}
+
+/// The joins after the first p entries, for a pass that is pinned after so many, of which the last are at most 65,536 later.
+pub fn joins_near<R: Wait>(
+    rt: &R,
+    history: &History,
+    pass: &mut Pass,
+    p: u64,
+    _at: u64,
+) -> Result<JoinSet, OutOfMemory>
+    requires at_end { IsAtEnd history.now pass.old _at }
+    requires within { p ≤ _at }
+    requires near { _at ≤ p + 65536 }
+    ensures joins { IfOk result (λ joins. AreJoins (reach pass.new.mark) joins (take p pass.new.view)) }
+    ensures unchanged { pass.new ≡ pass.old }
+    ensures at_end { IsAtEnd history.now pass.new _at }
+{
+    history.joins_at(rt, pass, p)
 }
 
 /// The pairs of the range after the first p entries. The pass is pinned meanwhile.
@@ -170,7 +191,7 @@ pub fn read_at<N: Naming, G: Gate, L: Ledger, R: Wait + Abort>(
     assert!(rt; p <= at);
     let back = at - p;
     assert!(rt; back <= 65_536);
-    let joins = history.joins_at(rt, &mut pass, p).expect(rt, "memory");
+    let joins = joins_near(rt, history, &mut pass, p, at).expect(rt, "memory");
     let mut steps: Steps<L> = Steps::open(blank);
     let cells = &kept.cells;
     let reading = cells.read(rt, pass, &joins, p, range, gate, &mut steps);
@@ -198,7 +219,7 @@ pub fn turn_at_end<N: Naming, G: Gate, L: Ledger, R: Wait + Abort>(
 {
     let history = &*kept.history;
     let p = pin(rt, history, &mut pass);
-    let joins = history.joins_at(rt, &mut pass, p).expect(rt, "memory");
+    let joins = joins_near(rt, history, &mut pass, p, p).expect(rt, "memory");
     let mut steps: Steps<L> = Steps::open(blank);
     let turned = kept.cells.turn(rt, pass, &joins, p, gate, &mut steps);
     let Turned { pass, turn } = turned;

@@ -347,6 +347,29 @@ idle
 ",
 };
 
+/// Of what is counted for many the cell of one key follows what is counted for that one alone: a vote for another marks no cell.
+const TURNED_ONE_KEY: Row = Row {
+    cells: 4,
+    limit: 100,
+    lines: "write karma|<a> = count vote|<a>|<id>|<voter>
+write vote|bob|1|ann=1
+write vote|cat|1|ann=1
+read 3 karma|bob karma|bob\0
+write vote|cat|1|dan=1
+turn cells
+write vote|bob|1|dan=1
+turn cells
+turn cells
+read 5 karma|bob karma|bob\0
+",
+    wanted: "1: karma|bob=1
+idle
+brought 3 to 5
+idle
+0: karma|bob=2
+",
+};
+
 /// A turn lets go of a cell for a rank that its join has no more, also of one that is marked.
 const TURNED_RAISED: Row = Row {
     cells: 4,
@@ -443,7 +466,7 @@ least 7 4 t|ann| t|ann}
 };
 
 /// All of them.
-pub const ROWS: [Row; 20] = [
+pub const ROWS: [Row; 21] = [
     KEPT,
     TOO_HEAVY,
     PULLED,
@@ -458,6 +481,7 @@ pub const ROWS: [Row; 20] = [
     ROOM,
     TURNED,
     TURNED_OVER_ANOTHER,
+    TURNED_ONE_KEY,
     TURNED_RAISED,
     TURNED_DROPPED,
     KEPT_COST,

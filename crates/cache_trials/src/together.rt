@@ -26,6 +26,8 @@ const CLIENTS: u32 = 4;
 struct Asked {
     /// How many drawn requests.
     count: usize,
+    /// One of so many of them asks for an earlier position.
+    per_look_back: usize,
     /// How many puts follow each of them in a table that no join reads.
     fills: usize,
     /// How many entries there are in the end, at least.
@@ -72,12 +74,21 @@ impl<S: Service> Talk<S> {
         }
     }
 
+    /// A request that is drawn as the one at a place.
+    fn draw(&self, generator: &mut Lcg64Xsh32, place: usize, asked: Asked) -> Ask {
+        if place % asked.per_look_back.max(1) == 0 {
+            Ask::look_back(generator, self.answers.len() as u64)
+        } else {
+            Ask::draw(generator, self.told)
+        }
+    }
+
     /// The client is asked what is drawn from a number.
     fn ask_drawn<R: Abort>(self, rt: &R, alloc: Global, number: u64, asked: Asked) -> Talk<S> {
         let mut talk = self;
         let mut generator = Lcg64Xsh32::seed_from_u64(number);
-        for _ in 0..asked.count {
-            let ask = Ask::draw(&mut generator, talk.told);
+        for place in 0..asked.count {
+            let ask = talk.draw(&mut generator, place, asked);
             talk.ask(rt, alloc, ask);
             talk.ask_to_fill(rt, alloc, &mut generator, asked.fills);
         }
@@ -246,6 +257,7 @@ fn few_cells_and_rows(rt: HostRuntime) -> Result<(), Fail> {
     let seats = Seats::make(alloc, CLIENTS, 3)?;
     let asked = Asked {
         count: 20_000,
+        per_look_back: 512,
         fills: 0,
         entries: 10_000,
     };
@@ -258,19 +270,21 @@ fn many_cells_and_rows(rt: HostRuntime) -> Result<(), Fail> {
     let seats = Seats::make(alloc, CLIENTS, 64)?;
     let asked = Asked {
         count: 5_000,
+        per_look_back: 128,
         fills: 0,
         entries: 2_500,
     };
     hold::<Brand, _>(&rt, alloc, &OpenGate, seats, 100_000, asked)
 }
 
-/// Most of the entries are let go meanwhile, and cells that stand too far behind are filled anew.
+/// Most of the entries are let go meanwhile, cells that stand too far behind are filled anew, and some positions are gone.
 #[test]
 fn more_entries_than_are_kept(rt: HostRuntime) -> Result<(), Fail> {
     let alloc = rt.alloc();
     let seats = Seats::make(alloc, CLIENTS, 64)?;
     let asked = Asked {
         count: 100,
+        per_look_back: 16,
         fills: 350,
         entries: 140_000,
     };

@@ -8,7 +8,7 @@
 //     <x HEX    gives bytes
 //     ! KIND N  has the call with this number fail: of `read`, `write`, `shelf` or `doors`
 //     = HOW     runs the case: all at once where nothing follows, each read one byte by `bytes`, with a count of gates by `gate`, and
-//               by a client of a core with so many cells by `core N`. What is written follows, and how it ended.
+//               by plain evaluation of the joins by `plain`. What is written follows, and how it ended.
 //     ? WORD    asks whether the text on how the program is called has the word
 //
 // Dangerous here: nothing is compared. A case is only as good as its lines of `stdout`, which are written by hand from what the
@@ -16,6 +16,7 @@
 #![tactic(auto)]
 
 mod case;
+mod plain;
 mod runs;
 
 use crate::case::Case;

@@ -1,15 +1,14 @@
 // The ways in which a case is run.
 use crate::case::Case;
+use crate::plain::answer_lines;
 use pequod_commands::pequod;
 use pq_io::{Gate, MemDoors, MemLink, MemShelf, MemSink, MemSource};
-use session::serve_link;
 use std::alloc::{AllocError, Global};
 use std::str;
 use std::sync::Wait;
 use std::sync::atomic::AtomicU64;
 use std::sync::atomic::Ordering::SeqCst;
 use std::thread::Threads;
-use world_client::WorldClient;
 
 /// Counts its calls for the table `t`.
 #[derive(Drop)]
@@ -43,18 +42,17 @@ enum How {
     InBytes,
     /// By the top call, with whether a range of the table `t` passed the gate.
     TellsGate,
-    /// By a client of a core with so many cells.
-    Core(u32),
+    /// By plain evaluation of the joins.
+    Plainly,
 }
 
-/// Reads how a case is run. None where the text names no way; a number of cells that is none is 0.
+/// Reads how a case is run. None where the text names no way.
 fn read_how(text: &str) -> Option<How> {
-    let (kind, number) = text.split_once(' ').unwrap_or((text, ""));
-    match kind {
+    match text {
         "" => Some(How::AtOnce),
         "bytes" => Some(How::InBytes),
         "gate" => Some(How::TellsGate),
-        "core" => Some(How::Core(number.parse::<u32>().unwrap_or(0))),
+        "plain" => Some(How::Plainly),
         _ => None,
     }
 }
@@ -98,18 +96,13 @@ fn run_top<R: AllocGlobal + Threads + Wait + Sync>(
     told(alloc, sink.bytes(), ended.as_str())
 }
 
-/// Answers the lines by a client of a core of its own with so many cells, of 1 to 65,536, and returns the replies.
-fn run_core(alloc: Global, case: &Case, cells: u32) -> Result<String, AllocError> {
-    if cells < 1 || 65_536 < cells {
-        return told(alloc, b"", "no such room");
+/// Answers the lines by plain evaluation, and returns the replies.
+fn run_plain(alloc: Global, case: &Case) -> Result<String, AllocError> {
+    let text = str::from_utf8(case.given.as_slice()).unwrap_or("no text\n");
+    match answer_lines(alloc, text) {
+        Ok(replies) => told(alloc, replies.as_slice(), "answered"),
+        Err(_) => told(alloc, b"", "memory"),
     }
-    let source = MemSource::new(case.given.clone()?, Vec::new(alloc), Vec::new(alloc));
-    let mut link = MemLink::new(source, MemSink::new(alloc, Vec::new(alloc)));
-    let Ok(mut client) = WorldClient::new(alloc, cells, 100) else {
-        return told(alloc, b"", "memory");
-    };
-    serve_link(alloc, &mut client, &mut link);
-    told(alloc, link.bytes(), "answered")
 }
 
 /// Runs the case in the way that is asked for, and returns what is written and how it ends.
@@ -119,7 +112,7 @@ pub fn run<R: AllocGlobal + Threads + Wait + Sync>(
     how: &str,
 ) -> Result<String, AllocError> {
     match read_how(how) {
-        Some(How::Core(cells)) => run_core(rt.alloc(), case, cells),
+        Some(How::Plainly) => run_plain(rt.alloc(), case),
         Some(how) => run_top(rt, case, how),
         None => told(rt.alloc(), b"", "no such way"),
     }

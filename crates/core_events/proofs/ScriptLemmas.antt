@@ -6,7 +6,7 @@ use Rattle.std.proofs.lemmas.Bool.{cond_both}
 use Rattle.serde_json.specs.Data.{Data, null, boolean, number, string, array, object, Items, no_items, item}
 use Rattle.semantics.specs.Texts.{Text, same, is_range}
 use Rattle.protocol.specs.Lines.{Bytes}
-use Rattle.protocol.specs.Requests.{Request, write, read, quit, LineFault, json, form, range, json_of, position_of, text_of, form_of, request_of_items}
+use Rattle.protocol.specs.Requests.{Request, write, read, earlier, quit, LineFault, json, form, range, json_of, position_of, text_of, form_of, request_of_items}
 use Rattle.core_events.specs.Events.{Event, piece, advance, evict, finish, is_bound, IsEvent}
 use Rattle.core_events.specs.Scripts.{ranged, number_of, or_form, is_write_form, append_written, append_texts, begin_event, piece_event, mend_event, event_of_one, event_of_two, event_of_three, event_of_word, event_of_items, event_of_value, event_of_json, event_of, onto_events, at_line, events_of_lines, script_lines, script_events}
 use Rattle.core_events.specs.ScriptLaws.{ScriptsGiveEvents}
@@ -42,6 +42,7 @@ good_written : (client : ℕ) (r : Result Request LineFault) → IsGood (append_
 good_written client (Err fault) = good_fault fault
 good_written client (Ok (write w)) = record { holds = tt }
 good_written client (Ok (read r)) = good_fault form
+good_written client (Ok (earlier e)) = good_fault form
 good_written client (Ok quit) = good_fault form
 
 good_append : (client : ℕ) (items : List Text × Option ℕ) → IsGood (append_texts client items)

@@ -5,7 +5,7 @@ use Rattle.semantics.specs.Texts.{Text, same, is_range}
 use Rattle.semantics.specs.Patterns.{pieces}
 use Rattle.protocol.specs.Lines.{Bytes}
 use Rattle.protocol.specs.JoinsFile.{counted_lines}
-use Rattle.protocol.specs.Requests.{Request, write, read, quit, LineFault, json, form, range, json_of, whole_below, position_of, text_of, form_of, request_of_items}
+use Rattle.protocol.specs.Requests.{Request, write, read, earlier, quit, LineFault, json, form, range, json_of, whole_below, position_of, text_of, form_of, request_of_items}
 use Rattle.protocol.specs.Replies.{fault_name}
 use Rattle.core_events.specs.Events.{Event, append, begin, piece, advance, mend, evict, finish, is_bound}
 use Rattle.core_events.specs.Printed.{script_text}
@@ -46,6 +46,7 @@ abbrev pub append_written : ℕ → Result Request LineFault → Result Event Li
 append_written client (Err fault) = Err fault
 append_written client (Ok (write w)) = Ok (append client w)
 append_written client (Ok (read r)) = Err form
+append_written client (Ok (earlier e)) = Err form
 append_written client (Ok quit) = Err form
 
 -- the event that appends the write that the texts request

@@ -136,6 +136,52 @@ const KARMA: Menu = Menu {
     ],
 };
 
+/// Timelines and votes, pages of the posters that a user follows, which are pulled, and walls of the timelines of those who have a
+/// page.
+const WALLS: Menu = Menu {
+    joins: "write t|<u>|<n>|<w> = check s|<u>|<w> copy p|<w>|<n>\nwrite votes|<w> = count v|<w>|<u>\nwrite page|<u>|<w> = pull check s|<u>|<w> copy votes|<w>\nwrite wall|<u>|<n>|<w>|<o> = check page|<u>|<o> copy t|<u>|<n>|<w>\n",
+    others: [
+        "votes|<w> = max v|<w>|<u>",
+        "page|<u>|<w> = check s|<u>|<w> copy votes|<w>",
+        "t|<u>|<n>|<w> = check v|<w>|<u> copy p|<w>|<n>",
+        "wall|<u>|<n>|<w>|<o> = check page|<u>|<o> copy t|<u>|<n>|<w>",
+    ],
+    writes: [
+        "s|ann|bob=1",
+        "s|ann|bob",
+        "s|ann|cat=1",
+        "s|bob|cat=1",
+        "s|bob|cat",
+        "p|bob|1=A",
+        "p|bob|1",
+        "p|cat|2=B",
+        "p|cat|2",
+        "v|bob|ann=3",
+        "v|bob|ann",
+        "v|cat|ann=4",
+        "v|cat|bob=2",
+        "v|cat|bob",
+        "t|ann|1|bob=no",
+        "page|ann|a=S",
+    ],
+    ranges: [
+        "wall| wall}",
+        "wall|ann| wall|ann}",
+        "page| page}",
+        "t|ann| t|ann}",
+    ],
+    bounds: [
+        "wall|ann|1|bob",
+        "wall|ann|2",
+        "wall|ann}",
+        "wall|b",
+        "wall}",
+        "page|ann|bob",
+        "page}",
+        "t|ann}",
+    ],
+};
+
 /// A join that is declared, or a drop: of one of the first joins, or of what may stand at a later position.
 fn roll_change(alloc: Global, menu: &Menu, dice: &mut Dice) -> Result<String, Fail> {
     let later = 5 + 3 * (dice.roll() % 16) + dice.roll() % 3;
@@ -187,11 +233,12 @@ fn roll_events(alloc: Global, menu: &Menu, dice: &mut Dice) -> Result<String, Fa
 fn generated_events(rt: HostRuntime) -> Result<(), Fail> {
     let alloc = rt.alloc();
     let mut dice = Dice { state: 7 };
-    for round in 0..60_u64 {
-        let menu = match round % 3 {
+    for round in 0..80_u64 {
+        let menu = match round % 4 {
             0 => &TIMELINE,
             1 => &CHAIN,
-            _ => &KARMA,
+            2 => &KARMA,
+            _ => &WALLS,
         };
         let lines = roll_events(alloc, menu, &mut dice)?;
         let plain = show_plain(alloc, read_events(&rt, alloc, lines.as_str())?)?;

@@ -3,7 +3,7 @@
 //
 // A test writes events as lines: writes, scans that are answered in pieces, and cells that are advanced, mended and evicted in
 // between. What a core answers with few cells and with many, of which few rows may be kept or many, is held against worked
-// answers, and over generated events against a core that keeps nothing: `plain_client`, who evaluates the state afresh.
+// answers, and over generated events against a core that keeps nothing: `plain_history`, which evaluates the state afresh.
 #![tactic(auto)]
 
 #[cfg(test)]

@@ -1,13 +1,12 @@
-// The core with nothing kept: one client alone, who evaluates the state afresh where a scan begins.
+// The core with nothing kept: plain evaluation of the state where a scan begins.
 ghost use Rattle.std.specs.Prelude.{◌<◌, length, IfSome};
 
 use crate::showing::show_done;
 use core_events::{Done, Event, ScanBound};
 use join_types::{Pair, Write};
 use key_space::Range;
-use plain_client::PlainClient;
-use request_codec::{Reply, Request};
-use session::Service;
+use plain_history::PlainHistory;
+use request_codec::Reply;
 use std::alloc::Global;
 use std::test::Fail;
 
@@ -27,26 +26,8 @@ struct PlainScan {
 /// A core that keeps nothing but the entries, and what it will answer to the scans under way.
 #[derive(Drop)]
 struct PlainCore {
-    client: PlainClient,
+    history: PlainHistory,
     scans: Vec<PlainScan>,
-}
-
-/// The request that a write is.
-fn request_of(write: Write) -> Request {
-    match write {
-        Write::Put(key, value) => Request::Put(key, value),
-        Write::Remove(key) => Request::Remove(key),
-        Write::Declare(join) => Request::Declare(join),
-        Write::Drop(position) => Request::Drop(position),
-    }
-}
-
-/// What the client answers to a request.
-fn ask(client: &mut PlainClient, request: Request) -> Result<Reply, Fail> {
-    match request {
-        Request::Quit => Err(Fail::from("a client is not asked to quit")),
-        request => Ok(client.answer(request)),
-    }
 }
 
 /// Where the scan with a number stands among those under way, if there is one.
@@ -64,7 +45,7 @@ fn find(scans: &[PlainScan], number: u32) -> Option<usize>
 impl PlainCore {
     /// A write enters where nothing is against it.
     fn append(&mut self, write: Write) -> Result<Done, Fail> {
-        match ask(&mut self.client, request_of(write))? {
+        match self.history.write(write)? {
             Reply::Done(position) => Ok(Done::Entered(position)),
             Reply::Refused(position, cause) => Ok(Done::Refused(position, cause)),
             _ => Err(Fail::from("a write is not answered")),
@@ -77,10 +58,8 @@ impl PlainCore {
             return Ok(Done::Nothing);
         }
         let place = ScanBound::first_of(&range)?;
-        let asked = Request::Scan(range.copy()?);
-        let Reply::Pairs(position, pairs) = ask(&mut self.client, asked)? else {
-            return Err(Fail::from("a scan is not answered"));
-        };
+        let position = self.history.len();
+        let pairs = self.history.pairs_at(&range, position)?;
         self.scans.push(PlainScan {
             number,
             range,
@@ -136,7 +115,7 @@ impl PlainCore {
 /// The answers to the events that are of no cell with nothing kept, as lines.
 pub fn show_plain(alloc: Global, events: Vec<Event>) -> Result<String, Fail> {
     let mut core = PlainCore {
-        client: PlainClient::new(alloc),
+        history: PlainHistory::new(alloc),
         scans: Vec::new(alloc),
     };
     let mut text = String::new(alloc);

@@ -1,3 +1,4 @@
 pub mod Doors
 pub mod Bells
 pub mod Runs
+pub mod Tallies

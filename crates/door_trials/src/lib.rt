@@ -12,3 +12,5 @@ mod closing;
 mod counts;
 #[cfg(test)]
 mod items;
+#[cfg(test)]
+mod tallies;

@@ -25,7 +25,11 @@ fn read_written(alloc: Global, client: u32, request: &Value) -> Result<Event, Li
         Request::Remove(key) => Write::Remove(key),
         Request::Declare(join) => Write::Declare(join),
         Request::Drop(position) => Write::Drop(position),
-        Request::Get(_) | Request::Scan(_) | Request::Quit => return Err(LineFault::Form),
+        Request::Get(_)
+        | Request::Scan(_)
+        | Request::ScanAt(_, _)
+        | Request::Changes(_, _)
+        | Request::Quit => return Err(LineFault::Form),
     };
     Ok(Event::Append { client, write })
 }

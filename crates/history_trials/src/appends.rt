@@ -164,7 +164,7 @@ fn all_append<R: Threads + Wait + Abort + Sync>(
 }
 
 /// The pass meets each of the others, and says which was the last position.
-fn meet_each<R: Wait>(rt: &R, history: &History, reader: &mut Pass, done: Vec<(Pass, u64)>) -> u64
+fn meet_each<R>(rt: &R, history: &History, reader: &mut Pass, done: Vec<(Pass, u64)>) -> u64
     requires same_history { reader.old.history ≡ history.now }
     requires seen { (i : ℕ) (d : _) → i < length done.items → HasSeen history.now (slice_index_or done.items i d).0 (slice_index_or done.items i d).1 }
     ensures seen { HasSeen history.now reader.new result }

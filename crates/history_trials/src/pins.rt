@@ -267,18 +267,37 @@ fn what_is_noted_holds_the_floor(rt: HostRuntime) -> Result<(), Fail> {
     Ok(())
 }
 
-/// A join stands after its declaration, and none before it, though that was let go.
-fn expect_join<R: Wait + Abort>(rt: &R, history: &History, reader: &mut Pass)
-    requires { IsFree history.now reader.old }
+/// Of two joins, one was dropped below the floor, and the other not long ago: until then it stands from the floor on.
+fn expect_joins<R: Wait + Abort>(rt: &R, history: &History, reader: &mut Pass, at: u64)
+    requires { IsPinned history.now reader.old at }
+    ensures { IsPinned history.now reader.new at }
 {
-    let length = history.look(rt, reader);
-    assert!(rt; length == 66_000);
-    let none = history.joins_at(rt, reader, 0).expect(rt, "memory");
-    let one = history.joins_at(rt, reader, 1).expect(rt, "memory");
-    assert!(rt; none.len() == 0 && one.len() == 1);
-    let looked = history.look_joins(rt, reader, 0).expect(rt, "memory");
-    let joins = looked.joins.expect(rt, "joins");
-    assert!(rt; joins.len() == 1 && joins.changed_at() == 1);
+    let first = history.reach(reader);
+    assert!(rt; first == 464 && at == 66_000);
+    let early = history.joins_at(rt, reader, first).expect(rt, "memory");
+    let last = history.joins_at(rt, reader, 65_998).expect(rt, "memory");
+    let none = history.joins_at(rt, reader, 65_999).expect(rt, "memory");
+    assert!(rt; early.len() == 1 && early.at(0) == 2 && early.changed_at() == 3);
+    assert!(rt; last.len() == 1 && last.changed_at() == 3);
+    assert!(rt; none.is_empty() && none.changed_at() == 65_999);
+}
+
+/// Declares two joins and drops the first.
+fn declare_two<R: Wait + Abort>(
+    rt: &R,
+    alloc: Global,
+    history: &History,
+    writer: &mut Pass,
+) -> Result<(), Fail>
+    requires { MayAppend history.now writer.old }
+    ensures may { MayAppend history.now writer.new }
+    ensures mark { writer.new.mark ≡ writer.old.mark }
+{
+    let first = history.append(rt, writer, Write::Declare(copy_of(rt, alloc, "b")?));
+    let second = history.append(rt, writer, Write::Declare(copy_of(rt, alloc, "c")?));
+    let dropped = history.append(rt, writer, Write::Drop(1));
+    assert!(rt; matches!(&first, Ok(1)) && matches!(&second, Ok(2)) && matches!(&dropped, Ok(3)));
+    Ok(())
 }
 
 #[test]
@@ -292,10 +311,13 @@ fn joins_outlive_their_entries(rt: HostRuntime) -> Result<(), Fail> {
     } = make_seats(alloc, 1, 1, 0, 0)?;
     let mut writer = pop_writer(&rt, &history, &mut writers);
     let mut reader = pop_pinned(&rt, &history, &mut pinned);
-    let declared = history.append(&rt, &mut writer, Write::Declare(copy_of(&rt, alloc, "b")?));
-    assert!(rt; matches!(&declared, Ok(1)));
-    fill(&rt, alloc, &history, &mut writer, "a|x", 1, 66_000);
+    declare_two(&rt, alloc, &history, &mut writer)?;
+    fill(&rt, alloc, &history, &mut writer, "a|x", 3, 65_998);
+    let dropped = history.append(&rt, &mut writer, Write::Drop(2));
+    assert!(rt; matches!(&dropped, Ok(65_999)));
+    fill(&rt, alloc, &history, &mut writer, "a|x", 65_999, 66_000);
     expect_floor(&rt, &history, &mut writer, 464, 65_536);
-    expect_join(&rt, &history, &mut reader);
+    let at = pin(&rt, &history, &mut reader);
+    expect_joins(&rt, &history, &mut reader, at);
     Ok(())
 }

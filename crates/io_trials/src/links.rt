@@ -72,3 +72,18 @@ fn doors_give_their_links_and_close(rt: HostRuntime) -> Result<(), Fail> {
     holds(&rt, 2, 0, doors.open_at("anywhere") == Err(Failed));
     Ok(())
 }
+
+#[test]
+fn doors_keep_the_receipts_that_came_back(rt: HostRuntime) -> Result<(), Fail> {
+    let alloc = rt.alloc();
+    let sink = MemSink::new(alloc, Vec::new(alloc));
+    let mut link = MemLink::new(source_of(alloc, &[], &[])?, sink);
+    let mut doors = MemDoors::<MemLink>::new(Vec::new(alloc), Vec::new(alloc));
+    holds(&rt, 0, 0, doors.returned().is_empty());
+    write_link(&mut link, b"[\"ok\",1]\n")?;
+    doors.take_back(vec![in alloc; vec![in alloc; link.finish()]?]?);
+    let lists = doors.returned();
+    assert!(rt; lists.len() == 1 && lists[0].len() == 1);
+    holds(&rt, 1, 0, lists[0][0].bytes() == b"[\"ok\",1]\n".as_slice());
+    Ok(())
+}

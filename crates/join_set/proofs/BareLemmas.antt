@@ -16,8 +16,9 @@ use Rattle.semantics.proofs.StayLemmas.{IsWithinStay, IsUpTo, AreUpTo, stays_up_
 use Rattle.growing_history.proofs.EnteredLemmas.{entered_taken}
 use Rattle.growing_history.specs.Changes.{has_table, bare_between}
 use Rattle.join_set.specs.Sets.{LastDrop, Joins, AreJoins, bare_since, drops_after, drops_of, joins_then, last_drop}
-use Rattle.join_set.specs.Timelines.{up_to, end_up_to, drop_up_to, greatest, changed_up_to, dropped_up_to}
-use Rattle.join_set.proofs.TimelineLemmas.{is_hit, joins_now, stays_of-push, changed_at-push, changed_taken, dropped_taken, dropped_declared, dropped_more, dropped_ended, stays_tell_changes}
+use Rattle.join_set.specs.Timelines.{up_to, end_up_to, drop_up_to, greatest, changed_up_to, dropped_up_to, kept_stays}
+use Rattle.join_set.proofs.TimelineLemmas.{is_hit, joins_now, stays_of-push, changed_at-push, dropped_taken, dropped_declared, dropped_more, dropped_ended}
+use Rattle.join_set.proofs.SettleLemmas.{joins_kept, changed_from_floor, dropped_kept, same_from_floor}
 
 -- a join of another table
 abbrev is_other : Text → DeclaredJoin → Bool
@@ -225,16 +226,28 @@ AreJoins-nil = record { standing = refl; changed = refl; bare = λ q table up. l
 
 -- ---- the set of the first entries
 
--- what the stays tell of the first entries is the set of these
-pub AreJoins-taken : (h : History) (p : ℕ) (drops : List LastDrop) → AllEntered h → p ≤ length h → ((table : Text) → last_drop table drops ≡ dropped_up_to p table (stays_of h)) →
-    AreJoins 0 (record { standing = joins_at p (stays_of h); changed = changed_up_to p (stays_of h); drops = drops }) (take p h)
-AreJoins-taken h p drops entered within tell =
+-- what the stays that are kept from a floor on tell of the first entries is the set of these
+pub AreJoins-settled : (h : History) (floor p : ℕ) (drops : List LastDrop) → AllEntered h → floor ≤ p → p ≤ length h →
+    ((table : Text) → last_drop table drops ≡ dropped_up_to p table (kept_stays floor (stays_of h))) →
+    AreJoins floor (record {
+      standing = joins_at p (kept_stays floor (stays_of h));
+      changed = max (changed_at (take floor h)) (changed_up_to p (kept_stays floor (stays_of h)));
+      drops = drops;
+    }) (take p h)
+AreJoins-settled h floor p drops entered above within tell =
     let long : length (take p h) ≡ p = omega (arith, length-take p h) in
-    let stand = joins_at_stays h p in
+    let stand = joins_kept floor p (stays_of h) above ∙ sym (joins_at_stays h p) in
     record {
-      standing = sym stand;
-      changed = changed_taken p h ∙ sym (stays_tell_changes (take p h) (entered_taken p h entered) ∙ ap (λ n. changed_up_to n (stays_of (take p h))) long);
+      standing = stand;
+      changed = changed_from_floor floor p h entered above within;
       bare = λ q table up.
-          (λ i. list_all (is_other table) (sym stand i) && nat_le ((tell table ∙ dropped_taken p table h) i) q)
+          (λ i. list_all (is_other table) (stand i) && nat_le ((tell table) i) q)
+          ∙ ap (λ b. list_all (is_other table) (joins_of (take p h)) && b)
+          (same_from_floor floor (dropped_up_to p table (kept_stays floor (stays_of h))) (dropped_up_to p table (stays_of h)) q up (dropped_kept floor p table (stays_of h)))
+          ∙ ap (λ n. list_all (is_other table) (joins_of (take p h)) && nat_le n q) (dropped_taken p table h)
           ∙ sym (bare_now (take p h) q table ∙ ap (λ n. list_all (is_other table) (joins_of (take p h)) && nat_le (dropped_up_to n table (stays_of (take p h))) q) long);
     }
+
+-- the set of a history from a floor on is its set from a higher one on
+pub AreJoins-higher : (floor above : ℕ) (joins : Joins) (h : History) → floor ≤ above → AreJoins floor joins h → AreJoins above joins h
+AreJoins-higher floor above joins h up are = record { standing = are.standing; changed = are.changed; bare = λ q table high. are.bare q table (omega arith) }

@@ -6,6 +6,7 @@ pub mod OwnerLemmas
 pub mod CauseLemmas
 pub mod RemoveLemmas
 pub mod TimelineLemmas
+pub mod SettleLemmas
 pub mod BareLemmas
 pub mod StayLemmas
 pub mod SummaryLemmas

@@ -1,5 +1,5 @@
 -- The verdict from what is kept of a history, and what is kept after one entry more.
-use Rattle.std.proofs.Common.{◌≡◌, ℕ, ◌+◌, ◌-◌, ◌^◌, [], ◌∷◌, ◌++◌, List, length, take, nat_le, true, false, ◌<◌, ◌≤◌, leb-false, Option, Some, None, if◌then◌else◌, refl, sym, ap, ◌∙◌, subst, length-append, length-take, arith}
+use Rattle.std.proofs.Common.{◌≡◌, ℕ, ◌+◌, ◌-◌, ◌^◌, [], ◌∷◌, ◌++◌, List, length, take, max, nat_le, true, false, ◌<◌, ◌≤◌, leb-false, Option, Some, None, if◌then◌else◌, refl, sym, ap, ◌∙◌, subst, length-append, length-take, arith}
 use Rattle.semantics.specs.Texts.{Text}
 use Rattle.semantics.specs.Joins.{Join}
 use Rattle.semantics.specs.Histories.{Write, put, remove, declare, drop_join, Entry, History, DeclaredJoin, joins_of, changed_at}
@@ -12,10 +12,12 @@ use Rattle.semantics.proofs.JoinSets.{first_cause-None, test-from_None}
 use Rattle.semantics.proofs.StayLemmas.{joins_at_stays}
 use Rattle.growing_history.proofs.EnteredLemmas.{entered_taken}
 use Rattle.join_set.specs.Sets.{Joins, LastDrop, AreJoins, joins_then, last_drop}
-use Rattle.join_set.specs.Timelines.{changed_up_to, dropped_up_to}
-use Rattle.join_set.specs.Summaries.{Summary, no_summary, StandsFor, IsOfSome, own_cause, cause_over, summary_after}
+use Rattle.std.proofs.lemmas.List.{take-append-le}
+use Rattle.join_set.specs.Timelines.{changed_up_to, dropped_up_to, kept_stays}
+use Rattle.join_set.specs.Summaries.{Summary, no_summary, StandsFor, IsOfSome, own_cause, cause_over, summary_after, summary_settled}
 use Rattle.join_set.proofs.TimelineLemmas.{stays_of-push, changed_within}
-use Rattle.join_set.proofs.BareLemmas.{AreJoins-nil, AreJoins-push, AreJoins-taken}
+use Rattle.join_set.proofs.SettleLemmas.{joins_kept, kept_kept, kept_after, changed_from_floor}
+use Rattle.join_set.proofs.BareLemmas.{AreJoins-nil, AreJoins-push, AreJoins-settled}
 
 -- the cause against a write, once there is room
 own_cause-StandsFor : (summary : Summary) (h : History) (write : Write) → StandsFor summary h → own_cause summary write ≡ write_cause write h
@@ -34,7 +36,7 @@ cause_over-StandsFor summary h write s =
 
 -- what is kept of the history without entries
 pub StandsFor-nil : StandsFor no_summary []
-StandsFor-nil = record { joins = AreJoins-nil; same_length = refl; same_stays = refl; entered = AllEntered-nil }
+StandsFor-nil = record { joins = AreJoins-nil; same_length = refl; within = omega arith; settled = refl; kept = refl; entered = AllEntered-nil }
 
 -- what is kept after one entry more, against which nothing was
 pub StandsFor-push : (summary : Summary) (h : History) (client : ℕ) (write : Write) → StandsFor summary h → cause_over summary write ≡ None →
@@ -42,10 +44,15 @@ pub StandsFor-push : (summary : Summary) (h : History) (client : ℕ) (write : W
 StandsFor-push summary h client write s free =
     let e : Entry = record { client = client; write = write } in
     let next : length h + 1 ≡ summary.length + 1 = ap (λ n. n + 1) (sym s.same_length) in
+    let behind : summary.floor < length h + 1 = omega (arith, s.within) in
     record {
       joins = subst (λ n. AreJoins 0 (joins_then n write summary.joins) (h ++ e ∷ [])) next (AreJoins-push summary.joins h e s.joins);
       same_length = sym next ∙ sym (length-append h (e ∷ []));
-      same_stays = (λ i. stays_after (sym next i) write (s.same_stays i)) ∙ sym (stays_of-push h e);
+      within = omega (arith, s.within, length-append h (e ∷ []));
+      settled = s.settled ∙ ap changed_at (sym (take-append-le summary.floor h (e ∷ []) s.within));
+      kept =
+          (λ i. stays_after (sym next i) write (s.kept i)) ∙ sym (kept_after summary.floor (length h + 1) write (stays_of h) behind)
+          ∙ ap (kept_stays summary.floor) (sym (stays_of-push h e));
       entered = AllEntered-push h e s.entered (sym (cause_over-StandsFor summary h write s) ∙ free);
     }
 
@@ -58,19 +65,41 @@ within_some summary some =
     let last = changed_within some.history s.entered in
     omega (arith, last, s.joins.changed, s.same_length)
 
--- the joins that stand after the first entries may stand
-pub admissible_some : (summary : Summary) (p : ℕ) → IsOfSome summary → IsAdmissible (joins_at p summary.stays)
-admissible_some summary p some =
+-- the joins that stand after the first entries, from the floor on, may stand
+pub admissible_some : (summary : Summary) (p : ℕ) → IsOfSome summary → summary.floor ≤ p → IsAdmissible (joins_at p summary.stays)
+admissible_some summary p some above =
     let s = some.stands in
-    subst (λ js. IsAdmissible js) (joins_at_stays some.history p ∙ ap (joins_at p) (sym s.same_stays)) (entered_is_admissible_lem (take p some.history) (entered_taken p some.history s.entered))
+    subst (λ js. IsAdmissible js) (joins_at_stays some.history p ∙ sym (joins_kept summary.floor p (stays_of some.history) above) ∙ ap (joins_at p) (sym s.kept))
+    (entered_is_admissible_lem (take p some.history) (entered_taken p some.history s.entered))
 
--- what the stays tell of the first entries is the set of these
-pub taken_some : (summary : Summary) (h : History) (p : ℕ) (drops : List LastDrop) → StandsFor summary h → p ≤ summary.length →
+-- what the stays tell of the first entries, from the floor on, is the set of these
+pub taken_some : (summary : Summary) (h : History) (p : ℕ) (drops : List LastDrop) → StandsFor summary h → summary.floor ≤ p → p ≤ summary.length →
     ((table : Text) → last_drop table drops ≡ dropped_up_to p table summary.stays) →
-    AreJoins 0 (record { standing = joins_at p summary.stays; changed = changed_up_to p summary.stays; drops = drops }) (take p h)
-taken_some summary h p drops s within tell =
-    subst (λ stays. AreJoins 0 (record { standing = joins_at p stays; changed = changed_up_to p stays; drops = drops }) (take p h)) (sym s.same_stays)
-    (AreJoins-taken h p drops s.entered (omega (arith, within, s.same_length)) (λ table. tell table ∙ ap (dropped_up_to p table) s.same_stays))
+    AreJoins summary.floor (record { standing = joins_at p summary.stays; changed = max summary.settled (changed_up_to p summary.stays); drops = drops }) (take p h)
+taken_some summary h p drops s above within tell =
+    subst (λ (joins : Joins). AreJoins summary.floor joins (take p h))
+    (λ i. record { standing = joins_at p (sym s.kept i); changed = max (sym s.settled i) (changed_up_to p (sym s.kept i)); drops = drops })
+    (AreJoins-settled h summary.floor p drops s.entered above (omega (arith, within, s.same_length)) (λ table. tell table ∙ ap (dropped_up_to p table) s.kept))
+
+-- ---- a higher floor
+
+-- what is kept of the history with a higher floor
+pub StandsFor-settled : (summary : Summary) (h : History) (floor : ℕ) → StandsFor summary h → summary.floor ≤ floor → floor ≤ summary.length → StandsFor (summary_settled floor summary) h
+StandsFor-settled summary h floor s rises within =
+    let short : floor ≤ length h = omega (arith, within, s.same_length) in
+    record {
+      joins = s.joins;
+      same_length = s.same_length;
+      within = short;
+      settled = (λ i. max (s.settled i) (changed_up_to floor (s.kept i))) ∙ changed_from_floor summary.floor floor h s.entered rises short;
+      kept = ap (kept_stays floor) s.kept ∙ kept_kept summary.floor floor (stays_of h) rises;
+      entered = s.entered;
+    }
+
+-- it is of some history too
+pub some_settled : (summary : Summary) (floor : ℕ) → IsOfSome summary → summary.floor ≤ floor → floor ≤ summary.length → IsOfSome (summary_settled floor summary)
+some_settled summary floor some rises within =
+    record { history = some.history; stands = StandsFor-settled summary some.history floor some.stands rises within; room = some.room }
 
 -- ---- the cause from the summary
 

@@ -15,7 +15,7 @@ use Rattle.join_set.specs.Timelines.{up_to, end_up_to, change_up_to, drop_up_to,
 
 -- ---- positions up to another
 
-early : (p n : ℕ) → n ≤ p → up_to p n ≡ n
+pub early : (p n : ℕ) → n ≤ p → up_to p n ≡ n
 early p n l = ap (λ b. if b then n else 0) (le-leb n p l)
 
 late : (p n : ℕ) → p < n → up_to p n ≡ 0
@@ -62,7 +62,7 @@ same_greatest f g m (s ∷ stays) are same = λ i. max (same s are.0 i) (same_gr
 -- ---- what comes later
 
 -- the end of a stay by a drop
-abbrev ending : ℕ → ℕ → Stay → Stay
+abbrev pub ending : ℕ → ℕ → Stay → Stay
 ending at position s = if (s.position == at) && is_none s.until then record { position = s.position; join = s.join; until = Some position } else s
 
 -- a number of stays that says nothing of what comes after a position

@@ -1,25 +1,30 @@
 -- What is kept of a history, which histories it stands for, and the verdict from it alone.
-use Rattle.std.specs.Prelude.{◌≡◌, ℕ, ◌+◌, ◌-◌, ◌<◌, ◌^◌, List, [], ◌∷◌, length, nat_le, if◌then◌else◌, Option, Some, None}
-use Rattle.semantics.specs.Histories.{Write, put, remove, declare, drop_join, History}
+use Rattle.std.specs.Prelude.{◌≡◌, ℕ, ◌+◌, ◌-◌, ◌<◌, ◌≤◌, ◌^◌, List, [], ◌∷◌, length, take, max, nat_le, if◌then◌else◌, Option, Some, None}
+use Rattle.semantics.specs.Histories.{Write, put, remove, declare, drop_join, History, changed_at}
 use Rattle.semantics.specs.Stays.{Stay, stays_of, stays_after}
 use Rattle.semantics.specs.Verdicts.{Cause, full, first_cause, computed_cause, join_cause, drop_cause, AllEntered}
 use Rattle.join_set.specs.Sets.{Joins, no_joins, joins_then, AreJoins}
+use Rattle.join_set.specs.Timelines.{kept_stays, changed_up_to}
 
--- the joins, the number of entries, and the stays of all joins that were declared
+-- the joins, the number of entries, a floor, the last declaration or drop up to it, and the stays that had not ended there
 pub record Summary : Type 0 where
   pub joins : Joins
   pub length : ℕ
+  pub floor : ℕ
+  pub settled : ℕ
   pub stays : List Stay
 
 -- what is kept of no entries
 abbrev pub no_summary : Summary
-no_summary = record { joins = no_joins; length = 0; stays = [] }
+no_summary = record { joins = no_joins; length = 0; floor = 0; settled = 0; stays = [] }
 
 -- the summary keeps this of the history, each of whose entries entered
 pub record StandsFor (summary : Summary) (h : History) : Type 0 where
   pub joins : AreJoins 0 summary.joins h
   pub same_length : summary.length ≡ length h
-  pub same_stays : summary.stays ≡ stays_of h
+  pub within : summary.floor ≤ length h
+  pub settled : summary.settled ≡ changed_at (take summary.floor h)
+  pub kept : summary.stays ≡ kept_stays summary.floor (stays_of h)
   pub entered : AllEntered h
 
 -- the summary is of some history, which has fewer than 2^48 entries
@@ -44,5 +49,17 @@ abbrev pub summary_after : Summary → Write → Summary
 summary_after summary write = record {
   joins = joins_then (summary.length + 1) write summary.joins;
   length = summary.length + 1;
+  floor = summary.floor;
+  settled = summary.settled;
   stays = stays_after (summary.length + 1) write summary.stays;
+}
+
+-- the summary with a floor above its own: the stays that ended up to there are let go
+abbrev pub summary_settled : ℕ → Summary → Summary
+summary_settled floor summary = record {
+  joins = summary.joins;
+  length = summary.length;
+  floor = floor;
+  settled = max summary.settled (changed_up_to floor summary.stays);
+  stays = kept_stays floor summary.stays;
 }

@@ -1,7 +1,7 @@
 -- What the stays tell of the first entries of a history: the last declaration or drop, and the last drop of each table.
-use Rattle.std.specs.Prelude.{ℕ, List, [], ◌∷◌, max, nat_le, if◌then◌else◌, Option, Some, None}
+use Rattle.std.specs.Prelude.{ℕ, List, [], ◌∷◌, filter, max, nat_le, if◌then◌else◌, Option, Some, None}
 use Rattle.semantics.specs.Texts.{Text}
-use Rattle.semantics.specs.Stays.{Stay}
+use Rattle.semantics.specs.Stays.{Stay, is_after}
 use Rattle.growing_history.specs.Changes.{has_table}
 
 -- a position, where it lies up to another; otherwise 0
@@ -33,3 +33,7 @@ changed_up_to p stays = greatest (change_up_to p) stays
 -- the last drop, up to a position, of a join with its output in a table
 abbrev pub dropped_up_to : ℕ → Text → List Stay → ℕ
 dropped_up_to p table stays = greatest (drop_up_to p table) stays
+
+-- the stays that have not ended up to a floor
+abbrev pub kept_stays : ℕ → List Stay → List Stay
+kept_stays floor stays = filter (λ s. is_after floor s.until) stays

@@ -6,11 +6,11 @@ ghost use Rattle.join_types.specs.Causes.{plain_cause};
 ghost use Rattle.join_types.specs.Writes.{plain_write};
 ghost use Rattle.join_set.specs.Faults.{plain_fault};
 ghost use Rattle.join_set.specs.Sets.{AreJoins, with_join, without_join};
-ghost use Rattle.join_set.specs.Summaries.{StandsFor, cause_over, own_cause, summary_after};
+ghost use Rattle.join_set.specs.Summaries.{StandsFor, cause_over, own_cause, summary_after, summary_settled};
 
 use crate::fault::{AddFault, RemoveFault};
 use crate::set::JoinSet;
-use crate::stays::{Stay, changed_up_to, drops_up_to, end_stays, joins_at};
+use crate::stays::{Stay, changed_up_to, drops_up_to, end_stays, joins_at, keep_stays};
 use join_types::{Cause, Join, Write};
 use key_space::Key;
 use out_of_memory::OutOfMemory;
@@ -20,13 +20,16 @@ use std::marker::Model;
 /// The number of entries with which a history is full.
 pub const FULL: u64 = (1 << 48) - 1;
 
-/// What is kept of a history each of whose entries entered: the joins that stand, the number of entries, and each join that was
-/// ever declared with the positions from which and until which it stood.
+/// What is kept of a history each of whose entries entered: the joins that stand, the number of entries, and each join that stood
+/// at a floor or was declared after it, with the positions from which and until which it stood.
 #[derive(Debug, Drop)]
 pub struct Standing {
     alloc: Global,
     joins: JoinSet,
     entries: u64,
+    floor: u64,
+    /// The position of the last declaration or drop up to the floor.
+    settled: u64,
     stays: Vec<Stay>,
 }
 
@@ -35,9 +38,9 @@ impl Model for Standing {
 
     ghost Value = { Summary };
 
-    ghost view = { λ s. record { joins = s.joins; length = s.entries; stays = s.stays.items } };
+    ghost view = { λ s. record { joins = s.joins; length = s.entries; floor = s.floor; settled = s.settled; stays = s.stays.items } };
 
-    ghost invariant = { λ s. IsOfSome (record { joins = s.joins; length = s.entries; stays = s.stays.items }) };
+    ghost invariant = { λ s. IsOfSome (record { joins = s.joins; length = s.entries; floor = s.floor; settled = s.settled; stays = s.stays.items }) };
 }
 
 impl Standing {
@@ -49,6 +52,8 @@ impl Standing {
             alloc,
             joins: JoinSet::new(alloc),
             entries: 0,
+            floor: 0,
+            settled: 0,
             stays: Vec::new(alloc),
         }
     }
@@ -61,16 +66,41 @@ impl Standing {
         &self.joins
     }
 
-    /// Makes the set of the joins that stand after the first p entries, and their ranks: each join is compared with each. Linear
-    /// in the joins that were ever declared, each of which is held against the tables of dropped ones.
+    /// Makes the set of the joins that stand after the first p entries, from the floor on, and their ranks: each join is compared
+    /// with each. Of dropped joins the set knows from the floor on. Linear in the joins that stood at the floor or were declared
+    /// later, each of which is held against the tables of dropped ones.
     pub fn joins_at(&self, p: u64) -> Result<JoinSet, OutOfMemory>
-        requires { p ≤ self.now.length }
-        ensures { IfOk result (λ joins. (h : History) → StandsFor self.now h → AreJoins 0 joins (take p h)) }
+        requires above { self.now.floor ≤ p }
+        requires within { p ≤ self.now.length }
+        ensures { IfOk result (λ joins. (h : History) → StandsFor self.now h → AreJoins self.now.floor joins (take p h)) }
     {
         let stays = self.stays.as_slice();
         let joins = joins_at(self.alloc, stays, p)?;
         let drops = drops_up_to(self.alloc, stays, p)?;
-        JoinSet::of(self.alloc, joins, changed_up_to(stays, p), drops)
+        let changed = self.settled.max(changed_up_to(stays, p));
+        JoinSet::of(self.alloc, joins, changed, drops)
+    }
+
+    /// Raises the floor, from which on it knows the joins of earlier positions: the joins that were dropped up to there are let go.
+    /// It takes no memory, and is linear in the joins that stood at the floor before or were declared later.
+    pub fn settle(&mut self, floor: u64)
+        requires rises { self.old.floor ≤ floor }
+        requires within { floor ≤ self.old.length }
+        ensures exact { self.new ≡ summary_settled floor self.old }
+        ensures history { (h : History) → StandsFor self.old h → StandsFor self.new h }
+    {
+        let last = changed_up_to(self.stays.as_slice(), floor);
+        let settled = self.settled.max(last);
+        keep_stays(&mut self.stays, floor);
+        self.settled = settled;
+        self.floor = floor;
+    }
+
+    /// Gives the floor, from which on it knows the joins of earlier positions. Constant.
+    pub fn floor(&self) -> u64
+        ensures { result ≡ self.now.floor }
+    {
+        self.floor
     }
 
     /// The number of entries, below 2^48.

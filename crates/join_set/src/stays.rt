@@ -2,9 +2,9 @@
 ghost use Rattle.std.specs.Prelude.{◌≡◌, ◌&&◌, ◌==◌, IfOk, Some, is_none, max, if◌then◌else◌};
 ghost use Rattle.semantics.specs.Texts.{Text};
 ghost use Rattle.semantics.specs.Histories.{drop_join};
-ghost use Rattle.semantics.specs.Stays.{declared, joins_at, stands_at, stays_after};
+ghost use Rattle.semantics.specs.Stays.{declared, is_after, joins_at, stands_at, stays_after};
 ghost use Rattle.join_set.specs.Sets.{drops_after, last_drop, last_drop_of};
-ghost use Rattle.join_set.specs.Timelines.{up_to, end_up_to, change_up_to, changed_up_to, drop_up_to, dropped_up_to};
+ghost use Rattle.join_set.specs.Timelines.{up_to, end_up_to, change_up_to, changed_up_to, drop_up_to, dropped_up_to, kept_stays};
 
 use crate::drops::{LastDrop, drops_after, last_drop_of};
 use crate::stands::Stands;
@@ -40,15 +40,21 @@ fn up_to(p: u64, position: u64) -> u64
 }
 
 impl Stay {
+    /// Whether it has not ended after the first p entries.
+    fn is_after(&self, p: u64) -> bool
+        ensures { result ≡ is_after p self.now.until }
+    {
+        match self.until {
+            Some(end) => p < end,
+            None => true,
+        }
+    }
+
     /// Whether the join stands after the first p entries.
     fn stands_at(&self, p: u64) -> bool
         ensures { result ≡ stands_at p self.now }
     {
-        self.position <= p
-            && match self.until {
-                Some(end) => p < end,
-                None => true,
-            }
+        self.position <= p && self.is_after(p)
     }
 
     /// Gives the position of the drop, where it lies up to another; otherwise 0.
@@ -115,6 +121,13 @@ pub fn end_stays(stays: &mut [Stay], at: u64, position: u64)
     for stay in stays.iter_mut() {
         stay.end(at, position);
     }
+}
+
+/// Leaves out the stays that ended up to a floor. Linear in the stays; it takes no memory.
+pub fn keep_stays(stays: &mut Vec<Stay>, floor: u64)
+    ensures { stays.new.items ≡ kept_stays floor stays.old.items }
+{
+    stays.retain(|stay| stay.is_after(floor));
 }
 
 /// Copies the joins that stand after the first p entries. Linear in the stays.

@@ -54,6 +54,15 @@ impl Link for Ordered {
 
     ghost write_faults = { λ l. l.link.sink.log.faults };
 
+    type Receipt = MemLink;
+
+    ghost tells = { λ l. record {
+      left = Some l.source.left;
+      taken = Some l.sink.taken;
+      read_faults = l.source.log.faults;
+      write_faults = l.sink.log.faults;
+    } };
+
     fn read(&mut self, into: &mut [u8]) -> Result<usize, Failed> {
         let _ = self.calls.push(b'r');
         self.link.read(into)
@@ -62,6 +71,11 @@ impl Link for Ordered {
     fn write(&mut self, bytes: &[u8]) -> Result<usize, Failed> {
         let _ = self.calls.push(b'w');
         self.link.write(bytes)
+    }
+
+    fn finish(self) -> MemLink {
+        let Ordered { link, .. } = self;
+        link
     }
 }
 

@@ -5,7 +5,7 @@
 ghost use Rattle.std.specs.Prelude.{◌≢◌};
 
 use crate::answer::Answer;
-use crate::words::{read_cause, read_pairs};
+use crate::words::{read_cause, read_changes, read_pairs};
 use key_space::Value;
 use request_codec::{
     LONG_LINE, LineFault, MEMORY_LINE, Reply, cause_name, long_line, memory_line, number_value,
@@ -66,6 +66,14 @@ fn tell_pairs(alloc: Global, fields: &mut Fields<'_>, answer: &mut Answer) -> Op
     tell_line(alloc, &Reply::Pairs(position, pairs), answer)
 }
 
+/// Tells the line of changes.
+fn tell_changes(alloc: Global, fields: &mut Fields<'_>, answer: &mut Answer) -> Option<()> {
+    let from = fields.number();
+    let position = fields.number();
+    let changes = read_changes(alloc, fields.next())?;
+    tell_line(alloc, &Reply::Changes(from, position, changes), answer)
+}
+
 /// Tells the line of an entry, as it is written with memory and without.
 fn tell_done(alloc: Global, fields: &mut Fields<'_>, answer: &mut Answer) -> Option<()> {
     let position = fields.number();
@@ -109,6 +117,9 @@ pub fn run(alloc: Global, kind: &str, fields: &mut Fields<'_>, answer: &mut Answ
         "found" => tell_found(alloc, fields, answer),
         "absent" => tell_line(alloc, &Reply::Absent(fields.number()), answer),
         "pairs" => tell_pairs(alloc, fields, answer),
+        "gone" => tell_line(alloc, &Reply::Gone(fields.number()), answer),
+        "ahead" => tell_line(alloc, &Reply::Ahead(fields.number()), answer),
+        "changes" => tell_changes(alloc, fields, answer),
         "refused" => tell_refused(alloc, fields, answer),
         "unread" => tell_unread(alloc, fields, answer),
         "fixed" => tell_fixed(alloc, answer),

@@ -30,6 +30,18 @@ fn tell_request(request: &Request, answer: &mut Answer) {
             answer.say(range.lo());
             answer.say(range.hi());
         }
+        Request::ScanAt(range, at) => {
+            answer.say("scan");
+            answer.say(range.lo());
+            answer.say(range.hi());
+            answer.tell(at);
+        }
+        Request::Changes(range, from) => {
+            answer.say("changes");
+            answer.say(range.lo());
+            answer.say(range.hi());
+            answer.tell(from);
+        }
         Request::Declare(join) => {
             answer.say("join of");
             answer.tell(&join.sources.len());

@@ -36,7 +36,7 @@ pub fn tell_joins(alloc: Global, joins: &JoinSet, answer: &mut Answer) -> Option
     Some(())
 }
 
-/// Tells the joins that stood after so many entries.
+/// Tells the joins that stood after so many entries, from the floor on.
 fn tell_earlier(
     alloc: Global,
     standing: &Standing,
@@ -44,11 +44,24 @@ fn tell_earlier(
     answer: &mut Answer,
 ) -> Option<()> {
     let entries = entries.parse::<u64>().ok()?;
-    if entries > standing.length() {
+    let (floor, length) = (standing.floor(), standing.length());
+    if entries < floor || entries > length {
         return None;
     }
     let joins = standing.joins_at(entries).ok()?;
     tell_joins(alloc, &joins, answer)
+}
+
+/// Raises the floor to so many entries.
+fn raise_floor(standing: &mut Standing, entries: &str, answer: &mut Answer) -> Option<()> {
+    let entries = entries.parse::<u64>().ok()?;
+    let (floor, length) = (standing.floor(), standing.length());
+    if entries < floor || entries > length {
+        return None;
+    }
+    standing.settle(entries);
+    answer.tell(&standing.floor());
+    Some(())
 }
 
 /// Tells whether a table is bare from a position on, which stand beside each other: `POSITION TABLE`.
@@ -60,8 +73,8 @@ fn tell_bare(joins: &JoinSet, asked: &str, answer: &mut Answer) -> Option<()> {
 }
 
 /// Takes one step: a write is offered, `length` asks for the number of entries, `count` for the number of joins, `changed` for
-/// the last declaration or drop, `bare POSITION TABLE` whether the table is bare from there on, `joins` for each join, and
-/// `joins NUMBER` for those after so many entries.
+/// the last declaration or drop, `bare POSITION TABLE` whether the table is bare from there on, `joins` for each join,
+/// `joins NUMBER` for those after so many entries, and `settle NUMBER` raises the floor to so many.
 fn take_step(
     alloc: Global,
     standing: &mut Standing,
@@ -73,6 +86,9 @@ fn take_step(
     }
     if let Some(entries) = step.strip_prefix("joins ") {
         return tell_earlier(alloc, standing, entries, answer);
+    }
+    if let Some(entries) = step.strip_prefix("settle ") {
+        return raise_floor(standing, entries, answer);
     }
     match step {
         "length" => answer.tell(&standing.length()),

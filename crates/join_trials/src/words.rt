@@ -1,5 +1,6 @@
 // What rows write, as values. Nothing stands for what is not written as it has to be.
 use crate::answer::Answer;
+use change_lists::Change;
 use join_lang::{parse, print};
 use join_types::{Cause, Pair, Positions, Write};
 use key_space::{Key, Value};
@@ -45,6 +46,23 @@ pub fn read_pairs(alloc: Global, field: &str) -> Option<Vec<Pair>> {
         pairs.push(read_pair(alloc, word)?).ok()?;
     }
     Some(pairs)
+}
+
+/// Returns the changes of a field, which stand between spaces: `KEY=VALUE`, or `KEY` where it has gone.
+pub fn read_changes(alloc: Global, field: &str) -> Option<Vec<Change>> {
+    let mut changes = Vec::new(alloc);
+    if field.is_empty() {
+        return Some(changes);
+    }
+    for word in field.split(' ') {
+        let (key, value) = match word.split_once('=') {
+            Some((key, value)) => (key, Some(Value::read(alloc, value).ok()?)),
+            None => (word, None),
+        };
+        let key = Key::read(alloc, key).ok()?;
+        changes.push(Change { key, value }).ok()?;
+    }
+    Some(changes)
 }
 
 /// Returns the write that a field is: `put KEY=VALUE`, `remove KEY`, `drop POSITION` or the text of a join.

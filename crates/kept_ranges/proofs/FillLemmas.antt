@@ -17,8 +17,8 @@ use Rattle.semantics.proofs.TableLemmas.{IsAscending, value_from_has}
 use Rattle.semantics.proofs.MergedLemmas.{ascending-pairs_within, value_at-pairs_within}
 use Rattle.semantics.proofs.GatherLemmas.{ascending-out}
 use Rattle.semantics.proofs.OutputLemmas.{output_of_join, out_keys_fit_short}
-use Rattle.key_ranges.specs.Containing.{bind_range, containing}
-use Rattle.key_ranges.proofs.BindRangeLemmas.{bind_range_is_shared}
+use Rattle.key_ranges.specs.Containing.{range_slots, containing}
+use Rattle.key_ranges.proofs.RangeSlotLemmas.{range_slots_are_shared}
 use Rattle.growing_history.proofs.ElementLemmas.{all_from_has, has_of_all}
 use Rattle.range_evaluation.specs.Trees.{Need, placed_sources, tree}
 use Rattle.range_evaluation.specs.TreeLaws.{AreOutputSlots}
@@ -135,11 +135,11 @@ filled_rows j range table kept ok rows = record {
   exact = λ key inside clear. ap (value_at key) rows ∙ value_at-pairs_within range key (out j table) ∙ cond-true (within range key) _ _ inside;
 }
 
--- the needs that are filled, by the slots that the range shares
+-- the needs that are filled, by the range's slots
 abbrev AreFilled : Join → Range → Table → List Need → Option Slots → Type 0
 AreFilled j range table needs o = MatchOption o (needs ≡ []) (λ slots. needs ≡ tree j slots range table)
 
--- a key that goes on from a path of an output key, which has the shared slots as a part, is held
+-- a key that goes on from a path of an output key, which has the range's slots as a part, is held
 followed_by : (j : Join) (range : Range) (out : Text) (table : Table) (needs : List Need) (o : Option Slots) (path : List Text) (more wider : Slots) (source : ℕ) (s : Source) (next : Text) → is_join j ≡ true → is_range range.low range.high ≡ true → within range out ≡ true → Fits j.output out more → IsSource table
     → AreFilled j range table needs o → IfSome o (AreOutputSlots j) → IsSomeAnd o (λ shared. IsPartOf shared more) → IsPath (placed_sources j) table path more
     → slice_get (placed_sources j) (length path) ≡ Some (source, s) → IsPartOf more wider → Fits s.pattern next wider → length next ≤ 512 → Any (HoldsNext source path more next) needs
@@ -161,7 +161,7 @@ filled_is_right j range table kept ok is below filled =
     record {
       rows = filled_rows j range table kept ok filled.rows;
       followed = λ key path more wider source s next inside clear fit on at wide follows short.
-          followed_by j range key table kept.needs (bind_range j.output range) path more wider source s next ok is inside fit below filled.needs are (bind_range_is_shared j.output range key more segments is inside fit) on at wide follows short;
-      came = came_by j range table kept.needs (bind_range j.output range) ok below filled.needs are;
+          followed_by j range key table kept.needs (range_slots j.output range) path more wider source s next ok is inside fit below filled.needs are (range_slots_are_shared j.output range key more segments is inside fit) on at wide follows short;
+      came = came_by j range table kept.needs (range_slots j.output range) ok below filled.needs are;
       pending = subst (AllByRecursion (AreOutputSlots j)) (sym filled.pending) tt;
     }

@@ -6,17 +6,17 @@ use Rattle.semantics.specs.Patterns.{Slots, bind, fill}
 use Rattle.semantics.specs.Joins.{is_check, Source, Join}
 use Rattle.semantics.specs.Outputs.{out}
 use Rattle.semantics.specs.States.{merged}
-use Rattle.key_ranges.specs.Containing.{bind_range, only}
+use Rattle.key_ranges.specs.Containing.{range_slots, only}
 use Rattle.range_evaluation.specs.Trees.{Need, tree, is_asked}
 use Rattle.join_rows.specs.Kept.{set_pair}
 use Rattle.kept_ranges.specs.Kept.{Kept, is_covered}
 
 -- ---- filling
 
--- what is kept once the range is filled: the join's output in the range, the needs under the slots that the range shares, and nothing pending
+-- what is kept once the range is filled: the join's output in the range, the needs under the range's slots, and nothing pending
 pub record IsFilled (j : Join) (range : Range) (table : Table) (kept : Kept) : Type 0 where
   pub rows : kept.rows ≡ pairs_within range (out j table)
-  pub needs : MatchOption (bind_range j.output range) (kept.needs ≡ []) (λ slots. kept.needs ≡ tree j slots range table)
+  pub needs : MatchOption (range_slots j.output range) (kept.needs ≡ []) (λ slots. kept.needs ≡ tree j slots range table)
   pub pending : kept.pending ≡ []
 
 -- ---- changed keys of check sources

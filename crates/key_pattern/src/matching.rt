@@ -3,10 +3,10 @@ ghost use Rattle.std.specs.Prelude.{◌≡◌, IfOk, IsSome, true, false, if◌t
 ghost use Rattle.std.specs.Option.{option_copied};
 ghost use Rattle.std.specs.String.{string_bytes};
 ghost use Rattle.semantics.specs.Texts.{has_bar};
-ghost use Rattle.semantics.specs.Patterns.{is_segment, taken, takes_width, segment_text};
+ghost use Rattle.semantics.specs.Patterns.{is_segment, is_pattern, taken, bind, takes_width, segment_text};
 ghost use Rattle.key_ranges.specs.Containing.{is_text, has_text};
 ghost use Rattle.key_pattern.specs.Plain.{plain_segment, plain_segments};
-ghost use Rattle.key_pattern.specs.Places.{CanFill};
+ghost use Rattle.key_pattern.specs.Places.{AreSlots, CanFill};
 ghost use Rattle.key_pattern.specs.Pieces.{CutsFirst, AddsSegment, Joins};
 
 use crate::segment::Segment;
@@ -74,6 +74,28 @@ pub fn take<'a>(segment: &Segment, text: &'a str, slots: &mut Slots<'a>) -> bool
                 Some(there) => there == text,
             }
         }
+    }
+}
+
+/// The given slots with those added that the segments of the text set. None exactly where the pattern's segments do not take
+/// them, one each, or one disagrees with a given slot. Linear in the text, and nothing is copied.
+pub fn bind_text<'a>(segments: &[Segment], text: &'a str, given: &Slots<'a>) -> Option<Slots<'a>>
+    requires { is_pattern (plain_segments segments.now) ≡ true }
+    ensures binds { result ≡ bind (plain_segments segments.now) text.now given.now }
+    ensures slots { AreSlots given.now }
+{
+    let mut found = given.copy();
+    let mut left = Some(text);
+    for segment in segments {
+        let (text, rest) = first_segment(left?);
+        if !take(segment, text, &mut found) {
+            return None;
+        }
+        left = rest;
+    }
+    match left {
+        None => Some(found),
+        Some(_) => None,
     }
 }
 

@@ -5,7 +5,7 @@ ghost use Rattle.semantics.specs.Patterns.{is_segment, is_pattern, begins_with_t
 ghost use Rattle.key_pattern.specs.Plain.{plain_segments};
 ghost use Rattle.key_pattern.specs.Places.{AreSlots, CanFill};
 
-use crate::matching::{first_segment, join_texts, take};
+use crate::matching::{bind_text, join_texts};
 use crate::segment::Segment;
 use crate::slots::Slots;
 use key_space::table::MAX_TABLE_BYTES;
@@ -102,19 +102,7 @@ impl Pattern {
         ensures is_pattern { is_pattern self.now ≡ true }
         ensures slots { AreSlots given.now }
     {
-        let mut found = given.copy();
-        let mut left = Some(key.text());
-        for segment in self.segments.iter() {
-            let (text, rest) = first_segment(left?);
-            if !take(segment, text, &mut found) {
-                return None;
-            }
-            left = rest;
-        }
-        match left {
-            None => Some(found),
-            Some(_) => None,
-        }
+        bind_text(self.segments(), key.text(), given)
     }
 
     /// Whether the key fits the pattern under some slots. Linear in the key.

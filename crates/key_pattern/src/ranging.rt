@@ -6,13 +6,13 @@ ghost use Rattle.semantics.specs.Texts.{Text, bar, names_table, within};
 ghost use Rattle.semantics.specs.Patterns as plain;
 ghost use Rattle.semantics.specs.Patterns.{bind, is_pattern, short};
 ghost use Rattle.key_ranges.specs.Ranges.{just, prefix_range};
-ghost use Rattle.key_ranges.specs.Containing.{bind_range, pattern_range, containing};
+ghost use Rattle.key_ranges.specs.Containing.{bind_range, range_slots, pattern_range, containing};
 ghost use Rattle.key_ranges.specs.ContainingLaws.{HoldsFitting, HoldsTogether};
 ghost use Rattle.key_pattern.specs.Plain.{plain_segment, plain_segments};
 ghost use Rattle.key_pattern.specs.Shared.{AscendBehind, Shares};
 ghost use Rattle.key_pattern.specs.Fixed.{fixed_text, AddsFixed, JoinsFixed};
 
-use crate::matching::take;
+use crate::matching::{bind_text, take};
 use crate::narrowing::{narrow, narrowed_range};
 use crate::pattern::Pattern;
 use crate::segment::Segment;
@@ -165,6 +165,20 @@ impl Pattern {
             }
         }
         None
+    }
+
+    /// The slots under which a range of the pattern's keys is filled: those that its key sets where it holds one key alone,
+    /// and otherwise those that all its keys share which fit the pattern. None only where no key of the range fits. Linear
+    /// in the bounds, and nothing is copied.
+    pub fn range_slots<'a>(&self, range: &'a Range) -> Option<Slots<'a>>
+        ensures exact { result ≡ range_slots self.now range.now }
+        ensures is_pattern { is_pattern self.now ≡ true }
+    {
+        if range.is_single() {
+            bind_text(self.segments(), range.lo(), &Slots::none())
+        } else {
+            self.bind_range(range)
+        }
     }
 
     /// The range that holds every key which fits the pattern under the slots, or under more: that of the one key where

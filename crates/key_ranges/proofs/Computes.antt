@@ -1,8 +1,8 @@
 -- What an answer unfolds to compute the definitions on literals.
 use Rattle.std.specs.Prelude.{⊤}
 use Rattle.semantics.specs.Patterns.{no_slots}
-use Rattle.key_ranges.specs.Containing.{bind_range, pattern_range, containing}
+use Rattle.key_ranges.specs.Containing.{bind_range, range_slots, pattern_range, containing}
 
 unfoldable pub definitions_on_literals : ⊤
-unfolding no_slots bind_range pattern_range containing
+unfolding no_slots bind_range range_slots pattern_range containing
 definitions_on_literals = tt

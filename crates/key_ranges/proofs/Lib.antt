@@ -4,6 +4,7 @@ pub mod RangeLemmas
 pub mod BeginningLemmas
 pub mod LongestLemmas
 pub mod BindRangeLemmas
+pub mod RangeSlotLemmas
 pub mod ContainingLemmas
 pub mod ExactLemmas
 pub mod OpenLemmas

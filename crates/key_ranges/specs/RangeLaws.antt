@@ -2,7 +2,7 @@
 use Rattle.std.specs.Prelude.{◌≡◌, ◌&&◌, [], ◌∷◌, ◌++◌, true, false, nat_eq, IfSome, MatchOption}
 use Rattle.std.specs.List.{starts_with}
 use Rattle.semantics.specs.Texts.{Text, bar, same, is_key, is_range, Range, within}
-use Rattle.key_ranges.specs.Ranges.{is_open, meets, later, cut, prefix_range, just}
+use Rattle.key_ranges.specs.Ranges.{is_open, meets, later, cut, prefix_range, just, is_single}
 
 -- the common part of two ranges holds the keys that both hold; there is none only where they hold none in common
 abbrev pub CutIsCommonPart : Type 0
@@ -43,3 +43,11 @@ JustHolds = (key other : Text) → within (just key) other ≡ same key other
 -- the range of one key is a range
 abbrev pub JustIsRange : Type 0
 JustIsRange = (key : Text) → is_key key ≡ true → is_range (just key).low (just key).high ≡ true
+
+-- the ranges of one key alone are the single ones
+abbrev pub JustIsSingle : Type 0
+JustIsSingle = (key : Text) → is_single (just key) ≡ true
+
+-- a single range holds its first bound alone
+abbrev pub SingleHoldsFirst : Type 0
+SingleHoldsFirst = (r : Range) (key : Text) → is_single r ≡ true → within r key ≡ same r.low key

@@ -1,7 +1,7 @@
 -- Two ranges, and ranges made from one text.
 use Rattle.std.specs.Prelude.{◌&&◌, ◌-◌, [], ◌∷◌, ◌++◌, length, take, Bool, if◌then◌else◌, Option, Some, None}
 use Rattle.std.specs.Ordering.{is_lt}
-use Rattle.semantics.specs.Texts.{Text, brace, text_cmp, Range}
+use Rattle.semantics.specs.Texts.{Text, brace, same, text_cmp, Range}
 
 -- whether the first text is below the second
 abbrev pub is_below : Text → Text → Bool
@@ -46,3 +46,7 @@ prefix_range t = record { low = t; high = closed t }
 -- the range of one key alone: from it to the key followed by byte 0
 abbrev pub just : Text → Range
 just key = record { low = key; high = key ++ 0 ∷ [] }
+
+-- whether a range holds one key alone: its last bound is its first bound and byte 0
+abbrev pub is_single : Range → Bool
+is_single r = same r.high (r.low ++ 0 ∷ [])

@@ -1,5 +1,5 @@
 // Laws on the slots that ranges share, on the prefix ranges of patterns, and on containing ranges.
-ghost use Rattle.key_ranges.specs.ContainingLaws.{SharedIsLongest, BindRangeIsLeast, BindRangeIsShared, BindRangeGivesSlots, PatternRangeHolds, PatternRangeIsRange, PatternRangeIsExact, PatternRangeBeginsWithKey, FirstOpenFollowsFixed, OpenAfterShared, ContainingHolds, ContainingIsRange, ContainingLiesInPrefix, OnlyHasPlaces, OnlyIsGiven};
+ghost use Rattle.key_ranges.specs.ContainingLaws.{SharedIsLongest, BindRangeIsLeast, BindRangeIsShared, BindRangeGivesSlots, RangeSlotsAreShared, RangeSlotsAreSlots, RangeSlotsAreOfOutput, RangeSlotsAddToShared, PatternRangeHolds, PatternRangeIsRange, PatternRangeIsExact, PatternRangeBeginsWithKey, FirstOpenFollowsFixed, OpenAfterShared, ContainingHolds, ContainingIsRange, ContainingLiesInPrefix, OnlyHasPlaces, OnlyIsGiven};
 
 /// The shared beginning of a range is the longest beginning of its first bound that ends with `|` and whose range holds
 /// both bounds.
@@ -21,6 +21,26 @@ pub fn bind_range_is_shared()
 /// The texts of the shared slots may stand for segments, in 16 places.
 pub fn bind_range_gives_slots()
     ensures { BindRangeGivesSlots }
+{}
+
+/// The slots of a range are a part of those of each key of the range that fits the output.
+pub fn range_slots_are_shared()
+    ensures { RangeSlotsAreShared }
+{}
+
+/// The texts of the slots of a range may stand for segments, in 16 places.
+pub fn range_slots_are_slots()
+    ensures { RangeSlotsAreSlots }
+{}
+
+/// The slots of a range have texts for places of the output alone.
+pub fn range_slots_are_of_output()
+    ensures { RangeSlotsAreOfOutput }
+{}
+
+/// The slots that a range shares are a part of its slots.
+pub fn range_slots_add_to_shared()
+    ensures { RangeSlotsAddToShared }
 {}
 
 /// Every key that fits a pattern under slots of which the given ones are a part lies in its prefix range.

@@ -1,5 +1,5 @@
 // Laws on ranges.
-ghost use Rattle.key_ranges.specs.RangeLaws.{CutIsCommonPart, CutIsOpen, HoldersMeet, MeetIsShared, CutIsRange, PrefixRangeHolds, PrefixRangeIsRange, JustHolds, JustIsRange};
+ghost use Rattle.key_ranges.specs.RangeLaws.{CutIsCommonPart, CutIsOpen, HoldersMeet, MeetIsShared, CutIsRange, PrefixRangeHolds, PrefixRangeIsRange, JustHolds, JustIsRange, JustIsSingle, SingleHoldsFirst};
 
 /// The common part of two ranges holds the keys that both hold; there is none only where they hold none in common.
 pub fn cut_is_common_part()
@@ -44,4 +44,14 @@ pub fn just_holds()
 /// The range of one key is a range.
 pub fn just_is_range()
     ensures { JustIsRange }
+{}
+
+/// The range of one key is single.
+pub fn just_is_single()
+    ensures { JustIsSingle }
+{}
+
+/// A single range holds its first bound alone.
+pub fn single_holds_first()
+    ensures { SingleHoldsFirst }
 {}

@@ -3,7 +3,7 @@ ghost use Rattle.std.specs.Prelude.{◌≡◌, ◌≤◌, ◌↔◌, ◌<◌, If
 ghost use Rattle.std.specs.List.{ends_with};
 ghost use Rattle.std.specs.String.{string_bytes};
 ghost use Rattle.semantics.specs.Texts.{Range as Bounds, bar, is_key, is_range, table_of, within};
-ghost use Rattle.key_ranges.specs.Ranges.{meets, cut, later, earlier, prefix_range, just};
+ghost use Rattle.key_ranges.specs.Ranges.{meets, cut, later, earlier, prefix_range, just, is_single};
 ghost use Rattle.key_space.specs.Parts.{ends_table};
 
 use crate::key::Key;
@@ -182,6 +182,16 @@ impl Range {
         ensures { result ≡ within self.now key.now }
     {
         self.lo() <= key.text() && key.text() < self.hi()
+    }
+
+    /// Whether the range holds one key alone: its last bound is its first bound and byte 0. Linear in the bounds.
+    pub fn is_single(&self) -> bool
+        ensures { result ≡ is_single self.now }
+    {
+        match self.hi().strip_suffix('\0') {
+            None => false,
+            Some(front) => front == self.lo(),
+        }
     }
 
     /// An equal range, which shares the bounds. It takes constant time.

@@ -21,6 +21,7 @@ pub fn answer(alloc: Global, mut fields: Fields<'_>, out: &mut Answer) -> Option
         "fill" => answer_fill(alloc, fields, out),
         "overlap" => answer_overlap(alloc, fields, out),
         "bind" => answer_bind(alloc, fields, out),
+        "slots" => answer_slots(alloc, fields, out),
         "only" => answer_only(alloc, fields, out),
         "contain" => answer_contain(alloc, fields, out),
         "prefix" => answer_prefix(alloc, fields, out),
@@ -182,6 +183,14 @@ fn answer_bind(alloc: Global, mut fields: Fields<'_>, out: &mut Answer) -> Optio
     let pattern = read_pattern(alloc, fields.next())?;
     let range = next_range(alloc, &mut fields)?;
     show_found(pattern.bind_range(&range), out);
+    Some(())
+}
+
+/// Answers `slots;PATTERN;LOW;HIGH`: the slots under which the range is filled.
+fn answer_slots(alloc: Global, mut fields: Fields<'_>, out: &mut Answer) -> Option<()> {
+    let pattern = read_pattern(alloc, fields.next())?;
+    let range = next_range(alloc, &mut fields)?;
+    show_found(pattern.range_slots(&range), out);
     Some(())
 }
 

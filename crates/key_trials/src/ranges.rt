@@ -17,6 +17,7 @@ pub fn answer(alloc: Global, mut fields: Fields<'_>, out: &mut Answer) -> Option
         "common" => answer_common(alloc, fields, out),
         "prefix" => answer_prefix(alloc, fields, out),
         "just" => answer_just(alloc, fields, out),
+        "single" => answer_single(alloc, fields, out),
         _ => None,
     }
 }
@@ -98,5 +99,11 @@ fn answer_just(alloc: Global, mut fields: Fields<'_>, out: &mut Answer) -> Optio
     let range = Range::just(alloc, &key).ok()?;
     show_range(&range, out);
     out.flag(range.contains(&key));
+    Some(())
+}
+
+/// Answers `single;LOW;HIGH`: whether the range holds one key alone.
+fn answer_single(alloc: Global, mut fields: Fields<'_>, out: &mut Answer) -> Option<()> {
+    out.flag(next_range(alloc, &mut fields)?.is_single());
     Some(())
 }

@@ -2,7 +2,7 @@
 use Rattle.std.proofs.Common.{◌≡◌, ℕ, ◌<◌, ◌≤◌, get_or, Contains, arith, Bool, true, false, cond, not, ◌||◌, List, [], ◌∷◌, ◌++◌, length, map, filter, Option, Some, None, is_some, refl, sym, ap, ◌∙◌, subst}
 use Rattle.std.specs.List.{AllByRecursion, list_any}
 use Rattle.std.specs.Option.{IsSomeAnd}
-use Rattle.std.proofs.lemmas.Bool.{false≢true}
+use Rattle.std.proofs.lemmas.Bool.{false≢true, or_parts}
 use Rattle.std.proofs.lemmas.List.{length-map, get_or-map}
 use Rattle.semantics.specs.Texts.{Text, Range, within}
 use Rattle.semantics.specs.Patterns.{Pattern, Slots, bind}
@@ -107,3 +107,15 @@ left_slots output range ns before after h none is =
 pub taken_slots : (output : Pattern) (range : Range) (ns : List Noted) (before after : List Slots) → AreHeld output ns → before ≡ [] → after ≡ before ++ slots_of (filter (λ n. meets_held n.held range) ns) → after ≡ filter (meets_output output range) (slots_of ns)
 taken_slots output range ns before after h none is =
     is ∙ ap (λ ss. ss ++ slots_of (filter (λ n. meets_held n.held range) ns)) none ∙ slots_where output (λ held. meets_held held range) ns h
+
+-- ---- where none passes
+
+-- of what does not pass nothing is taken out, and all is left
+pub none_passes : (test : Slots → Bool) (noted : List Slots) → list_any test noted ≡ false → (filter test noted ≡ []) × (filter (λ slots. not (test slots)) noted ≡ noted)
+none_passes test [] none = (refl, refl)
+none_passes test (slots ∷ more) none =
+    let parts = or_parts (test slots) (list_any test more) none in
+    let rest = none_passes test more parts.1 in (
+      ap (λ b. cond b (slots ∷ filter test more) (filter test more)) parts.0 ∙ rest.0,
+      ap (λ b. cond (not b) (slots ∷ filter (λ s. not (test s)) more) (filter (λ s. not (test s)) more)) parts.0 ∙ ap (λ ss. slots ∷ ss) rest.1,
+    )

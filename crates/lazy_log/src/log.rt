@@ -210,7 +210,8 @@ impl LazyLog {
     }
 
     /// Takes out the slots under which the prefix range of the output meets the range, in the order of noting. The
-    /// others are left, in their order. Linear in the noted slots and the bounds, and no text is copied.
+    /// others are left, in their order. Linear in the noted slots and the bounds, and no text is copied. Where it takes some
+    /// out, `note` looks at all that are left for the next 32 times.
     ///
     /// On `OutOfMemory` all is unchanged.
     pub fn take_meeting(&mut self, range: &Range) -> Result<Vec<SlotTexts>, OutOfMemory>
@@ -218,6 +219,9 @@ impl LazyLog {
         ensures left { OnOk result (self.new ≡ record self.old { noted = filter (λ slots. not (meets_output self.old.output range.now slots)) self.old.noted }) }
         ensures err { OnErr result (self.new ≡ self.old) }
     {
+        if !self.meets(range) {
+            return Ok(Vec::new(self.alloc));
+        }
         let mut taken = Vec::with_capacity(self.alloc, self.noted.len())?;
         let mut left = Vec::with_capacity(self.alloc, self.noted.len())?;
         self.index = None;

@@ -14,7 +14,7 @@ use std::alloc::Global;
 use std::sync::Wait;
 
 /// The first client meets each of the others, clients of one cache.
-fn meet_all<'g, N: Naming, G: Gate, R: Wait>(
+fn meet_all<'g, N: Naming, G: Gate, R>(
     rt: &R,
     first: &mut Client<'g, N, G>,
     others: &mut [Client<'g, N, G>],

@@ -2,3 +2,4 @@ pub mod ToldLemmas
 pub mod JoinsLemmas
 pub mod ClientLemmas
 pub mod SeatLemmas
+pub mod EarlierLemmas

@@ -5,13 +5,15 @@ use Rattle.std.proofs.lemmas.List.{length-append, append-nil, append_cancel_left
 use Rattle.semantics.specs.Histories.{Write, Entry, History, IsPrefix}
 use Rattle.semantics.specs.Verdicts.{Cause, verdict, AllEntered}
 use Rattle.semantics.specs.Answers.{Read, answer}
-use Rattle.protocol.specs.Requests.{Request, write, read}
+use Rattle.protocol.specs.Requests.{Request, write, read, earlier, Earlier}
 use Rattle.protocol.specs.Replies.{Reply, done, answered, refused, memory}
+use Rattle.protocol.specs.Earlier.{earlier_reply}
 use Rattle.protocol.specs.Told.{Told}
 use Rattle.protocol.proofs.Telling.{told-append}
-use Rattle.protocol.proofs.TellingSteps.{told_of_others, told_done, told_refused, told_read, told_no_memory_to_write, told_no_memory_to_read}
+use Rattle.protocol.proofs.TellingSteps.{told_of_others, told_done, told_refused, told_read, told_earlier, told_no_memory_to_write, told_no_memory_to_read, told_no_memory_to_ask}
 use Rattle.write_history.specs.Entries.{EndsWith, written_by}
 use Rattle.write_history.specs.Passes.{PassView, GoesOn, entry_by, own}
+use Rattle.pequod_cache.specs.Clients.{IsReplied}
 use Rattle.write_history.proofs.Entering.{prefix_of_longer, written_by-append, written_by-own, written_by-between}
 
 -- ---- the entries of others
@@ -92,15 +94,32 @@ told_no_write old new w same =
 
 -- ---- reads
 
--- a read is told the answer of what the client had seen at some moment, though it has written nothing and may have seen more since
-pub told_answer : (old new : PassView) (seen : History) (r : Read) → IsPrefix old.view seen → IsPrefix seen new.view → GoesOn old new → own new ≡ own old →
-    Told old.view new.view old.number (read r ∷ []) (answered (answer r seen) ∷ [])
-told_answer old new seen r first next goes same =
+-- what is told over what the client had seen at some moment is told, though it has written nothing and may have seen more since
+pub told_over : (old new : PassView) (seen : History) (request : Request) (reply : Reply) → IsPrefix old.view seen → IsPrefix seen new.view → GoesOn old new → own new ≡ own old →
+    Told seen seen old.number (request ∷ []) (reply ∷ []) → Told old.view new.view old.number (request ∷ []) (reply ∷ [])
+told_over old new seen request reply first next goes same told =
     let number : ℕ = old.number in
     let all = same_own old new goes same in
     let later = written_by-between number old.view seen new.view first next all in
-    told-append old.view seen new.view number [] (read r ∷ []) [] (answered (answer r seen) ∷ []) (told_others number old.view seen first (sym later ∙ all))
-    (told-append seen seen new.view number (read r ∷ []) [] (answered (answer r seen) ∷ []) [] (told_read seen number r) (told_others number seen new.view next later))
+    told-append old.view seen new.view number [] (request ∷ []) [] (reply ∷ []) (told_others number old.view seen first (sym later ∙ all))
+    (told-append seen seen new.view number (request ∷ []) [] (reply ∷ []) [] told (told_others number seen new.view next later))
+
+-- a read is told the answer of that
+pub told_answer : (old new : PassView) (seen : History) (r : Read) → IsPrefix old.view seen → IsPrefix seen new.view → GoesOn old new → own new ≡ own old →
+    Told old.view new.view old.number (read r ∷ []) (answered (answer r seen) ∷ [])
+told_answer old new seen r first next goes same = told_over old new seen (read r) (answered (answer r seen)) first next goes same (told_read seen old.number r)
+
+-- a question about an earlier position is told what it is after that
+pub told_replied : (old new : PassView) (e : Earlier) (reply : Reply) → IsReplied old new e reply → GoesOn old new → own new ≡ own old → Told old.view new.view old.number (earlier e ∷ []) (reply ∷ [])
+told_replied old new e reply replied goes same =
+    subst (λ r. Told old.view new.view old.number (earlier e ∷ []) (r ∷ [])) (sym replied.is)
+    (told_over old new replied.seen (earlier e) (earlier_reply e replied.seen) replied.begins replied.goes_on goes same (told_earlier replied.seen old.number e))
+
+-- or finds no memory
+pub told_no_reply : (old new : PassView) (e : Earlier) → GoesOn old new → own new ≡ own old → Told old.view new.view old.number (earlier e ∷ []) (memory ∷ [])
+told_no_reply old new e goes same =
+    told-append old.view new.view new.view old.number [] (earlier e ∷ []) [] (memory ∷ []) (told_others old.number old.view new.view goes.begins (same_own old new goes same))
+    (told_no_memory_to_ask new.view old.number e)
 
 -- a read may find no memory
 pub told_no_answer : (old new : PassView) (r : Read) → GoesOn old new → own new ≡ own old → Told old.view new.view old.number (read r ∷ []) (memory ∷ [])

@@ -1,3 +1,4 @@
 pub mod Clients
+pub mod Questions
 pub mod Sitting
 pub mod Alone

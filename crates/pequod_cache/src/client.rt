@@ -2,16 +2,18 @@
 ghost use Rattle.std.specs.Prelude.{◌≡◌, ◌≢◌, ◌<◌, ◌∷◌, [], IfOk};
 ghost use Rattle.semantics.specs.Histories.{put, remove, declare, drop_join};
 ghost use Rattle.semantics.specs.Answers.{get, scan};
-ghost use Rattle.protocol.specs.Requests.{write, read};
+ghost use Rattle.protocol.specs.Requests.{write, read, earlier, scan_at, changes_since};
 ghost use Rattle.protocol.specs.Told.{Told};
 ghost use Rattle.join_types.specs.Writes.{plain_write};
 ghost use Rattle.request_codec.specs.Plain.{plain_reply, plain_request};
 ghost use Rattle.write_history.specs.Entries.{IsRecorded};
 ghost use Rattle.write_history.specs.Passes.{GoesOn, own};
 ghost use Rattle.write_history.specs.declared.known.Mark.TheVariants.{Free};
-ghost use Rattle.pequod_cache.specs.Clients.{IsFound};
+ghost use Rattle.pequod_cache.specs.Clients.{IsFound, IsReplied};
+ghost use Rattle.pequod_cache.specs.Questions.{asked};
 
 use crate::cache::Cache;
+use crate::earlier::{Question, ToldBack};
 use base_shards::Naming;
 use join_set::JoinSet;
 use join_types::{Join, Pair, Write};
@@ -258,6 +260,72 @@ impl<'g, N: Naming, G: Gate> Client<'g, N, G> {
         }
     }
 
+    /// Asks about an earlier position of the range, which is read there or from there on: it looks first, brings its joins there, and
+    /// is pinned there while it reads.
+    fn ask_counted<L: Ledger, R: Wait>(
+        &mut self,
+        rt: &R,
+        range: &Range,
+        question: Question,
+        blank: Blank,
+    ) -> Result<Reply, OutOfMemory>
+        requires name { blank.name ≡ L.name }
+        requires parts { blank.parts ≡ L.parts }
+        requires some { 0 < blank.parts }
+        ensures replied { IfOk result (λ reply. IsReplied self.old self.new (asked question range.now) (plain_reply reply)) }
+        ensures goes_on { GoesOn self.old self.new }
+        ensures own { own self.new ≡ own self.old }
+    {
+        let Some(mut pass) = self.pass.take() else {
+            unreachable!()
+        };
+        let seen = self.cache.look(rt, &mut pass, &mut self.joins);
+        let Ok(position) = seen else {
+            self.pass = Some(pass);
+            return Err(OutOfMemory);
+        };
+        let mut steps: Steps<L> = Steps::open(blank);
+        let joins = &self.joins;
+        let cache = &self.cache;
+        let told = cache.ask(
+            rt, pass, joins, position, question, range, self.gate, &mut steps,
+        );
+        let ToldBack { pass, reply } = told;
+        let mut pass = pass;
+        self.cache.history.unpin(rt, &mut pass);
+        self.pass = Some(pass);
+        reply
+    }
+
+    /// The pairs of the range in the state after the first so many entries: `Pairs` with that number, `Gone` exactly where there are
+    /// more than 65,536 entries after them now, `Ahead` exactly where there are not so many, both with the number of entries, or
+    /// `Memory`. While it reads, it is pinned where it looked. While another thread has what it needs, this one sleeps.
+    ///
+    /// What is kept past the position is not brought back, but evaluated beside it.
+    pub fn scan_at<R: Wait>(&mut self, rt: &R, range: &Range, at: u64) -> Reply
+        ensures told { Told self.old.view self.new.view self.old.number (earlier (scan_at range.now at) ∷ []) (plain_reply result ∷ []) }
+        ensures goes_on { GoesOn self.old self.new }
+    {
+        let question = Question::ScanAt(at);
+        match self.ask_counted::<Brand, R>(rt, range, question, Blank::new(1)) {
+            Ok(reply) => reply,
+            Err(OutOfMemory) => Reply::Memory,
+        }
+    }
+
+    /// What changed in the range from the state after the first so many entries to the one after all that the history has now:
+    /// `Changes` with both numbers, or `Gone`, `Ahead` or `Memory` as `scan_at`.
+    pub fn changes<R: Wait>(&mut self, rt: &R, range: &Range, from: u64) -> Reply
+        ensures told { Told self.old.view self.new.view self.old.number (earlier (changes_since range.now from) ∷ []) (plain_reply result ∷ []) }
+        ensures goes_on { GoesOn self.old self.new }
+    {
+        let question = Question::ChangesSince(from);
+        match self.ask_counted::<Brand, R>(rt, range, question, Blank::new(1)) {
+            Ok(reply) => reply,
+            Err(OutOfMemory) => Reply::Memory,
+        }
+    }
+
     /// Answers a request other than `Quit`, as the call for it does.
     pub fn answer<R: Wait>(&mut self, rt: &R, request: Request) -> Reply
         requires { request ≢ Request.Quit }
@@ -271,6 +339,8 @@ impl<'g, N: Naming, G: Gate> Client<'g, N, G> {
             Request::Drop(position) => self.drop_join(rt, position),
             Request::Get(key) => self.get(rt, &key),
             Request::Scan(range) => self.scan(rt, &range),
+            Request::ScanAt(range, at) => self.scan_at(rt, &range, at),
+            Request::Changes(range, from) => self.changes(rt, &range, from),
             Request::Quit => unreachable!(),
         }
     }
@@ -283,7 +353,7 @@ impl<'g, N: Naming, G: Gate> Client<'g, N, G> {
     }
 
     /// Both clients, of one cache, see what either has seen. It waits for nobody.
-    pub fn meet<R: Wait>(&mut self, rt: &R, other: &mut Client<'g, N, G>)
+    pub fn meet<R>(&mut self, rt: &R, other: &mut Client<'g, N, G>)
         ensures first { GoesOn self.old self.new }
         ensures second { GoesOn other.old other.new }
         ensures same { self.new.view ≡ other.new.view }

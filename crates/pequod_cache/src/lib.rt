@@ -10,6 +10,7 @@
 pub mod alone;
 pub mod cache;
 pub mod client;
+mod earlier;
 pub mod seats;
 pub mod service;
 pub mod updater;

@@ -4,9 +4,11 @@ use Rattle.semantics.specs.Texts.{Text}
 use Rattle.semantics.specs.Joins.{Join}
 use Rattle.semantics.specs.Histories.{History}
 use Rattle.protocol.specs.JoinsFile.{file_history, check_text}
+use Rattle.pq_io.specs.Links.{LinkTold}
 use Rattle.pq_io.specs.Streams.{Took, TookProperPrefix}
 use Rattle.pq_io.specs.Shelf.{File}
 use Rattle.server.specs.Doors.{HoldNone}
+use Rattle.server.specs.Receipts.{LinksCameBack}
 use Rattle.server.specs.Staffs.{declared}
 use Rattle.pequod_commands.specs.Statuses.{IsTaken}
 
@@ -56,13 +58,16 @@ pub data Serving : Type 0 where
   failed : List Join → Serving
   unserved : Unserved → Serving
 
--- what each end says of the status, of the joins file, of what the sink took and of what the doors hold
-abbrev pub ServedAs : {K : Type 0} → Serving → ℕ → Option (List File) → Option Text → Option Text → Option Text → Option (List K) → Type 0
-ServedAs (closed served) status held joins taken taken_now links = (status ≡ 0) × AreServed held joins served × Took taken taken_now [] × HoldNone links
-ServedAs (failed served) status held joins taken taken_now links = (status ≡ 8) × AreServed held joins served × Took taken taken_now []
-ServedAs (unserved ending) status held joins taken taken_now links = UnservedAs ending status held joins taken taken_now
+module _ {K R : Type 0} (told : K → LinkTold) (tells : R → LinkTold) where
+  -- what each end says of the status, of the joins file, of what the sink took, and of the links: what the doors held and hold, and the receipts that came back
+  abbrev pub ServedAs : Serving → ℕ → Option (List File) → Option Text → Option Text → Option Text → Option (List K) → Option (List K) → Option (List (List R)) → Type 0
+  ServedAs (closed served) status held joins taken taken_now links links_now returned =
+      (status ≡ 0) × AreServed held joins served × Took taken taken_now [] × HoldNone links_now × LinksCameBack told tells served links links_now returned
+  ServedAs (failed served) status held joins taken taken_now links links_now returned =
+      (status ≡ 8) × AreServed held joins served × Took taken taken_now [] × LinksCameBack told tells served links links_now returned
+  ServedAs (unserved ending) status held joins taken taken_now links links_now returned = UnservedAs ending status held joins taken taken_now
 
--- `serve` with or without a joins file ended one of these ways; `links` is what the doors hold then
-pub record ServesTo {K : Type 0} (status : ℕ) (held : Option (List File)) (joins taken taken_now : Option Text) (links : Option (List K)) : Type 0 where
-  pub ending : Serving
-  pub served : ServedAs ending status held joins taken taken_now links
+  -- `serve` with or without a joins file ended one of these ways
+  pub record ServesTo (status : ℕ) (held : Option (List File)) (joins taken taken_now : Option Text) (links links_now : Option (List K)) (returned : Option (List (List R))) : Type 0 where
+    pub ending : Serving
+    pub served : ServedAs ending status held joins taken taken_now links links_now returned

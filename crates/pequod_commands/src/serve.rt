@@ -2,8 +2,10 @@
 ghost use Rattle.std.specs.Prelude.{◌≡◌, ◌≢◌, ◌≤◌, ◌⊎◌, map, option_map, is_err, true, IfErr, IfOk, MatchOption, OnOk};
 ghost use Rattle.protocol.specs.JoinsFile.{check_text, file_history};
 ghost use Rattle.pq_io.specs.Faults.{Rose};
+ghost use Rattle.pq_io.specs.Links.{link_told};
 ghost use Rattle.pq_io.specs.Streams.{Took, TookProperPrefix};
 ghost use Rattle.server.specs.Doors.{HoldNone};
+ghost use Rattle.server.specs.Receipts.{LinksCameBack};
 ghost use Rattle.server.specs.Staffs.{AreDeclarable};
 ghost use Rattle.pequod_commands.specs.Serves.{AreOfFile, AreServed, EndsUnserved, IsJoinsEnd, ServesTo};
 
@@ -13,7 +15,7 @@ use join_set::JoinSet;
 use join_types::Join;
 use joins_file::{Declared, declare, report};
 use out_of_memory::OutOfMemory;
-use pq_io::{Doors, Failed, Gate, Shelf, Sink, TakeFault, write_whole};
+use pq_io::{Doors, Failed, Gate, Link, Shelf, Sink, TakeFault, write_whole};
 use server::{Ended, Size};
 use std::alloc::Global;
 use std::sync::Wait;
@@ -109,7 +111,7 @@ fn named_joins<W: Sink, F: Shelf>(
 }
 
 /// Serves the links of the doors, once they are open at the address, by a cache with these joins.
-fn serve_links<R: Threads + Wait + Sync, D: Doors + Send, G: Gate + Sync>(
+fn serve_links<R, D, G>(
     rt: &R,
     alloc: Global,
     serving: Serving<'_>,
@@ -117,6 +119,11 @@ fn serve_links<R: Threads + Wait + Sync, D: Doors + Send, G: Gate + Sync>(
     doors: &mut D,
     gate: &G,
 ) -> Status
+where
+    R: Threads + Wait + Sync,
+    D: Doors + Send,
+    <D::Wire as Link>::Receipt: Send,
+    G: Gate + Sync,
     requires some_cells { 1 ≤ serving.room.cells }
     requires few_cells { serving.room.cells ≤ 65536 }
     requires some_rows { 1 ≤ serving.room.rows }
@@ -124,6 +131,7 @@ fn serve_links<R: Threads + Wait + Sync, D: Doors + Send, G: Gate + Sync>(
     requires few_workers { serving.workers ≤ 64 }
     requires joins { AreDeclarable joins.items }
     ensures closed { result.number ≡ 0 → HoldNone (D.held doors.new) }
+    ensures links { result.number ≢ 6 → LinksCameBack (link_told D.Wire.left D.Wire.taken D.Wire.read_faults D.Wire.write_faults) D.Wire.tells joins.items (D.held doors.old) (D.held doors.new) (D.returned doors.new) }
     ensures ends { (result.number ≡ 0) ⊎ ((result.number ≡ 6) ⊎ (result.number ≡ 8)) }
     ensures doors_later { D.faults doors.old ≤ D.faults doors.new }
     ensures doors { result.number ≡ 8 → Rose (D.faults doors.old) (D.faults doors.new) }
@@ -141,9 +149,9 @@ fn serve_links<R: Threads + Wait + Sync, D: Doors + Send, G: Gate + Sync>(
     }
 }
 
-/// Declares the joins of the joins file, opens the doors, and serves each link that they give until they close. A line of the
-/// joins file that is refused is written, and then the doors stay as they are.
-pub fn serve<R: Threads + Wait + Sync, W: Sink, F: Shelf, D: Doors + Send, G: Gate + Sync>(
+/// Declares the joins of the joins file, opens the doors, and serves each link that they give until they close. Then the receipts of
+/// all these links go back to the doors. A line of the joins file that is refused is written, and then the doors stay as they are.
+pub fn serve<R, W, F, D, G>(
     rt: &R,
     alloc: Global,
     serving: Serving<'_>,
@@ -152,12 +160,19 @@ pub fn serve<R: Threads + Wait + Sync, W: Sink, F: Shelf, D: Doors + Send, G: Ga
     doors: &mut D,
     gate: &G,
 ) -> Status
+where
+    R: Threads + Wait + Sync,
+    W: Sink,
+    F: Shelf,
+    D: Doors + Send,
+    <D::Wire as Link>::Receipt: Send,
+    G: Gate + Sync,
     requires some_cells { 1 ≤ serving.room.cells }
     requires few_cells { serving.room.cells ≤ 65536 }
     requires some_rows { 1 ≤ serving.room.rows }
     requires some_workers { 1 ≤ serving.workers }
     requires few_workers { serving.workers ≤ 64 }
-    ensures serve { ServesTo result.number (F.held shelf.old) (option_map (λ text. text.now) serving.entry.joins) (W.taken sink.old) (W.taken sink.new) (D.held doors.new) }
+    ensures serve { ServesTo (link_told D.Wire.left D.Wire.taken D.Wire.read_faults D.Wire.write_faults) D.Wire.tells result.number (F.held shelf.old) (option_map (λ text. text.now) serving.entry.joins) (W.taken sink.old) (W.taken sink.new) (D.held doors.old) (D.held doors.new) (D.returned doors.new) }
     ensures same_held { F.held shelf.new ≡ F.held shelf.old }
     ensures sink_later { W.faults sink.old ≤ W.faults sink.new }
     ensures shelf_later { F.faults shelf.old ≤ F.faults shelf.new }

@@ -1,6 +1,7 @@
 // The top call: all that the program does, over what it is handed.
 ghost use Rattle.std.specs.Prelude.{◌≡◌, ◌<◌, ◌≤◌, ◌↔◌, ◌⊎◌, List, Option, ℕ, map, string_bytes, false, Some, None};
 ghost use Rattle.pq_io.specs.Faults.{Rose};
+ghost use Rattle.pq_io.specs.Links.{link_told};
 ghost use Rattle.command_words.specs.Commands as plain;
 ghost use Rattle.pequod_commands.specs.Built.{built_command, links_of, uses_doors, uses_source, uses_sink, uses_shelf};
 ghost use Rattle.pequod_commands.specs.Statuses.{RunsTo, ChecksTo};
@@ -16,7 +17,7 @@ use crate::serve::{Serving, serve};
 use crate::status::Status;
 use command_words::{Command, read_command};
 use load_run::Load;
-use pq_io::{Doors, Gate, Shelf, Sink, Source};
+use pq_io::{Doors, Gate, Link, Shelf, Sink, Source};
 use std::alloc::Global;
 use std::sync::Wait;
 use std::thread::Threads;
@@ -30,14 +31,7 @@ use std::thread::Threads;
 /// does not use is unchanged: `run` leaves the shelf and the doors, `check` and `replay` the source and the doors, `load` all but
 /// the sink, `serve` the source, and no command all four. With status 6 source and sink are unchanged, and the doors hold what
 /// they held. The gate is passed before a range of a join's output is filled or mended for a link or for a worker of a load.
-pub fn pequod<
-    R: Threads + Wait + Sync,
-    S: Source,
-    W: Sink,
-    F: Shelf,
-    D: Doors + Send,
-    G: Gate + Sync,
->(
+pub fn pequod<R, S, W, F, D, G>(
     rt: &R,
     alloc: Global,
     words: &[String],
@@ -47,6 +41,14 @@ pub fn pequod<
     doors: &mut D,
     gate: &G,
 ) -> Status
+where
+    R: Threads + Wait + Sync,
+    S: Source,
+    W: Sink,
+    F: Shelf,
+    D: Doors + Send,
+    <D::Wire as Link>::Receipt: Send,
+    G: Gate + Sync,
     ensures words { (result.number ≡ 2) ↔ (built_command (map string_bytes words.now) ≡ None) }
     ensures run { (room : plain.Room) → built_command (map string_bytes words.now) ≡ Some (plain.run room) →
         RunsTo result.number (S.left source.old) (S.left source.new) (W.taken sink.old) (W.taken sink.new) }
@@ -57,7 +59,8 @@ pub fn pequod<
     ensures load { (room : plain.Room) (workers number steps users : ℕ) → built_command (map string_bytes words.now) ≡ Some (plain.load room workers number steps users) →
         LoadsTo result.number number steps users (W.taken sink.old) (W.taken sink.new) }
     ensures serve { (address : List ℕ) (room : plain.Room) (workers links : ℕ) (joins : Option (List ℕ)) → built_command (map string_bytes words.now) ≡ Some (plain.serve address room workers links joins) →
-        ServesTo result.number (F.held shelf.old) joins (W.taken sink.old) (W.taken sink.new) (D.held doors.new) }
+        ServesTo (link_told D.Wire.left D.Wire.taken D.Wire.read_faults D.Wire.write_faults) D.Wire.tells result.number
+        (F.held shelf.old) joins (W.taken sink.old) (W.taken sink.new) (D.held doors.old) (D.held doors.new) (D.returned doors.new) }
 
     // Where no count rose, `check`, `replay` and `load` have one of these ends, and so has `serve`.
     ensures check_ends { (name : List ℕ) → built_command (map string_bytes words.now) ≡ Some (plain.check name) →

@@ -1,5 +1,6 @@
 -- Links that doors hold and give, where that is told.
-use Rattle.std.specs.Prelude.{◌≡◌, ℕ, List, [], ◌∷◌, Option, Some, None, IfSome, option_map, Result, Ok, Err}
+use Rattle.std.specs.Prelude.{◌≡◌, ℕ, List, [], ◌∷◌, map, Option, Some, None, IfSome, option_map, Result, Ok, Err, Vec}
+use Rattle.std.specs.Global.{Global}
 use Rattle.pq_io.specs.CallLog.{CallLog}
 
 -- where it is told, the links that were held are this one and then those that are held now; what is not told stays untold
@@ -12,10 +13,20 @@ GivesNextLink old new (Ok (Some link)) = GaveLink old new link
 GivesNextLink old new (Ok None) = (new ≡ old) × IfSome new (λ links. links ≡ [])
 GivesNextLink old new (Err e) = new ≡ old
 
--- what contracts see of doors in memory: the links that are held, and the calls of `next`
-pub record DoorsState (K : Type 0) : Type 0 where
+-- lists as contracts see them
+abbrev pub lists_of : {R : Type 0} → List (Vec R Global) → List (List R)
+lists_of lists = map (λ list. list.items) lists
+
+-- the lists that came back, none where nothing did
+abbrev pub returned_of : {R : Type 0} → Option (Vec (Vec R Global) Global) → List (List R)
+returned_of None = []
+returned_of (Some lists) = lists_of lists.items
+
+-- what contracts see of doors in memory: the links that are held, the calls of `next`, and the receipts that came back last
+pub record DoorsState (K R : Type 0) : Type 0 where
   pub links : List K
   pub log : CallLog
+  pub returned : List (List R)
 
 -- what contracts see of a link over a stream: how many reads and how many writes have failed
 pub record LinkFaults : Type 0 where

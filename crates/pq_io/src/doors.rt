@@ -1,18 +1,21 @@
 // Where links come from.
-ghost use Rattle.std.specs.Prelude.{◌≡◌, List, ℕ};
+ghost use Rattle.std.specs.Prelude.{◌≡◌, List, ℕ, IfSome};
 ghost use Rattle.std.specs.declared.option.Option.{Option};
-ghost use Rattle.pq_io.specs.Doors.{GivesNextLink};
+ghost use Rattle.pq_io.specs.Doors.{GivesNextLink, lists_of};
 ghost use Rattle.pq_io.specs.Faults.{HasCause};
 
 use crate::{Failed, Link};
 
-/// An object that gives links, one after another, until it closes.
+/// An object that gives links, one after another, until it closes, and takes back their receipts.
 pub trait Doors {
     /// What it gives.
     type Wire: Link + Send + Drop;
 
     /// The links that it will give, in order, where they are told.
     ghost held: { Self → Option (List Self.Wire) };
+
+    /// The receipts that came back last, where they are told: a list of each who served links, in the order of serving.
+    ghost returned: { Self → Option (List (List Self.Wire.Receipt)) };
 
     /// How many calls have failed, up to the last value 2^64 - 1.
     ghost faults: { Self → ℕ };
@@ -28,4 +31,10 @@ pub trait Doors {
     fn next(&mut self) -> Result<Option<Self::Wire>, Failed>
         ensures links { GivesNextLink (held self.old) (held self.new) result }
         ensures cause { HasCause (faults self.old) (faults self.new) result };
+
+    /// Takes back the receipts of links that it gave. What it holds stays. It takes no memory.
+    fn take_back(&mut self, receipts: Vec<Vec<<Self::Wire as Link>::Receipt>>)
+        ensures returned { IfSome (returned self.new) (λ lists. lists ≡ lists_of receipts.items) }
+        ensures same_held { held self.new ≡ held self.old }
+        ensures same_faults { faults self.new ≡ faults self.old };
 }

@@ -5,12 +5,17 @@ ghost use Rattle.std.specs.Borrow.{GName};
 ghost use Rattle.std.specs.Io.{ReadsAtMost, WritesAtMost};
 ghost use Rattle.std.specs.Io.KnownBytes.{IsAtEnd};
 ghost use Rattle.pq_io.specs.Faults.{HasCause};
+ghost use Rattle.pq_io.specs.Links.{LinkTold, link_told};
 ghost use Rattle.pq_io.specs.Streams.{GivesNext, TakesFirst, Took, TookProperPrefix};
 
 use crate::{Failed, Sink, Source};
+use std::snapshot::Snapshot;
 
 /// An object that gives bytes and takes bytes. Each side has a count of faults of its own.
 pub trait Link {
+    /// What is left of a link whose use has ended.
+    type Receipt: Drop;
+
     /// The bytes that are left to read, where they are told.
     ghost left: { Self → Option (List ℕ) };
 
@@ -25,6 +30,9 @@ pub trait Link {
 
     /// The references that it holds. No call replaces one.
     ghost borrows: { Self → List GName } = { λ _. [] };
+
+    /// What a receipt tells of its link, as it was when its use ended.
+    ghost tells: { Self.Receipt → LinkTold };
 
     /// Gives the next bytes, as a source does. What was taken stays, and so does the count of failed writes.
     /// `Failed`: nothing was given, and the count of failed reads rose.
@@ -47,6 +55,10 @@ pub trait Link {
         ensures same_left { left self.new ≡ left self.old }
         ensures same_faults { read_faults self.new ≡ read_faults self.old }
         ensures same_borrows { borrows self.new ≡ borrows self.old };
+
+    /// Ends the use of the link, and gives its receipt.
+    fn finish(self) -> Self::Receipt
+        ensures told { tells result ≡ link_told left taken read_faults write_faults self };
 }
 
 /// A link that reads from a source and writes to a sink.
@@ -80,12 +92,26 @@ impl<'a, R: Source, W: Sink> Link for Both<'a, R, W> {
     ghost borrows = { λ b. b.source.ghost_name ∷ b.sink.ghost_name ∷
         (R.borrows b.source.now ++ W.borrows b.sink.now) };
 
+    /// It has no bytes.
+    type Receipt = Snapshot<Both<'a, R, W>>;
+
+    ghost tells = { λ r. record {
+      left = R.left r.value.source.now;
+      taken = W.taken r.value.sink.now;
+      read_faults = R.faults r.value.source.now;
+      write_faults = W.faults r.value.sink.now;
+    } };
+
     fn read(&mut self, into: &mut [u8]) -> Result<usize, Failed> {
         self.source.read(into)
     }
 
     fn write(&mut self, bytes: &[u8]) -> Result<usize, Failed> {
         self.sink.write(bytes)
+    }
+
+    fn finish(self) -> Snapshot<Both<'a, R, W>> {
+        Snapshot::of(&self)
     }
 }
 

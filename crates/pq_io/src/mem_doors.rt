@@ -1,7 +1,7 @@
 // Doors in memory, for tests: the links that they give, and which of their calls fail, are chosen beforehand.
-ghost use Rattle.std.specs.Prelude.{◌≡◌, ◌↔◌, Some, IsErr, Contains, is_err};
+ghost use Rattle.std.specs.Prelude.{◌≡◌, ◌↔◌, [], Some, IfSome, IsErr, Contains, is_err};
 ghost use Rattle.pq_io.specs.CallLog.{NextIsListed, after_call, after_opening, no_calls};
-ghost use Rattle.pq_io.specs.Doors.{GivesNextLink};
+ghost use Rattle.pq_io.specs.Doors.{GivesNextLink, lists_of};
 ghost use Rattle.pq_io.specs.Faults.{HasCause};
 
 use crate::call_log::Calls;
@@ -11,28 +11,40 @@ use std::marker::Model;
 
 /// Doors that give the links that they were made with, and then close. Contracts see them as a `DoorsState`.
 #[derive(Drop)]
-pub struct MemDoors<K> {
+pub struct MemDoors<K: Link> {
     links: VecDeque<K>,
     calls: Calls,
+    returned: Option<Vec<Vec<K::Receipt>>>,
 }
 
-impl<K> Model for MemDoors<K> {
-    ghost use Rattle.pq_io.specs.Doors.{DoorsState};
+impl<K: Link> Model for MemDoors<K> {
+    ghost use Rattle.pq_io.specs.Doors.{DoorsState, returned_of};
 
-    ghost Value = { DoorsState K };
+    ghost Value = { DoorsState K K.Receipt };
 
-    ghost view = { λ d. record { links = d.links.items; log = d.calls } };
+    ghost view = { λ d. record { links = d.links.items; log = d.calls; returned = returned_of d.returned } };
 }
 
-impl<K> MemDoors<K> {
+impl<K: Link> MemDoors<K> {
     /// Doors that give these links in order. A call of `next` fails exactly where its number, counted from 1, is in `fails`,
     /// and `open_at` exactly where 0 is.
     pub fn new(links: Vec<K>, fails: Vec<usize>) -> MemDoors<K>
-        ensures { result ≡ record { links = links.items; log = no_calls fails.items } }
+        ensures { result ≡ record { links = links.items; log = no_calls fails.items; returned = [] } }
     {
         MemDoors {
             links: VecDeque::from(links),
             calls: Calls::new(fails),
+            returned: None,
+        }
+    }
+
+    /// The receipts that came back last, a list of each who served links.
+    pub fn returned(&self) -> &[Vec<K::Receipt>]
+        ensures { lists_of result.now ≡ self.now.returned }
+    {
+        match &self.returned {
+            Some(lists) => lists.as_slice(),
+            None => &[],
         }
     }
 }
@@ -41,6 +53,8 @@ impl<K: Link + Send + Drop> Doors for MemDoors<K> {
     type Wire = K;
 
     ghost held = { λ d. Some d.links };
+
+    ghost returned = { λ d. Some d.returned };
 
     ghost faults = { λ d. d.log.faults };
 
@@ -63,5 +77,14 @@ impl<K: Link + Send + Drop> Doors for MemDoors<K> {
     {
         self.calls.next()?;
         Ok(self.links.pop_front())
+    }
+
+    fn take_back(&mut self, receipts: Vec<Vec<K::Receipt>>)
+        ensures returned { IfSome (Some self.new.returned) (λ lists. lists ≡ lists_of receipts.items) }
+        ensures same_held { Some self.new.links ≡ Some self.old.links }
+        ensures same_faults { self.new.log.faults ≡ self.old.log.faults }
+        ensures same_log { self.new.log ≡ self.old.log }
+    {
+        self.returned = Some(receipts);
     }
 }

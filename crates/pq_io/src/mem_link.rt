@@ -4,13 +4,14 @@ ghost use Rattle.std.specs.Io.{ReadsAtMost, WritesAtMost};
 ghost use Rattle.std.specs.Io.KnownBytes.{IsAtEnd};
 ghost use Rattle.pq_io.specs.CallLog.{NextIsListed, after_call};
 ghost use Rattle.pq_io.specs.Faults.{HasCause};
+ghost use Rattle.pq_io.specs.Links.{link_told};
 ghost use Rattle.pq_io.specs.Memory.{given_count};
 ghost use Rattle.pq_io.specs.Streams.{GivesNext, TakesFirst};
 
 use crate::{Failed, Link, MemSink, MemSource, Sink, Source};
 use std::marker::Model;
 
-/// A link that reads from a source in memory and writes to a sink in memory. Contracts see it as a
+/// A link that reads from a source in memory and writes to a sink in memory. It is its own receipt. Contracts see it as a
 /// `LinkState`.
 #[derive(Drop)]
 pub struct MemLink {
@@ -51,6 +52,15 @@ impl Link for MemLink {
 
     ghost write_faults = { λ l. l.sink.log.faults };
 
+    type Receipt = MemLink;
+
+    ghost tells = { λ l. record {
+      left = Some l.source.left;
+      taken = Some l.sink.taken;
+      read_faults = l.source.log.faults;
+      write_faults = l.sink.log.faults;
+    } };
+
     /// Reads from the source, as `MemSource` does.
     fn read(&mut self, into: &mut [u8]) -> Result<usize, Failed>
         ensures bound { ReadsAtMost result into.new }
@@ -78,5 +88,14 @@ impl Link for MemLink {
         ensures same_source { self.new.source ≡ self.old.source }
     {
         self.sink.write(bytes)
+    }
+
+    /// Gives the link itself.
+    fn finish(self) -> MemLink
+        ensures same { result ≡ self }
+        ensures told { record { left = Some result.source.left; taken = Some result.sink.taken; read_faults = result.source.log.faults; write_faults = result.sink.log.faults }
+            ≡ link_told (λ l. Some l.source.left) (λ l. Some l.sink.taken) (λ l. l.source.log.faults) (λ l. l.sink.log.faults) self }
+    {
+        self
     }
 }

@@ -8,6 +8,7 @@ use crate::{Doors, Failed, Link};
 use std::io::{Read, Write};
 use std::marker::Model;
 use std::net::{Net, OpenListener, OpenStream, TcpListener};
+use std::snapshot::Snapshot;
 use std::thread;
 use std::time::{Clock, Duration};
 
@@ -17,7 +18,7 @@ mod accepting;
 const MOMENT: u64 = 10;
 
 /// A link over a stream that reads and writes. What is left and what was taken are not told. Contracts see it as its two
-/// counts of faults.
+/// counts of faults. Its receipt has no bytes, so that a list of any number of them takes no memory.
 #[derive(Drop)]
 pub struct TcpLink<S> {
     stream: S,
@@ -60,7 +61,9 @@ impl<S> TcpLink<S> {
     }
 }
 
-impl<S: Read + Write> Link for TcpLink<S> {
+impl<S: Read + Write + Drop> Link for TcpLink<S> {
+    type Receipt = Snapshot<TcpLink<S>>;
+
     ghost left = { λ _. None };
 
     ghost taken = { λ _. None };
@@ -68,6 +71,8 @@ impl<S: Read + Write> Link for TcpLink<S> {
     ghost read_faults = { λ l. l.reads };
 
     ghost write_faults = { λ l. l.writes };
+
+    ghost tells = { λ r. record { left = None; taken = None; read_faults = r.value.reads; write_faults = r.value.writes } };
 
     /// Makes one read, which waits for bytes or for the end. Each error is a fault, also that the peer has closed the link
     /// with bytes on the way.
@@ -78,6 +83,11 @@ impl<S: Read + Write> Link for TcpLink<S> {
     /// Makes one write, which waits for room. Each error is a fault, also that the peer has closed the link.
     fn write(&mut self, bytes: &[u8]) -> Result<usize, Failed> {
         write_piece(&mut self.stream, &mut self.write_faults, bytes)
+    }
+
+    /// Closes the stream.
+    fn finish(self) -> Snapshot<TcpLink<S>> {
+        Snapshot::of(&self)
     }
 }
 
@@ -144,6 +154,8 @@ where
 
     ghost held = { λ _. None };
 
+    ghost returned = { λ _. None };
+
     ghost faults = { λ faults. faults };
 
     /// Listens at an address such as `127.0.0.1:7000`, in the place of where it listened before. Each error is a fault, and
@@ -175,4 +187,9 @@ where
         let _ = stream.set_nodelay(true);
         Ok(Some(TcpLink::new(stream)))
     }
+
+    /// Lets go of them.
+    fn take_back(&mut self, _receipts: Vec<Vec<Snapshot<TcpLink<R::Stream>>>>)
+        ensures same { self.new ≡ self.old }
+    {}
 }

@@ -6,6 +6,7 @@ pub mod ReplyReading
 pub mod ReplyTexts
 pub mod Cuts
 pub mod WrittenLines
+pub mod EarlierLemmas
 pub mod StarvedLines
 pub mod TellingSteps
 pub mod RunSteps

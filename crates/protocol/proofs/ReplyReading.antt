@@ -1,14 +1,15 @@
 -- A reply is read back from its items.
-use Rattle.std.proofs.Common.{◌≡◌, ℕ, List, [], ◌∷◌, map, refl, ap, sym, ◌∙◌}
+use Rattle.std.proofs.Common.{◌≡◌, ℕ, List, [], ◌∷◌, map, Option, Some, None, refl, ap, ap₂, sym, ◌∙◌}
 use Rattle.std.specs.Prelude.{codes, if◌then◌else◌}
 use Rattle.std.specs.List.{slice_index_or}
 use Rattle.serde_json.specs.Data.{Num, unsigned, negative, float, Data, null, boolean, number, string, array, object, Items, no_items, item}
 use Rattle.semantics.specs.Texts.{Text, Table, same}
 use Rattle.semantics.specs.Verdicts.{computed, full, nojoin, slots, sources, clash, cycle, deep, many}
 use Rattle.semantics.specs.Answers.{found, absent, pairs}
+use Rattle.state_changes.specs.StateChanges.{Change}
 use Rattle.protocol.specs.Rows.{whole_number, list_of}
 use Rattle.protocol.specs.Requests.{json, form, key, value, range, syntax}
-use Rattle.protocol.specs.Replies.{Reply, done, answered, refused, unread, long, memory, bye, pair_item, reply_items}
+use Rattle.protocol.specs.Replies.{Reply, done, answered, refused, gone, ahead, changed, unread, long, memory, bye, pair_item, value_items, change_item, reply_items}
 
 -- the whole number, or 0
 abbrev whole_in : Num → ℕ
@@ -56,6 +57,16 @@ item_at items i = slice_index_or items i null
 abbrev pair_in : Data → Text × Text
 pair_in d = (text_in (item_at (list_in d) 0), text_in (item_at (list_in d) 1))
 
+-- the value behind a key, where there is one
+abbrev value_in : List Data → Option Text
+value_in [] = None
+value_in (k ∷ []) = None
+value_in (k ∷ v ∷ others) = Some (text_in v)
+
+-- the change whose key is the first item, and whose value the second, where there is one
+abbrev change_in : Data → Change
+change_in d = record { key = text_in (item_at (list_in d) 0); value = value_in (list_in d) }
+
 -- the reply that names this error
 abbrev error_in : Text → List Data → Reply
 error_in name items =
@@ -74,8 +85,10 @@ error_in name items =
     else (if same name (codes "value") then unread value
     else (if same name (codes "range") then unread range
     else (if same name (codes "syntax") then unread (syntax (number_in (item_at items 2)))
+    else (if same name (codes "gone") then gone (number_in (item_at items 2))
+    else (if same name (codes "ahead") then ahead (number_in (item_at items 2))
     else (if same name (codes "long") then long
-    else memory)))))))))))))))
+    else memory)))))))))))))))))
 
 -- the reply whose items these are
 abbrev reply_in : List Data → Reply
@@ -85,7 +98,8 @@ reply_in items =
     else (if same (text_in (item_at items 0)) (codes "value") then answered (found (number_in (item_at items 1)) (text_in (item_at items 2)))
     else (if same (text_in (item_at items 0)) (codes "none") then answered (absent (number_in (item_at items 1)))
     else (if same (text_in (item_at items 0)) (codes "pairs") then answered (pairs (number_in (item_at items 1)) (map pair_in (list_in (item_at items 2))))
-    else bye))))
+    else (if same (text_in (item_at items 0)) (codes "changes") then changed (number_in (item_at items 1)) (number_in (item_at items 2)) (map change_in (list_in (item_at items 3)))
+    else bye)))))
 
 -- a table is read back from its items
 pairs_read : (table : Table) → map pair_in (list_in (list_of (map pair_item table))) ≡ table
@@ -96,6 +110,16 @@ pairs_read (pair ∷ table) = ap (λ others. pair ∷ others) (pairs_read table)
 numbers_read : (ns : List ℕ) → map number_in (list_in (list_of (map whole_number ns))) ≡ ns
 numbers_read [] = refl
 numbers_read (n ∷ ns) = ap (λ others. n ∷ others) (numbers_read ns)
+
+-- a change is read back from its item
+change_read : (k : Text) (v : Option Text) → change_in (list_of (string k ∷ value_items v)) ≡ record { key = k; value = v }
+change_read k None = refl
+change_read k (Some v) = refl
+
+-- changes are read back from their items
+changes_read : (changes : List Change) → map change_in (list_in (list_of (map change_item changes))) ≡ changes
+changes_read [] = refl
+changes_read (change ∷ changes) = ap₂ (λ c others. c ∷ others) (change_read change.key change.value) (changes_read changes)
 
 -- a reply is read back from its items
 reply_in-reply_items : (reply : Reply) → reply_in (reply_items reply) ≡ reply
@@ -112,6 +136,9 @@ reply_in-reply_items (refused n (clash position)) = refl
 reply_in-reply_items (refused n (cycle positions)) = ap (λ ns. refused n (cycle ns)) (numbers_read positions)
 reply_in-reply_items (refused n deep) = refl
 reply_in-reply_items (refused n many) = refl
+reply_in-reply_items (gone n) = refl
+reply_in-reply_items (ahead n) = refl
+reply_in-reply_items (changed from n changes) = ap (λ listed. changed from n listed) (changes_read changes)
 reply_in-reply_items (unread json) = refl
 reply_in-reply_items (unread form) = refl
 reply_in-reply_items (unread key) = refl

@@ -1,15 +1,17 @@
 -- A reply's text is a line, and no other reply has it.
-use Rattle.std.proofs.Common.{◌≡◌, ◌++◌, [], ◌∷◌, map, false, refl, sym, ◌∙◌}
+use Rattle.std.proofs.Common.{◌≡◌, ◌++◌, List, [], ◌∷◌, map, false, Option, Some, None, refl, sym, ◌∙◌}
 use Rattle.std.proofs.lemmas.List.{append_cancel_right}
 use Rattle.std.specs.List.{AllByRecursion}
+use Rattle.serde_json.specs.Data.{string}
 use Rattle.serde_json.specs.View.{items_of}
 use Rattle.serde_json.specs.Written.{compact_text}
 use Rattle.semantics.specs.Texts.{Text, Table}
 use Rattle.semantics.specs.Verdicts.{Cause, computed, full, nojoin, slots, sources, clash, cycle, deep, many}
 use Rattle.semantics.specs.Answers.{Answer, found, absent, pairs}
+use Rattle.state_changes.specs.StateChanges.{Change}
 use Rattle.protocol.specs.Rows.{whole_number, list_of}
 use Rattle.protocol.specs.Requests.{LineFault, json, form, key, value, range, syntax}
-use Rattle.protocol.specs.Replies.{Reply, done, answered, refused, unread, long, memory, bye, fault_items, cause_items, pair_item, answer_items, reply_items, reply_text}
+use Rattle.protocol.specs.Replies.{Reply, done, answered, refused, gone, ahead, changed, unread, long, memory, bye, fault_items, cause_items, pair_item, answer_items, value_items, change_item, reply_items, reply_text}
 use Rattle.protocol.specs.ReplyLaws.{IsSmall, HasSmallCause, HasSmallFault, HasSmallAnswer, HasSmallNumbers}
 use Rattle.protocol.proofs.OneLine.{has_feed, has_feed-compact_text}
 use Rattle.protocol.proofs.CompactTexts.{IsSmallData, compact_text_injective, items_of_injective, AreSmallItems-items_of, AllByRecursion-map}
@@ -62,11 +64,24 @@ small_answer (found n v) h = (tt, (h, (tt, tt)))
 small_answer (absent n) h = (tt, (h, tt))
 small_answer (pairs n table) h = (tt, (h, (AreSmallItems-items_of _ (small_pairs table), tt)))
 
+-- a change is small, whether its key has a value or has gone
+small_change : (k : Text) (v : Option Text) → IsSmallData (list_of (string k ∷ value_items v))
+small_change k None = (tt, tt)
+small_change k (Some v) = (tt, (tt, tt))
+
+-- changes are small
+small_changes : (changes : List Change) → AllByRecursion IsSmallData (map change_item changes)
+small_changes [] = tt
+small_changes (change ∷ changes) = (small_change change.key change.value, small_changes changes)
+
 -- the items of a reply are small
 small_items : (reply : Reply) → HasSmallNumbers reply → AllByRecursion IsSmallData (reply_items reply)
 small_items (done n) h = (tt, (h, tt))
 small_items (answered a) h = small_answer a h
 small_items (refused n cause) h = (tt, (tt, (h.0, small_cause cause h.1)))
+small_items (gone n) h = (tt, (tt, (h, tt)))
+small_items (ahead n) h = (tt, (tt, (h, tt)))
+small_items (changed from n changes) h = (tt, (h.0, (h.1, (AreSmallItems-items_of _ (small_changes changes), tt))))
 small_items (unread fault) h = (tt, (tt, small_fault fault h))
 small_items long h = (tt, (tt, tt))
 small_items memory h = (tt, (tt, tt))

@@ -5,11 +5,12 @@ use Rattle.semantics.specs.Texts.{Text}
 use Rattle.semantics.specs.Histories.{Write, History}
 use Rattle.semantics.specs.Verdicts.{Cause, verdict}
 use Rattle.protocol.specs.Lines.{Cut, lines_of}
-use Rattle.protocol.specs.Requests.{Request, write, read, quit, LineFault}
+use Rattle.protocol.specs.Requests.{Request, write, read, earlier, quit, LineFault}
 use Rattle.protocol.specs.Replies.{Reply, bye}
 use Rattle.protocol.specs.Transcript.{Reading, Step, write_step, step_of, memory_step, line_step, Outcome, after_step, outcome_from, outcome_of, reply_texts, long_text, transcript_by, memory_lines}
 use Rattle.protocol.proofs.Runs.{replies-le-lines}
 use Rattle.protocol.proofs.WrittenLines.{is_memory, memory_lines-reply_texts}
+use Rattle.protocol.proofs.EarlierLemmas.{earlier_no_memory}
 
 -- ---- what an outcome reads of the lines that are starved
 
@@ -63,6 +64,7 @@ pub read_no_memory : (found : Result Request LineFault) (h : History) → is_mem
 read_no_memory (Err fault) h = refl
 read_no_memory (Ok (write w)) h = written_no_memory w h (verdict w h)
 read_no_memory (Ok (read r)) h = refl
+read_no_memory (Ok (earlier e)) h = earlier_no_memory e h
 read_no_memory (Ok quit) h = refl
 
 -- the step of a line is answered `memory` exactly where it is starved

@@ -1,26 +1,27 @@
 -- What is told in two parts.
-use Rattle.std.proofs.Common.{◌≡◌, ℕ, zero, suc, ◌+◌, ◌-◌, ◌<◌, ◌≤◌, ◌==◌, List, [], ◌∷◌, ◌++◌, length, take, drop, map, Some, None, sym, ap, ap₂, ◌∙◌, subst, arith, append_assoc, length-append}
+use Rattle.std.proofs.Common.{◌≡◌, ℕ, zero, suc, ◌+◌, ◌-◌, ◌<◌, ◌≤◌, ◌==◌, List, [], ◌∷◌, ◌++◌, length, take, drop, map, Some, None, refl, sym, ap, ap₂, ◌∙◌, subst, arith, append_assoc, length-append}
 use Rattle.std.specs.Prelude.{⊤, slice_get, filter}
 use Rattle.std.specs.List.{AllZip, enumerate_from}
 use Rattle.std.proofs.lemmas.List.{take-append-le, map-append}
 use Rattle.std.proofs.Math.Seq.{drop-append_seam}
 use Rattle.std.proofs.lemmas.List.Elements.{filter_map-append, filter-append}
+use Rattle.semantics.specs.Texts.{Range}
 use Rattle.semantics.specs.Histories.{Entry, History}
+use Rattle.semantics.specs.States.{state}
 use Rattle.semantics.specs.Verdicts.{verdict}
-use Rattle.semantics.specs.Answers.{answer}
-use Rattle.protocol.specs.Requests.{Request, write, read, quit}
-use Rattle.protocol.specs.Replies.{Reply, done, answered, refused, unread, long, memory, bye}
-use Rattle.protocol.specs.Told.{answer_position, Answers, InOrder, own_positions, Told}
+use Rattle.semantics.specs.Answers.{Answer, scan, answer}
+use Rattle.state_changes.specs.StateChanges.{Change, changes_between, changes}
+use Rattle.protocol.specs.Requests.{Request, write, read, earlier, quit, Earlier, scan_at, changes_since}
+use Rattle.protocol.specs.Replies.{Reply, done, answered, refused, gone, ahead, changed, unread, long, memory, bye}
+use Rattle.protocol.specs.Earlier.{asked_position}
+use Rattle.protocol.specs.Told.{answer_position, AnswersScanAt, AnswersChangesSince, AnswersEarlier, Answers, Place, own_entry, after_entries, reaching, anywhere, place_of, places, InOrder, own_positions, Told}
 
--- the positions of the replies do not pass a bound
-abbrev IsWithin : ℕ → Reply → Type 0
-IsWithin high (done n) = ⊤
-IsWithin high (answered a) = answer_position a ≤ high
-IsWithin high (refused n cause) = n ≤ high
-IsWithin high (unread fault) = ⊤
-IsWithin high long = ⊤
-IsWithin high memory = ⊤
-IsWithin high bye = ⊤
+-- a place does not pass a bound, and what it reaches back to does not
+abbrev IsWithin : ℕ → Place → Type 0
+IsWithin high (own_entry n) = ⊤
+IsWithin high (after_entries n) = n ≤ high
+IsWithin high (reaching p) = p ≤ high
+IsWithin high anywhere = ⊤
 
 -- an entry of a view is the same in a longer one
 slice_get-append : {A : Type 0} (view more : List A) (i : ℕ) (a : A) → slice_get view i ≡ Some a → (slice_get (view ++ more) i ≡ Some a) × (i < length view)
@@ -32,15 +33,50 @@ slice_get-append (x ∷ view) more (suc i) a e = let below = slice_get-append vi
 prefix-append : (view more : History) (n : ℕ) → n ≤ length view → take n view ≡ take n (view ++ more)
 prefix-append view more n h = sym (take-append-le n view more h)
 
--- an answer over a view is one over a longer view, where its position does not pass the first
+-- what changed between two positions of a view is what changed between them in a longer one
+changes-append : (view more : History) (range : Range) (q n : ℕ) → q ≤ n → n ≤ length view → changes range view q n ≡ changes range (view ++ more) q n
+unfolding changes
+changes-append view more range q n order inside =
+    ap₂ (λ before after. changes_between range (state before) (state after)) (prefix-append view more q (omega arith)) (prefix-append view more n inside)
+
+-- the pairs at an earlier position of a view are those at that position of a longer one
+scan_at-append : (view more : History) (e : Earlier) (a : Answer) → asked_position e ≤ length view → AnswersScanAt view e a → AnswersScanAt (view ++ more) e a
+scan_at-append view more (scan_at range p) a inside h = subst (λ prefix. a ≡ answer (scan range) prefix) (prefix-append view more p inside) h
+scan_at-append view more (changes_since range from) a inside h = h
+
+-- the same of what changed since one
+changes_since-append : (view more : History) (e : Earlier) (start n : ℕ) (listed : List Change) → n ≤ length view →
+    AnswersChangesSince view e start n listed → AnswersChangesSince (view ++ more) e start n listed
+changes_since-append view more (scan_at range p) start n listed inside h = h
+changes_since-append view more (changes_since range from) start n listed inside h =
+    (h.0, h.1, h.2 ∙ changes-append view more range from n h.1.not_ahead inside)
+
+-- a reply to a question about an earlier position over a view is one over a longer view, where its place does not pass the first
+earlier-append : (view more : History) (e : Earlier) (reply : Reply) →
+    IsWithin (length view) (place_of (earlier e) reply) → AnswersEarlier view e reply → AnswersEarlier (view ++ more) e reply
+earlier-append view more e (done n) inside h = h
+earlier-append view more e (answered a) inside h = scan_at-append view more e a inside h
+earlier-append view more e (refused n cause) inside h = h
+earlier-append view more e (gone n) inside h = h
+earlier-append view more e (ahead n) inside h = h
+earlier-append view more e (changed start n listed) inside h = changes_since-append view more e start n listed inside h
+earlier-append view more e (unread fault) inside h = h
+earlier-append view more e long inside h = h
+earlier-append view more e memory inside h = h
+earlier-append view more e bye inside h = h
+
+-- an answer over a view is one over a longer view, where its place does not pass the first
 answers-append : (view more : History) (client : ℕ) (request : Request) (reply : Reply) →
-    IsWithin (length view) reply → Answers view client request reply → Answers (view ++ more) client request reply
+    IsWithin (length view) (place_of request reply) → Answers view client request reply → Answers (view ++ more) client request reply
 answers-append view more client (write w) (done n) inside (at, entered) =
     let here = slice_get-append view more (n - 1) _ at in
     let front = prefix-append view more (n - 1) (omega (arith, here.1)) in
     (here.0, subst (λ prefix. verdict w prefix ≡ None) front entered)
 answers-append view more client (write w) (answered a) inside h = h
 answers-append view more client (write w) (refused n cause) inside h = subst (λ prefix. verdict w prefix ≡ Some cause) (prefix-append view more n inside) h
+answers-append view more client (write w) (gone n) inside h = h
+answers-append view more client (write w) (ahead n) inside h = h
+answers-append view more client (write w) (changed start n listed) inside h = h
 answers-append view more client (write w) (unread fault) inside h = h
 answers-append view more client (write w) long inside h = h
 answers-append view more client (write w) memory inside h = h
@@ -48,31 +84,32 @@ answers-append view more client (write w) bye inside h = h
 answers-append view more client (read r) (done n) inside h = h
 answers-append view more client (read r) (answered a) inside h = subst (λ prefix. a ≡ answer r prefix) (prefix-append view more (answer_position a) inside) h
 answers-append view more client (read r) (refused n cause) inside h = h
+answers-append view more client (read r) (gone n) inside h = h
+answers-append view more client (read r) (ahead n) inside h = h
+answers-append view more client (read r) (changed start n listed) inside h = h
 answers-append view more client (read r) (unread fault) inside h = h
 answers-append view more client (read r) long inside h = h
 answers-append view more client (read r) memory inside h = h
 answers-append view more client (read r) bye inside h = h
+answers-append view more client (earlier e) reply inside h = earlier-append view more e reply inside h
 answers-append view more client quit reply inside h = h
 
 -- what is in order does not pass the upper bound, nor do those after it
-first_within : (low high : ℕ) (reply : Reply) (replies : List Reply) → InOrder low high (reply ∷ replies) →
-    IsWithin high reply × ((middle : ℕ) × InOrder middle high replies)
-first_within low high (done n) replies h = (tt, (n, h.2))
-first_within low high (answered a) replies h = (h.1, (answer_position a, h.2))
-first_within low high (refused n cause) replies h = (h.1, (n, h.2))
-first_within low high (unread fault) replies h = (tt, (low, h))
-first_within low high long replies h = (tt, (low, h))
-first_within low high memory replies h = (tt, (low, h))
-first_within low high bye replies h = (tt, (low, h))
+first_within : (low high : ℕ) (place : Place) (more : List Place) → InOrder low high (place ∷ more) →
+    IsWithin high place × ((middle : ℕ) × InOrder middle high more)
+first_within low high (own_entry n) more h = (tt, (n, h.2))
+first_within low high (after_entries n) more h = (h.1, (n, h.2))
+first_within low high (reaching p) more h = (omega (arith, h.2, h.3.not_ahead), (h.0, h.4))
+first_within low high anywhere more h = (tt, (low, h))
 
 -- the same of each answer, where the replies are in order up to the end of the first view
 pub all_answers-append : (view more : History) (client low : ℕ) (requests : List Request) (replies : List Reply) →
-    InOrder low (length view) replies → AllZip (Answers view client) requests replies → AllZip (Answers (view ++ more) client) requests replies
+    InOrder low (length view) (places requests replies) → AllZip (Answers view client) requests replies → AllZip (Answers (view ++ more) client) requests replies
 all_answers-append view more client low [] [] ordered h = tt
 all_answers-append view more client low [] (reply ∷ replies) ordered h = h
 all_answers-append view more client low (request ∷ requests) [] ordered h = h
 all_answers-append view more client low (request ∷ requests) (reply ∷ replies) ordered h =
-    let inside = first_within low (length view) reply replies ordered in
+    let inside = first_within low (length view) (place_of request reply) (places requests replies) ordered in
     (answers-append view more client request reply inside.0 h.0, all_answers-append view more client inside.1.0 requests replies inside.1.1 h.1)
 
 -- two lists of requests with their replies are one
@@ -82,29 +119,31 @@ AllZip-append R [] more (y ∷ ys) others h k = absurd h
 AllZip-append R (x ∷ xs) more [] others h k = absurd h
 AllZip-append R (x ∷ xs) more (y ∷ ys) others h k = (h.0, AllZip-append R xs more ys others h.1 k)
 
--- replies in order above a bound are in order above a lower one
-pub InOrder-lower : (low middle high : ℕ) (replies : List Reply) → low ≤ middle → InOrder middle high replies → InOrder low high replies
-InOrder-lower low middle high [] less h = tt
-InOrder-lower low middle high (done n ∷ replies) less h = (omega (arith, h.0), h.1, h.2)
-InOrder-lower low middle high (answered a ∷ replies) less h = (omega (arith, h.0), h.1, h.2)
-InOrder-lower low middle high (refused n cause ∷ replies) less h = (omega (arith, h.0), h.1, h.2)
-InOrder-lower low middle high (unread fault ∷ replies) less h = InOrder-lower low middle high replies less h
-InOrder-lower low middle high (long ∷ replies) less h = InOrder-lower low middle high replies less h
-InOrder-lower low middle high (memory ∷ replies) less h = InOrder-lower low middle high replies less h
-InOrder-lower low middle high (bye ∷ replies) less h = InOrder-lower low middle high replies less h
+-- the places of replies in two parts
+pub places-append : (R : Request → Reply → Type 0) (requests more : List Request) (replies others : List Reply) → AllZip R requests replies →
+    places (requests ++ more) (replies ++ others) ≡ places requests replies ++ places more others
+places-append R [] more [] others h = refl
+places-append R [] more (reply ∷ replies) others h = absurd h
+places-append R (request ∷ requests) more [] others h = absurd h
+places-append R (request ∷ requests) more (reply ∷ replies) others h = ap (λ ps. place_of request reply ∷ ps) (places-append R requests more replies others h.1)
 
--- replies in order up to a bound, and others from there on
-pub InOrder-append : (low middle high : ℕ) (replies others : List Reply) → low ≤ middle → middle ≤ high →
-    InOrder low middle replies → InOrder middle high others → InOrder low high (replies ++ others)
+-- what is in order above a bound is in order above a lower one
+pub InOrder-lower : (low middle high : ℕ) (more : List Place) → low ≤ middle → InOrder middle high more → InOrder low high more
+InOrder-lower low middle high [] less h = tt
+InOrder-lower low middle high (own_entry n ∷ more) less h = (omega (arith, h.0), h.1, h.2)
+InOrder-lower low middle high (after_entries n ∷ more) less h = (omega (arith, h.0), h.1, h.2)
+InOrder-lower low middle high (reaching p ∷ more) less h = (h.0, omega (arith, h.1), h.2, h.3, h.4)
+InOrder-lower low middle high (anywhere ∷ more) less h = InOrder-lower low middle high more less h
+
+-- what is in order up to a bound, and others from there on
+pub InOrder-append : (low middle high : ℕ) (first others : List Place) → low ≤ middle → middle ≤ high →
+    InOrder low middle first → InOrder middle high others → InOrder low high (first ++ others)
 InOrder-append low middle high [] others less more h k = InOrder-lower low middle high others less k
-InOrder-append low middle high (done n ∷ replies) others less more h k = (h.0, omega (arith, h.1), InOrder-append n middle high replies others h.1 more h.2 k)
-InOrder-append low middle high (answered a ∷ replies) others less more h k =
-    (h.0, omega (arith, h.1), InOrder-append (answer_position a) middle high replies others h.1 more h.2 k)
-InOrder-append low middle high (refused n cause ∷ replies) others less more h k = (h.0, omega (arith, h.1), InOrder-append n middle high replies others h.1 more h.2 k)
-InOrder-append low middle high (unread fault ∷ replies) others less more h k = InOrder-append low middle high replies others less more h k
-InOrder-append low middle high (long ∷ replies) others less more h k = InOrder-append low middle high replies others less more h k
-InOrder-append low middle high (memory ∷ replies) others less more h k = InOrder-append low middle high replies others less more h k
-InOrder-append low middle high (bye ∷ replies) others less more h k = InOrder-append low middle high replies others less more h k
+InOrder-append low middle high (own_entry n ∷ first) others less more h k = (h.0, omega (arith, h.1), InOrder-append n middle high first others h.1 more h.2 k)
+InOrder-append low middle high (after_entries n ∷ first) others less more h k = (h.0, omega (arith, h.1), InOrder-append n middle high first others h.1 more h.2 k)
+InOrder-append low middle high (reaching p ∷ first) others less more h k =
+    (h.0, h.1, omega (arith, h.2), h.3, InOrder-append h.0 middle high first others h.2 more h.4 k)
+InOrder-append low middle high (anywhere ∷ first) others less more h k = InOrder-append low middle high first others less more h k
 
 -- entries in two parts, with their positions
 enumerate_from-append : {A : Type 0} (n : ℕ) (xs ys : List A) → enumerate_from n (xs ++ ys) ≡ enumerate_from n xs ++ enumerate_from (n + length xs) ys
@@ -137,7 +176,8 @@ told_onward before first second client requests more replies others told next =
           AllZip-append (Answers ((before ++ first) ++ second) client) requests more replies others
           (all_answers-append (before ++ first) second client (length before) requests replies told.ordered told.answers) next.answers;
       ordered =
-          InOrder-append (length before) (length (before ++ first)) (length ((before ++ first) ++ second)) replies others (omega arith) (omega arith) told.ordered next.ordered;
+          subst (InOrder (length before) (length ((before ++ first) ++ second))) (sym (places-append (Answers (before ++ first) client) requests more replies others told.answers))
+          (InOrder-append (length before) (length (before ++ first)) (length ((before ++ first) ++ second)) (places requests replies) (places more others) (omega arith) (omega arith) told.ordered next.ordered);
       own =
           ap (own_positions client (length before + 1)) seen ∙ own_positions-append client (length before + 1) first second
           ∙ ap₂ (λ xs ys. xs ++ ys)

@@ -1,18 +1,20 @@
 -- What a client is told by one step: a read, a write that enters or is refused, a lack of memory, or the entries of others.
-use Rattle.std.proofs.Common.{◌≡◌, ℕ, ◌+◌, ◌-◌, ◌==◌, List, [], ◌∷◌, ◌++◌, length, take, drop, Bool, true, false, Option, Some, None, refl, sym, ap, ◌∙◌, arith, append-nil, length-append}
+use Rattle.std.proofs.Common.{◌≡◌, ◌⊎◌, inl, inr, ℕ, ◌+◌, ◌-◌, ◌<◌, ◌≤◌, ◌==◌, List, [], ◌∷◌, ◌++◌, length, take, drop, Bool, true, false, Option, Some, None, refl, sym, ap, ◌∙◌, subst, arith, append-nil, length-append}
 use Rattle.std.specs.Prelude.{slice_get}
 use Rattle.std.specs.List.{AllByRecursion}
-use Rattle.std.proofs.lemmas.Bool.{eq-eqb}
+use Rattle.std.proofs.lemmas.Bool.{eq-eqb, cases_lt}
 use Rattle.std.proofs.Math.Seq.{drop-append_seam, take-append_seam, take-length, drop-length}
 use Rattle.semantics.specs.Texts.{Text, value_at}
 use Rattle.semantics.specs.Histories.{Write, Entry, History}
 use Rattle.semantics.specs.States.{state}
 use Rattle.semantics.specs.Verdicts.{Cause, verdict}
 use Rattle.semantics.specs.Answers.{Read, get, scan, answer}
-use Rattle.protocol.specs.Requests.{write, read}
-use Rattle.protocol.specs.Replies.{done, answered, refused, memory}
-use Rattle.protocol.specs.Told.{answer_position, own_positions, Told}
+use Rattle.protocol.specs.Requests.{write, read, earlier, Earlier, scan_at, changes_since}
+use Rattle.protocol.specs.Replies.{done, answered, refused, gone, ahead, memory}
+use Rattle.protocol.specs.Earlier.{reach_back, asked_position, told_back, earlier_reply}
+use Rattle.protocol.specs.Told.{IsWithinReach, answer_position, own_positions, Told}
 use Rattle.protocol.specs.Transcript.{write_step}
+use Rattle.protocol.proofs.EarlierLemmas.{earlier_reply-within, earlier_reply-gone, earlier_reply-ahead}
 
 -- ---- a view that stays
 
@@ -47,6 +49,44 @@ told_read view client r =
       own = own_none view client;
     }
 
+-- a question whose position is within reach is told what it asks for
+told_back_to : (view : History) (client : ℕ) (e : Earlier) → IsWithinReach (length view) (asked_position e) → Told view view client (earlier e ∷ []) (told_back e view ∷ [])
+told_back_to view client (scan_at range p) within = record {
+  grows = ([], sym (append-nil view));
+  answers = (refl, tt);
+  ordered = (length view, omega arith, omega arith, within, tt);
+  own = own_none view client;
+}
+told_back_to view client (changes_since range from) within = record {
+  grows = ([], sym (append-nil view));
+  answers = ((refl, within, refl), tt);
+  ordered = (omega arith, omega arith, tt);
+  own = own_none view client;
+}
+
+-- a question whose position lies too far back is told that
+told_gone : (view : History) (client : ℕ) (e : Earlier) → asked_position e + reach_back < length view → Told view view client (earlier e ∷ []) (gone (length view) ∷ [])
+told_gone view client e far = record { grows = ([], sym (append-nil view)); answers = (far, tt); ordered = (omega arith, omega arith, tt); own = own_none view client }
+
+-- and so is one whose position lies ahead
+told_ahead : (view : History) (client : ℕ) (e : Earlier) → length view < asked_position e → Told view view client (earlier e ∷ []) (ahead (length view) ∷ [])
+told_ahead view client e past = record { grows = ([], sym (append-nil view)); answers = (past, tt); ordered = (omega arith, omega arith, tt); own = own_none view client }
+
+-- by where the position lies
+told_earlier_by : (view : History) (client : ℕ) (e : Earlier) → (asked_position e + reach_back < length view) ⊎ (length view ≤ asked_position e + reach_back) →
+    (length view < asked_position e) ⊎ (asked_position e ≤ length view) → Told view view client (earlier e ∷ []) (earlier_reply e view ∷ [])
+told_earlier_by view client e (inl far) past = subst (λ reply. Told view view client (earlier e ∷ []) (reply ∷ [])) (sym (earlier_reply-gone e view far)) (told_gone view client e far)
+told_earlier_by view client e (inr near) (inl past) =
+    subst (λ reply. Told view view client (earlier e ∷ []) (reply ∷ [])) (sym (earlier_reply-ahead e view past)) (told_ahead view client e past)
+told_earlier_by view client e (inr near) (inr before) =
+    let within : IsWithinReach (length view) (asked_position e) = record { not_ahead = before; not_gone = near } in
+    subst (λ reply. Told view view client (earlier e ∷ []) (reply ∷ [])) (sym (earlier_reply-within e view within)) (told_back_to view client e within)
+
+-- a question about an earlier position is told what it is after the view
+pub told_earlier : (view : History) (client : ℕ) (e : Earlier) → Told view view client (earlier e ∷ []) (earlier_reply e view ∷ [])
+told_earlier view client e =
+    told_earlier_by view client e (cases_lt (asked_position e + reach_back) (length view)) (cases_lt (length view) (asked_position e))
+
 -- a write with a cause against it is told that
 pub told_refused : (view : History) (client : ℕ) (w : Write) (cause : Cause) → verdict w view ≡ Some cause →
     Told view view client (write w ∷ []) (refused (length view) cause ∷ [])
@@ -64,6 +104,10 @@ told_no_memory_to_write view client w = record { grows = ([], sym (append-nil vi
 -- a read may find no memory
 pub told_no_memory_to_read : (view : History) (client : ℕ) (r : Read) → Told view view client (read r ∷ []) (memory ∷ [])
 told_no_memory_to_read view client r = record { grows = ([], sym (append-nil view)); answers = (tt, tt); ordered = tt; own = own_none view client }
+
+-- a question about an earlier position may find no memory
+pub told_no_memory_to_ask : (view : History) (client : ℕ) (e : Earlier) → Told view view client (earlier e ∷ []) (memory ∷ [])
+told_no_memory_to_ask view client e = record { grows = ([], sym (append-nil view)); answers = (tt, tt); ordered = tt; own = own_none view client }
 
 -- ---- a view that grows
 

@@ -4,6 +4,7 @@ pub mod JoinsFile
 pub mod Lines
 pub mod Requests
 pub mod Replies
+pub mod Earlier
 pub mod Told
 pub mod Transcript
 pub mod ReplyLaws

@@ -1,9 +1,10 @@
 -- Replies and their texts.
-use Rattle.std.specs.Prelude.{ℕ, List, [], ◌∷◌, map, codes}
+use Rattle.std.specs.Prelude.{ℕ, List, [], ◌∷◌, map, codes, Option, Some, None}
 use Rattle.serde_json.specs.Data.{Data, string}
 use Rattle.semantics.specs.Texts.{Text}
 use Rattle.semantics.specs.Verdicts.{Cause, computed, full, nojoin, slots, sources, clash, cycle, deep, many}
 use Rattle.semantics.specs.Answers.{Answer, found, absent, pairs}
+use Rattle.state_changes.specs.StateChanges.{Change}
 use Rattle.protocol.specs.Rows.{whole_number, list_of, row}
 use Rattle.protocol.specs.JoinsFile.{cause_name}
 use Rattle.protocol.specs.Requests.{LineFault, json, form, key, value, range, syntax}
@@ -12,6 +13,9 @@ pub data Reply : Type 0 where
   done : ℕ → Reply
   answered : Answer → Reply
   refused : ℕ → Cause → Reply
+  gone : ℕ → Reply
+  ahead : ℕ → Reply
+  changed : ℕ → ℕ → List Change → Reply
   unread : LineFault → Reply
   long : Reply
   memory : Reply
@@ -55,6 +59,19 @@ answer_items (found n v) = string (codes "value") ∷ whole_number n ∷ string 
 answer_items (absent n) = string (codes "none") ∷ whole_number n ∷ []
 answer_items (pairs n table) = string (codes "pairs") ∷ whole_number n ∷ list_of (map pair_item table) ∷ []
 
+-- the value of a key that has one; nothing for a key that has gone
+abbrev pub value_items : Option Text → List Data
+value_items None = []
+value_items (Some v) = string v ∷ []
+
+-- a change is an array of its key, and of its value if it has one
+abbrev pub change_item : Change → Data
+change_item change = list_of (string change.key ∷ value_items change.value)
+
+-- the position from which changes are listed, that up to which, and the changes
+abbrev pub changed_items : ℕ → ℕ → List Change → List Data
+changed_items from n changes = string (codes "changes") ∷ whole_number from ∷ whole_number n ∷ list_of (map change_item changes) ∷ []
+
 abbrev pub error_items : Text → List Data → List Data
 error_items name others = string (codes "error") ∷ string name ∷ others
 
@@ -63,6 +80,9 @@ abbrev pub reply_items : Reply → List Data
 reply_items (done n) = string (codes "ok") ∷ whole_number n ∷ []
 reply_items (answered a) = answer_items a
 reply_items (refused n cause) = error_items (cause_name cause) (whole_number n ∷ cause_items cause)
+reply_items (gone n) = error_items (codes "gone") (whole_number n ∷ [])
+reply_items (ahead n) = error_items (codes "ahead") (whole_number n ∷ [])
+reply_items (changed from n changes) = changed_items from n changes
 reply_items (unread fault) = error_items (fault_name fault) (fault_items fault)
 reply_items long = error_items (codes "long") []
 reply_items memory = error_items (codes "memory") []

@@ -5,7 +5,7 @@ use Rattle.semantics.specs.Texts.{Text}
 use Rattle.semantics.specs.Verdicts.{Cause, computed, full, nojoin, slots, sources, clash, cycle, deep, many}
 use Rattle.semantics.specs.Answers.{Answer, found, absent, pairs}
 use Rattle.protocol.specs.Requests.{LineFault, json, form, key, value, range, syntax}
-use Rattle.protocol.specs.Replies.{Reply, done, answered, refused, unread, long, memory, bye, reply_text}
+use Rattle.protocol.specs.Replies.{Reply, done, answered, refused, gone, ahead, changed, unread, long, memory, bye, reply_text}
 
 abbrev pub IsSmall : ℕ → Type 0
 IsSmall n = n < 2 ^ 64
@@ -39,6 +39,9 @@ abbrev pub HasSmallNumbers : Reply → Type 0
 HasSmallNumbers (done n) = IsSmall n
 HasSmallNumbers (answered a) = HasSmallAnswer a
 HasSmallNumbers (refused n cause) = IsSmall n × HasSmallCause cause
+HasSmallNumbers (gone n) = IsSmall n
+HasSmallNumbers (ahead n) = IsSmall n
+HasSmallNumbers (changed from n changes) = IsSmall from × IsSmall n
 HasSmallNumbers (unread fault) = HasSmallFault fault
 HasSmallNumbers long = ⊤
 HasSmallNumbers memory = ⊤

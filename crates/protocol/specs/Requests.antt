@@ -3,17 +3,23 @@ use Rattle.std.specs.Prelude.{ℕ, ◌^◌, nat_lt, List, [], ◌∷◌, codes, 
 use Rattle.std.specs.Str.{is_utf8}
 use Rattle.serde_json.specs.Data.{Num, unsigned, negative, float, Data, null, boolean, number, string, array, object, Items, no_items, item}
 use Rattle.serde_json.specs.Read.{read as read_json}
-use Rattle.semantics.specs.Texts.{Text, same, is_key, is_value, is_range}
+use Rattle.semantics.specs.Texts.{Text, Range, same, is_key, is_value, is_range}
 use Rattle.semantics.specs.Joins.{Join}
 use Rattle.semantics.specs.Histories.{Write, put, remove, declare, drop_join}
 use Rattle.semantics.specs.Answers.{Read, get, scan}
 use Rattle.protocol.specs.JoinText.{read_join}
 use Rattle.protocol.specs.Lines.{Bytes}
 
--- a request writes, reads, or ends the session
+-- a question that names a position of the history: the pairs of a range there, or what changed in a range since
+pub data Earlier : Type 0 where
+  scan_at : Range → ℕ → Earlier
+  changes_since : Range → ℕ → Earlier
+
+-- a request writes, reads after all entries, asks about an earlier position, or ends the session
 pub data Request : Type 0 where
   write : Write → Request
   read : Read → Request
+  earlier : Earlier → Request
   quit : Request
 
 -- why a line is no request; `syntax` carries the byte of the join text
@@ -119,11 +125,25 @@ request_of_texts (word ∷ a ∷ []) = request_of_two word a
 request_of_texts (word ∷ a ∷ b ∷ []) = request_of_three word a b
 request_of_texts (word ∷ a ∷ b ∷ c ∷ others) = Err form
 
+-- a question about a position is asked of a range
+abbrev pub earlier_request : (Range → ℕ → Earlier) → Text → Text → ℕ → Result Request LineFault
+earlier_request question low high n = if is_range low high then Ok (earlier (question (record { low = low; high = high }) n)) else Err range
+
+abbrev pub drop_request : Text → ℕ → Result Request LineFault
+drop_request word n = if same word (codes "drop") then Ok (write (drop_join n)) else Err form
+
+abbrev pub bounds_request : Text → Text → Text → ℕ → Result Request LineFault
+bounds_request word a b n =
+    if same word (codes "scan") then earlier_request scan_at a b n
+    else (if same word (codes "changes") then earlier_request changes_since a b n else Err form)
+
 -- the request that texts with a position behind them are
 abbrev pub request_at : List Text → ℕ → Result Request LineFault
 request_at [] n = Err form
-request_at (word ∷ []) n = if same word (codes "drop") then Ok (write (drop_join n)) else Err form
-request_at (word ∷ a ∷ others) n = Err form
+request_at (word ∷ []) n = drop_request word n
+request_at (word ∷ a ∷ []) n = Err form
+request_at (word ∷ a ∷ b ∷ []) n = bounds_request word a b n
+request_at (word ∷ a ∷ b ∷ c ∷ others) n = Err form
 
 abbrev pub request_of_items : List Text × Option ℕ → Result Request LineFault
 request_of_items (texts, None) = request_of_texts texts

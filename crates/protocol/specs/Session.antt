@@ -3,32 +3,34 @@ use Rattle.std.specs.Prelude.{◌≡◌, ℕ, ◌^◌, ◌<◌, ◌≤◌, ◌�
 use Rattle.std.specs.List.{AllZip, list_any}
 use Rattle.semantics.specs.Histories.{History}
 use Rattle.protocol.specs.Lines.{Bytes, lines_of}
-use Rattle.protocol.specs.Requests.{Request, write, read, quit, LineFault, request_of}
-use Rattle.protocol.specs.Replies.{Reply, done, answered, refused, unread, long, memory, bye, reply_text}
+use Rattle.protocol.specs.Requests.{Request, write, read, earlier, quit, LineFault, request_of}
+use Rattle.protocol.specs.Replies.{Reply, done, answered, refused, gone, ahead, changed, unread, long, memory, bye, reply_text}
 use Rattle.protocol.specs.Told.{Told}
 use Rattle.protocol.specs.Transcript.{reply_texts}
 
--- a line that is no request is answered by its fault, and `quit` by `bye`, unless no memory is found for it; what answers a write or a read is said by `Told`
+-- a line that is no request is answered by its fault, and `quit` by `bye`, unless no memory is found for it; what answers a write, a read or a question about an earlier position is said by `Told`
 abbrev pub AnswersLine : Result Request LineFault → Reply → Type 0
 AnswersLine (Err fault) reply = (reply ≡ unread fault) ⊎ (reply ≡ memory)
 AnswersLine (Ok (write w)) reply = ⊤
 AnswersLine (Ok (read r)) reply = ⊤
+AnswersLine (Ok (earlier e)) reply = ⊤
 AnswersLine (Ok quit) reply = (reply ≡ bye) ⊎ (reply ≡ memory)
 
--- a write or a read with its reply
+-- a write, a read or a question about an earlier position with its reply
 abbrev told_of : Result Request LineFault → Reply → List (Request × Reply)
 told_of (Err fault) reply = []
 told_of (Ok (write w)) reply = (write w, reply) ∷ []
 told_of (Ok (read r)) reply = (read r, reply) ∷ []
+told_of (Ok (earlier e)) reply = (earlier e, reply) ∷ []
 told_of (Ok quit) reply = []
 
--- the writes and reads among lines, with their replies
+-- those among lines, with their replies
 abbrev pub told_pairs : List Bytes → List Reply → List (Request × Reply)
 told_pairs [] replies = []
 told_pairs (line ∷ lines) [] = []
 told_pairs (line ∷ lines) (reply ∷ replies) = told_of (request_of line) reply ++ told_pairs lines replies
 
--- each line has one reply, in order, and `Told` holds for the writes and reads among them
+-- each line has one reply, in order, and `Told` holds for the writes, the reads and the questions about earlier positions among them
 pub record Serves (before after : History) (client : ℕ) (lines : List Bytes) (replies : List Reply) : Type 0 where
   pub each : AllZip (λ line reply. AnswersLine (request_of line) reply) lines replies
   pub told : Told before after client (map (λ p. p.0) (told_pairs lines replies)) (map (λ p. p.1) (told_pairs lines replies))
@@ -41,6 +43,9 @@ abbrev pub is_bye : Reply → Bool
 is_bye (done n) = false
 is_bye (answered a) = false
 is_bye (refused n cause) = false
+is_bye (gone n) = false
+is_bye (ahead n) = false
+is_bye (changed from n changes) = false
 is_bye (unread fault) = false
 is_bye long = false
 is_bye memory = false

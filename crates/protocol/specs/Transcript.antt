@@ -6,7 +6,8 @@ use Rattle.semantics.specs.Histories.{Write, History}
 use Rattle.semantics.specs.Verdicts.{Cause, verdict}
 use Rattle.semantics.specs.Answers.{answer}
 use Rattle.protocol.specs.Lines.{Bytes, Cut, lines_of, whole_lines}
-use Rattle.protocol.specs.Requests.{Request, write, read, quit, LineFault, request_of}
+use Rattle.protocol.specs.Requests.{Request, write, read, earlier, quit, LineFault, request_of}
+use Rattle.protocol.specs.Earlier.{earlier_reply}
 use Rattle.protocol.specs.Replies.{Reply, done, answered, refused, unread, long, memory, bye, reply_text}
 
 -- a reading says what a line asks for after a history, or why it asks for nothing
@@ -29,6 +30,7 @@ abbrev pub step_of : Result Request LineFault → History → Step
 step_of (Err fault) h = record { reply = unread fault; history = h; over = false }
 step_of (Ok (write w)) h = write_step w h (verdict w h)
 step_of (Ok (read r)) h = record { reply = answered (answer r h); history = h; over = false }
+step_of (Ok (earlier e)) h = record { reply = earlier_reply e h; history = h; over = false }
 step_of (Ok quit) h = record { reply = bye; history = h; over = true }
 
 -- a line for which no memory was found changes nothing

@@ -9,7 +9,7 @@ use Rattle.base_shards.specs.Reading.{ReachesBack}
 use Rattle.cell_slots.specs.Slots.{IsRankIn, IsRankAt}
 
 -- the rank among the joins that stand after p entries is the one that the join has there
-pub rank_among : (h : History) (p at : ℕ) (joins : Joins) (rank : Option ℕ) → AreJoins 0 joins (take p h) → IsRankIn joins.standing at rank → IsRankAt h p at rank
+pub rank_among : {floor : ℕ} (h : History) (p at : ℕ) (joins : Joins) (rank : Option ℕ) → AreJoins floor joins (take p h) → IsRankIn joins.standing at rank → IsRankAt h p at rank
 rank_among h p at joins rank are found = subst (λ js. IsRankIn js at rank) are.standing found
 
 -- where the join has not the cell's own rank there, another is given

@@ -3,9 +3,12 @@
 // The layer above may use `RangeCells`, whose calls may wait.
 #![tactic(auto)]
 
+mod changing;
+mod comparing;
 pub mod range_cells;
 pub mod stack;
 pub mod turning;
 
+pub use changing::Feed;
 pub use range_cells::{RangeCells, Reading};
 pub use turning::{Turn, Turned};

@@ -5,6 +5,7 @@ ghost use Rattle.semantics.specs.Texts.{pairs_within};
 ghost use Rattle.join_set.specs.Sets.{AreJoins};
 ghost use Rattle.semantics.specs.States.{state};
 ghost use Rattle.write_history.specs.Entries.{IsRecorded};
+ghost use Rattle.write_history.specs.Marks.{reach};
 ghost use Rattle.base_shards.specs.Reading.{ReachesBack, ReadsOn};
 
 use crate::stack::Stack;
@@ -98,7 +99,7 @@ impl<N: Naming> RangeCells<N> {
         requires recorded { IsRecorded pass.writers pass.view }
         requires within { p ≤ length pass.view }
         requires pinned { ReachesBack pass p }
-        requires joins { AreJoins 0 joins.now (take p pass.view) }
+        requires joins { AreJoins (reach pass.mark) joins.now (take p pass.view) }
         ensures exact { IfOk result.found (λ pairs. pairs.items ≡ pairs_within range.now (state (take p pass.view))) }
         ensures reads_on { ReadsOn pass result.pass }
         ensures counted { steps.old ≤ steps.new }

@@ -4,12 +4,13 @@ ghost use Rattle.semantics.specs.Texts.{pairs_within};
 ghost use Rattle.semantics.specs.States.{state};
 ghost use Rattle.write_history.specs.Marks.{reach};
 ghost use Rattle.base_shards.specs.Reading.{ReadsOn};
+ghost use Rattle.join_eval.specs.Answers.{AnswersChanges};
 ghost use Rattle.join_eval.specs.Moves.{Moves};
 ghost use Rattle.cell_slots.specs.Slots.{IsRankAt};
 ghost use Rattle.shared_cells.specs.Bringing.{BringsCell};
 
 use base_shards::Naming;
-use join_eval::Reader;
+use join_eval::{Changed, Reader};
 use join_types::Pair;
 use key_space::Range;
 use out_of_memory::OutOfMemory;
@@ -113,17 +114,78 @@ fn read_lower<'a, N: Naming, W: Wait, G: Gate, R: Stacked<N>, L: Ledger>(
     read_middle(tower, p, range, steps)
 }
 
+/// What may have changed in a range between the first q and the first p entries, by four layers over a reader of the first four
+/// ranks.
+fn changed_upper<'a, N: Naming, W: Wait, G: Gate, R: Stacked<N>, L: Ledger>(
+    four: &mut Four<'a, N, W, G, R>,
+    q: u64,
+    p: u64,
+    range: &Range,
+    steps: &mut Steps<L>,
+) -> Result<Changed, OutOfMemory>
+    requires top { R.top ≡ 4 }
+    requires order { q ≤ p }
+    requires within { p ≤ length (R.list four.old.inner.inner.inner.inner) }
+    requires above { R.floor four.old.inner.inner.inner.inner ≤ q }
+    ensures exact { IfOk result (AnswersChanges (R.list four.old.inner.inner.inner.inner) q p 8 range.now) }
+    ensures went { R.went four.old.inner.inner.inner.inner four.new.inner.inner.inner.inner }
+    ensures counted { steps.old ≤ steps.new }
+{
+    four.changed(q, p, range, 8, steps)
+}
+
+/// What may have changed in a range between the first q and the first p entries, by six layers over a reader of the first two
+/// ranks.
+fn changed_middle<'a, N: Naming, W: Wait, G: Gate, R: Stacked<N>, L: Ledger>(
+    six: &mut Four<'a, N, W, G, Two<'a, N, W, G, R>>,
+    q: u64,
+    p: u64,
+    range: &Range,
+    steps: &mut Steps<L>,
+) -> Result<Changed, OutOfMemory>
+    requires top { R.top ≡ 2 }
+    requires order { q ≤ p }
+    requires within { p ≤ length (R.list six.old.inner.inner.inner.inner.inner.inner) }
+    requires above { R.floor six.old.inner.inner.inner.inner.inner.inner ≤ q }
+    ensures exact { IfOk result (AnswersChanges (R.list six.old.inner.inner.inner.inner.inner.inner) q p 8 range.now) }
+    ensures went { R.went six.old.inner.inner.inner.inner.inner.inner six.new.inner.inner.inner.inner.inner.inner }
+    ensures counted { steps.old ≤ steps.new }
+{
+    changed_upper(six, q, p, range, steps)
+}
+
+/// What may have changed in a range between the first q and the first p entries, by eight layers over a reader of no rank.
+fn changed_lower<'a, N: Naming, W: Wait, G: Gate, R: Stacked<N>, L: Ledger>(
+    tower: &mut Tower<'a, N, W, G, R>,
+    q: u64,
+    p: u64,
+    range: &Range,
+    steps: &mut Steps<L>,
+) -> Result<Changed, OutOfMemory>
+    requires top { R.top ≡ 0 }
+    requires order { q ≤ p }
+    requires within { p ≤ length (R.list tower.old.inner.inner.inner.inner.inner.inner.inner.inner) }
+    requires above { R.floor tower.old.inner.inner.inner.inner.inner.inner.inner.inner ≤ q }
+    ensures exact { IfOk result (AnswersChanges (R.list tower.old.inner.inner.inner.inner.inner.inner.inner.inner) q p 8 range.now) }
+    ensures went { R.went tower.old.inner.inner.inner.inner.inner.inner.inner.inner tower.new.inner.inner.inner.inner.inner.inner.inner.inner }
+    ensures counted { steps.old ≤ steps.new }
+{
+    changed_middle(tower, q, p, range, steps)
+}
+
 /// Brings what a cell keeps to where the first p entries stand, by a reader, if the cell is for the rank. The cell follows the
 /// ranges of base pairs that are read for it.
-fn bring_by<N: Naming, R: Stacked<N>, L: Ledger>(
+fn bring_by<N: Naming, R: Stacked<N>, G: Gate, L: Ledger>(
     reader: &mut R,
     cell: &mut Cell<N>,
     id: u32,
     p: u64,
     rank: Option<u8>,
+    gate: &G,
     steps: &mut Steps<L>,
 ) -> Result<(), OutOfMemory>
     requires within { p ≤ length (R.list reader.old) }
+    requires above { R.floor reader.old ≤ p }
     requires rank { IsRankAt (R.list reader.old) p cell.old.at rank }
     requires ranked { IfSome rank (λ r. r ≤ R.top) }
     ensures brings { BringsCell (R.floor reader.old) p rank result cell.old cell.new }
@@ -132,7 +194,7 @@ fn bring_by<N: Naming, R: Stacked<N>, L: Ledger>(
     ensures counted { steps.old ≤ steps.new }
 {
     let since = reader.start_noting();
-    let brought = cell.bring(p, rank, reader, steps);
+    let brought = cell.bring(p, rank, gate, reader, steps);
     cell.follow(id, since, reader);
     brought
 }
@@ -144,10 +206,12 @@ fn bring_top<'a, N: Naming, W: Wait, G: Gate, R: Stacked<N>, L: Ledger>(
     id: u32,
     p: u64,
     rank: Option<u8>,
+    gate: &G,
     steps: &mut Steps<L>,
 ) -> Result<(), OutOfMemory>
     requires top { R.top ≡ 6 }
     requires within { p ≤ length (R.list two.old.inner.inner) }
+    requires above { R.floor two.old.inner.inner ≤ p }
     requires rank { IsRankAt (R.list two.old.inner.inner) p cell.old.at rank }
     requires ranked { IfSome rank (λ r. r ≤ 7) }
     ensures brings { BringsCell (R.floor two.old.inner.inner) p rank result cell.old cell.new }
@@ -155,7 +219,7 @@ fn bring_top<'a, N: Naming, W: Wait, G: Gate, R: Stacked<N>, L: Ledger>(
     ensures went { R.went two.old.inner.inner two.new.inner.inner }
     ensures counted { steps.old ≤ steps.new }
 {
-    bring_by(two, cell, id, p, rank, steps)
+    bring_by(two, cell, id, p, rank, gate, steps)
 }
 
 /// Brings what a cell keeps to where the first p entries stand, by four layers over a reader of the first four ranks.
@@ -165,10 +229,12 @@ fn bring_upper<'a, N: Naming, W: Wait, G: Gate, R: Stacked<N>, L: Ledger>(
     id: u32,
     p: u64,
     rank: Option<u8>,
+    gate: &G,
     steps: &mut Steps<L>,
 ) -> Result<(), OutOfMemory>
     requires top { R.top ≡ 4 }
     requires within { p ≤ length (R.list four.old.inner.inner.inner.inner) }
+    requires above { R.floor four.old.inner.inner.inner.inner ≤ p }
     requires rank { IsRankAt (R.list four.old.inner.inner.inner.inner) p cell.old.at rank }
     requires ranked { IfSome rank (λ r. r ≤ 7) }
     ensures brings { BringsCell (R.floor four.old.inner.inner.inner.inner) p rank result cell.old cell.new }
@@ -176,7 +242,7 @@ fn bring_upper<'a, N: Naming, W: Wait, G: Gate, R: Stacked<N>, L: Ledger>(
     ensures went { R.went four.old.inner.inner.inner.inner four.new.inner.inner.inner.inner }
     ensures counted { steps.old ≤ steps.new }
 {
-    bring_top(four, cell, id, p, rank, steps)
+    bring_top(four, cell, id, p, rank, gate, steps)
 }
 
 /// Brings what a cell keeps to where the first p entries stand, by six layers over a reader of the first two ranks.
@@ -186,10 +252,12 @@ fn bring_middle<'a, N: Naming, W: Wait, G: Gate, R: Stacked<N>, L: Ledger>(
     id: u32,
     p: u64,
     rank: Option<u8>,
+    gate: &G,
     steps: &mut Steps<L>,
 ) -> Result<(), OutOfMemory>
     requires top { R.top ≡ 2 }
     requires within { p ≤ length (R.list six.old.inner.inner.inner.inner.inner.inner) }
+    requires above { R.floor six.old.inner.inner.inner.inner.inner.inner ≤ p }
     requires rank { IsRankAt (R.list six.old.inner.inner.inner.inner.inner.inner) p cell.old.at rank }
     requires ranked { IfSome rank (λ r. r ≤ 7) }
     ensures brings { BringsCell (R.floor six.old.inner.inner.inner.inner.inner.inner) p rank result cell.old cell.new }
@@ -197,7 +265,7 @@ fn bring_middle<'a, N: Naming, W: Wait, G: Gate, R: Stacked<N>, L: Ledger>(
     ensures went { R.went six.old.inner.inner.inner.inner.inner.inner six.new.inner.inner.inner.inner.inner.inner }
     ensures counted { steps.old ≤ steps.new }
 {
-    bring_upper(six, cell, id, p, rank, steps)
+    bring_upper(six, cell, id, p, rank, gate, steps)
 }
 
 /// Brings what a cell keeps to where the first p entries stand, by eight layers over a reader of no rank.
@@ -207,10 +275,12 @@ fn bring_lower<'a, N: Naming, W: Wait, G: Gate, R: Stacked<N>, L: Ledger>(
     id: u32,
     p: u64,
     rank: Option<u8>,
+    gate: &G,
     steps: &mut Steps<L>,
 ) -> Result<(), OutOfMemory>
     requires top { R.top ≡ 0 }
     requires within { p ≤ length (R.list tower.old.inner.inner.inner.inner.inner.inner.inner.inner) }
+    requires above { R.floor tower.old.inner.inner.inner.inner.inner.inner.inner.inner ≤ p }
     requires rank { IsRankAt (R.list tower.old.inner.inner.inner.inner.inner.inner.inner.inner) p cell.old.at rank }
     requires ranked { IfSome rank (λ r. r ≤ 7) }
     ensures brings { BringsCell (R.floor tower.old.inner.inner.inner.inner.inner.inner.inner.inner) p rank result cell.old cell.new }
@@ -218,7 +288,7 @@ fn bring_lower<'a, N: Naming, W: Wait, G: Gate, R: Stacked<N>, L: Ledger>(
     ensures went { R.went tower.old.inner.inner.inner.inner.inner.inner.inner.inner tower.new.inner.inner.inner.inner.inner.inner.inner.inner }
     ensures counted { steps.old ≤ steps.new }
 {
-    bring_middle(tower, cell, id, p, rank, steps)
+    bring_middle(tower, cell, id, p, rank, gate, steps)
 }
 
 impl<'a, N: Naming, W, G> Stack<'a, N, W, G> {
@@ -265,19 +335,40 @@ impl<'a, N: Naming, W: Wait, G: Gate> Stack<'a, N, W, G> {
         read_lower(&mut self.tower, p, range, steps)
     }
 
+    /// What may have changed in a range of the state between the first q and the first p entries that the pass has seen: keys of
+    /// the range, among which is each at which the state is not the same at all positions between, or that it is not known.
+    pub fn changed<L: Ledger>(
+        &mut self,
+        q: u64,
+        p: u64,
+        range: &Range,
+        steps: &mut Steps<L>,
+    ) -> Result<Changed, OutOfMemory>
+        requires order { q ≤ p }
+        requires within { p ≤ length self.old.view }
+        requires above { reach self.old.mark ≤ q }
+        ensures exact { IfOk result (AnswersChanges self.old.view q p 8 range.now) }
+        ensures reads_on { ReadsOn self.old self.new }
+        ensures counted { steps.old ≤ steps.new }
+    {
+        changed_lower(&mut self.tower, q, p, range, steps)
+    }
+
     /// Brings what a cell with a number keeps to where the first p entries that the pass has seen stand, where it stands below. The
     /// rank is the one that its join has then, and none where the join does not stand; where it is not the cell's, what it keeps
-    /// stays as it is. What stands below where the pin reaches back to is let go. The cell follows the ranges of base pairs that
-    /// are read for it; its pass and this one see what either has seen.
+    /// stays as it is. What stands below where the pin reaches back to is let go and filled there; the gate is passed before. The
+    /// cell follows the ranges of base pairs that are read for it; its pass and this one see what either has seen.
     pub fn bring<L: Ledger>(
         &mut self,
         cell: &mut Cell<N>,
         id: u32,
         p: u64,
         rank: Option<u8>,
+        gate: &G,
         steps: &mut Steps<L>,
     ) -> Result<(), OutOfMemory>
         requires within { p ≤ length self.old.view }
+        requires above { reach self.old.mark ≤ p }
         requires rank { IsRankAt self.old.view p cell.old.at rank }
         requires ranked { IfSome rank (λ r. r ≤ 7) }
         ensures brings { BringsCell (reach self.old.mark) p rank result cell.old cell.new }
@@ -285,6 +376,6 @@ impl<'a, N: Naming, W: Wait, G: Gate> Stack<'a, N, W, G> {
         ensures reads_on { ReadsOn self.old self.new }
         ensures counted { steps.old ≤ steps.new }
     {
-        bring_lower(&mut self.tower, cell, id, p, rank, steps)
+        bring_lower(&mut self.tower, cell, id, p, rank, gate, steps)
     }
 }

@@ -2,6 +2,7 @@
 ghost use Rattle.std.specs.Prelude.{◌≡◌, ◌≤◌, length, take, Some};
 ghost use Rattle.join_set.specs.Sets.{AreJoins};
 ghost use Rattle.write_history.specs.Entries.{IsRecorded};
+ghost use Rattle.write_history.specs.Marks.{reach};
 ghost use Rattle.base_shards.specs.Reading.{ReachesBack, ReadsOn};
 ghost use Rattle.write_history.specs.declared.known.Mark.TheVariants.{Pinned};
 ghost use Rattle.cell_slots.specs.Slots.{IsRankAt};
@@ -80,7 +81,7 @@ impl<N: Naming> RangeCells<N> {
         requires recorded { IsRecorded pass.writers pass.view }
         requires within { p ≤ length pass.view }
         requires pinned { ReachesBack pass p }
-        requires joins { AreJoins 0 joins.now (take p pass.view) }
+        requires joins { AreJoins (reach pass.mark) joins.now (take p pass.view) }
         ensures left { (IsRankAt pass.view p cell.old.at (Some cell.old.rank) → ⊥) → cell.new.held ≡ cell.old.held }
         ensures within { IsWithinView result.0.turn result.0.pass.view }
         ensures reads_on { ReadsOn pass result.0.pass }
@@ -95,7 +96,7 @@ impl<N: Naming> RangeCells<N> {
         let rank = rank_of(joins, cell.at());
         let lowest = SharedReader::new(self.alloc, rt, &self.history, &self.shards, joins, p, pass);
         let mut stack = Stack::new(&room, lowest);
-        let brought = stack.bring(cell, id, p, rank, steps);
+        let brought = stack.bring(cell, id, p, rank, gate, steps);
         let (pass, used) = stack.into_parts();
         let position = cell.position();
         match brought {
@@ -127,7 +128,7 @@ impl<N: Naming> RangeCells<N> {
         requires recorded { IsRecorded pass.writers pass.view }
         requires within { p ≤ length pass.view }
         requires pinned { ReachesBack pass p }
-        requires joins { AreJoins 0 joins.now (take p pass.view) }
+        requires joins { AreJoins (reach pass.mark) joins.now (take p pass.view) }
         ensures within { IsWithinView result.0.turn result.0.pass.view }
         ensures reads_on { ReadsOn pass result.0.pass }
         ensures counted { steps.old ≤ steps.new }
@@ -159,7 +160,7 @@ impl<N: Naming> RangeCells<N> {
         requires recorded { IsRecorded pass.writers pass.view }
         requires within { p ≤ length pass.view }
         requires pinned { ReachesBack pass p }
-        requires joins { AreJoins 0 joins.now (take p pass.view) }
+        requires joins { AreJoins (reach pass.mark) joins.now (take p pass.view) }
         ensures within { IsWithinView result.turn result.pass.view }
         ensures reads_on { ReadsOn pass result.pass }
         ensures counted { steps.old ≤ steps.new }
@@ -186,8 +187,8 @@ impl<N: Naming> RangeCells<N> {
     /// are the joins that stand then, and the pass is pinned there.
     ///
     /// What is pending in the cell then stays so, what is forgotten stays so, what stands more than 65,536 entries before the end
-    /// is let go, and a cell for another rank than its join has keeps what it keeps. Before a range of a lower rank is filled or
-    /// mended for it, the gate is passed. While another thread has a part or a cell that this one needs, this one sleeps. That the
+    /// is let go and filled at the end, and a cell for another rank than its join has keeps what it keeps. Before it or a range of a
+    /// lower rank is filled, and before one of a lower rank is mended for it, the gate is passed. While another thread has a part or a cell that this one needs, this one sleeps. That the
     /// cell was brought forward is no use of it; of the cells of lower ranks that were read for it the book is told as after a
     /// read, and the least recently used are evicted. First of all the cells are evicted whose joins do not stand any more or have
     /// another rank, as by a read.
@@ -206,7 +207,7 @@ impl<N: Naming> RangeCells<N> {
         requires recorded { IsRecorded pass.writers pass.view }
         requires whole { p ≡ length pass.view }
         requires pinned { pass.mark ≡ Pinned p }
-        requires joins { AreJoins 0 joins.now (take p pass.view) }
+        requires joins { AreJoins (reach pass.mark) joins.now (take p pass.view) }
         ensures within { IsWithinView result.turn result.pass.view }
         ensures reads_on { ReadsOn pass result.pass }
         ensures counted { steps.old ≤ steps.new }

@@ -1,9 +1,10 @@
--- Worked rows: the slots that ranges share, the containing ranges of a source, the needs of a join, and what the pairs of a table contribute to a total, each written out.
+-- Worked rows: the slots that ranges share, the slots of ranges of one key, the containing ranges of a source, the needs of a join, and what the pairs of a table contribute to a total, each written out.
 use Rattle.std.specs.Prelude.{◌≡◌, [], ◌∷◌, ◌++◌, slice_set, Some, None, option_map, codes}
 use Rattle.semantics.specs.Texts.{Text, Table, Range}
 use Rattle.semantics.specs.Patterns.{literal, slot, Pattern, Slots, no_slots}
 use Rattle.semantics.specs.Joins.{check, copy, sum, pull, Join}
-use Rattle.key_ranges.specs.Containing.{bind_range, containing}
+use Rattle.key_ranges.specs.Ranges.{just}
+use Rattle.key_ranges.specs.Containing.{bind_range, range_slots, containing}
 use Rattle.range_evaluation.specs.Trees.{tree}
 use Rattle.range_evaluation.specs.Contributions.{Contribution, listed_contributions}
 
@@ -60,6 +61,20 @@ EmptySegment = bind_range output (between (codes "o||") (codes "o|}")) ≡ None
 -- nor one of another width
 abbrev pub OtherWidth : Type 0
 OtherWidth = bind_range wide_output (between (codes "o|1|") (codes "o|1}")) ≡ None
+
+-- ---- the slots under which a range is filled
+
+-- a range of one key has all slots that the key sets
+abbrev pub OneKey : Type 0
+OneKey = range_slots output (just (codes "o|1|a")) ≡ Some (both_are (codes "1") (codes "a"))
+
+-- it has none where the key does not fit, though longer keys with its segments do
+abbrev pub OneShortKey : Type 0
+OneShortKey = range_slots output (just (codes "o|1")) ≡ None
+
+-- any other range has the slots that its keys share
+abbrev pub MoreKeys : Type 0
+MoreKeys = range_slots output (between (codes "o|1|a") (codes "o|1|b")) ≡ Some (first_is (codes "1"))
 
 -- ---- the containing ranges of a source
 
@@ -135,13 +150,18 @@ numbers = (codes "n|x|1", codes "5") ∷ (codes "n|x|2", codes "-7") ∷ (codes 
 
 -- the range of x's total alone
 abbrev total_of_x : Range
-total_of_x = between (codes "total|x") (codes "total|x" ++ 0 ∷ [])
+total_of_x = just (codes "total|x")
+
+-- to find it the numbers of x alone are read
+abbrev pub TreeOfTotal : Type 0
+TreeOfTotal = option_map (λ slots. tree totals slots total_of_x numbers) (range_slots totals.output total_of_x)
+    ≡ Some (record { source = 0; slots = first_is (codes "x"); by = []; range = between (codes "n|x|") (codes "n|x}") } ∷ [])
 
 -- what a pair gives to x's total
 abbrev to_x : Text → Text → Contribution
 to_x key value = record { output = codes "total|x"; source = key; value = value }
 
--- under the slots that the range shares each pair of x contributes, with its key, whether its value is a number or not, and no pair of y
+-- under the slots of the range each pair of x contributes, with its key, whether its value is a number or not, and no pair of y
 abbrev pub ListedOfTotal : Type 0
-ListedOfTotal = option_map (λ slots. listed_contributions totals slots total_of_x numbers) (bind_range totals.output total_of_x)
+ListedOfTotal = option_map (λ slots. listed_contributions totals slots total_of_x numbers) (range_slots totals.output total_of_x)
     ≡ Some (to_x (codes "n|x|1") (codes "5") ∷ to_x (codes "n|x|2") (codes "-7") ∷ to_x (codes "n|x|3") (codes "05") ∷ to_x (codes "n|x|4") (codes "x") ∷ [])

@@ -21,7 +21,7 @@ pub fn followed_are_listed()
     ensures { FollowedAreListed }
 {}
 
-/// Under the slots that the keys of a range share they give all that is listed for the keys of the range.
+/// Under the slots of a range they give all that is listed for the keys of the range.
 pub fn shared_give_contributions()
     ensures { SharedGiveContributions }
 {}

@@ -21,12 +21,12 @@ pub fn followed_fits()
     ensures { FollowedFits }
 {}
 
-/// The slots that the keys of a range share are slots of the output.
+/// The slots of a range are slots of the output.
 pub fn shared_are_output_slots()
     ensures { SharedAreOutputSlots }
 {}
 
-/// What is found under the slots that the keys of a range share is the join's output in the range.
+/// What is found under the slots of a range is the join's output in the range.
 pub fn shared_give_out()
     ensures { SharedGiveOut }
 {}

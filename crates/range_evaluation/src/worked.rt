@@ -1,6 +1,6 @@
-// Worked rows: the slots that ranges share, the containing ranges of a source, the needs of a join, and what the pairs
-// of a table contribute to a total.
-ghost use Rattle.range_evaluation.specs.Worked.{WholeTable, WholeSegment, PartOfSegment, WithinSegment, OtherTable, MoreSegments, EmptySegment, OtherWidth, ContainingTable, ContainingBeginning, ContainingGap, ContainingKey, TreeOfTimeline, ListedOfTotal};
+// Worked rows: the slots that ranges share, the slots of ranges of one key, the containing ranges of a source, the needs
+// of a join, and what the pairs of a table contribute to a total.
+ghost use Rattle.range_evaluation.specs.Worked.{WholeTable, WholeSegment, PartOfSegment, WithinSegment, OtherTable, MoreSegments, EmptySegment, OtherWidth, OneKey, OneShortKey, MoreKeys, ContainingTable, ContainingBeginning, ContainingGap, ContainingKey, TreeOfTimeline, TreeOfTotal, ListedOfTotal};
 
 /// The keys of a whole table share no text.
 pub fn whole_table()
@@ -42,6 +42,21 @@ pub fn other_width()
     ensures { OtherWidth }
 {}
 
+/// A range of one key has all slots that the key sets.
+pub fn one_key()
+    ensures { OneKey }
+{}
+
+/// It has none where the key does not fit, though longer keys with its segments do.
+pub fn one_short_key()
+    ensures { OneShortKey }
+{}
+
+/// Any other range has the slots that its keys share.
+pub fn more_keys()
+    ensures { MoreKeys }
+{}
+
 /// Under no texts the containing range is the whole table's.
 pub fn containing_table()
     ensures { ContainingTable }
@@ -66,6 +81,11 @@ pub fn containing_key()
 /// names.
 pub fn tree_of_timeline()
     ensures { TreeOfTimeline }
+{}
+
+/// To find the total of one key the numbers of that key alone are read.
+pub fn tree_of_total()
+    ensures { TreeOfTotal }
 {}
 
 /// To a total each pair of its segment contributes, whether its value is a number or not, and no other.

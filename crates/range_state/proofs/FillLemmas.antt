@@ -1,4 +1,4 @@
--- Keys that are asked for under the slots that a range shares.
+-- Keys that are asked for under the slots of a range.
 use Rattle.std.proofs.Common.{◌≡◌, ◌&&◌, ℕ, List, [], ◌∷◌, length, take, not, Bool, true, false, cond, Option, Some, None, is_some, IfSome, IsSomeAnd, refl, sym, ap, ◌∙◌, subst, inl, arith, eqb-true}
 use Rattle.std.proofs.lemmas.Bool.{false≢true, and_parts}
 use Rattle.semantics.specs.Texts.{Text, Table, is_range, Range, within, value_at, pairs_where, pairs_within}
@@ -15,24 +15,24 @@ use Rattle.semantics.proofs.OfRankLemmas.{all_at}
 use Rattle.semantics.proofs.OutputLemmas.{output_of_join, out_keys_fit_short}
 use Rattle.semantics.proofs.PatternLemmas.{bind_some, length-no_slots, segments_of_pattern}
 use Rattle.semantics.proofs.TableLemmas.{same_tables, ascending-pairs_where, value_at-pairs_where}
-use Rattle.key_ranges.specs.Containing.{bind_range}
-use Rattle.key_ranges.proofs.BindRangeLemmas.{bind_range_is_shared, bind_range_gives_slots}
+use Rattle.key_ranges.specs.Containing.{range_slots}
+use Rattle.key_ranges.proofs.RangeSlotLemmas.{range_slots_are_shared, range_slots_are_slots}
 use Rattle.growing_history.specs.Entered.{HasEntered, HasRank}
 use Rattle.growing_history.proofs.EnteredLemmas.{has_entered_taken, declares_joins}
 use Rattle.range_evaluation.specs.Trees.{is_asked}
 use Rattle.range_evaluation.specs.TreeLaws.{AreOutputSlots}
 use Rattle.range_evaluation.proofs.AskedLemmas.{binds_with_part, shared_are_output_slots}
 
--- a key of the range that fits the output binds under the slots that the range shares
-shared_binds : (j : Join) (range : Range) (slots : Slots) (key : Text) → is_join j ≡ true → is_range range.low range.high ≡ true → bind_range j.output range ≡ Some slots → within range key ≡ true → fits j.output key ≡ true
+-- a key of the range that fits the output binds under the range's slots
+shared_binds : (j : Join) (range : Range) (slots : Slots) (key : Text) → is_join j ≡ true → is_range range.low range.high ≡ true → range_slots j.output range ≡ Some slots → within range key ≡ true → fits j.output key ≡ true
     → is_some (bind j.output key slots) ≡ true
 shared_binds j range slots key ok bounds shared inside fit =
     let pattern = output_of_join j ok in
     let segments = segments_of_pattern j.output pattern in
     let found = some_by (bind j.output key no_slots) fit in
     let least = bind_some j.output key no_slots found.0 segments length-no_slots found.1 in
-    let part : IsPartOf slots found.0 = subst (λ o. IsSomeAnd o (λ given. IsPartOf given found.0)) shared (bind_range_is_shared j.output range key found.0 segments bounds inside least.takes) in
-    let places : length slots ≡ 16 = (subst (λ o. IfSome o (λ given. (length given ≡ 16) × AreSegmentTexts given)) shared (bind_range_gives_slots j.output range)).0 in
+    let part : IsPartOf slots found.0 = subst (λ o. IsSomeAnd o (λ given. IsPartOf given found.0)) shared (range_slots_are_shared j.output range key found.0 segments bounds inside least.takes) in
+    let places : length slots ≡ 16 = (subst (λ o. IfSome o (λ given. (length given ≡ 16) × AreSegmentTexts given)) shared (range_slots_are_slots j.output range)).0 in
     binds_with_part j.output key slots found.0 pattern places least.takes part
   where
     some_by : (o : Option Slots) → is_some o ≡ true → (x : Slots) × (o ≡ Some x)
@@ -40,7 +40,7 @@ shared_binds j range slots key ok bounds shared inside fit =
     some_by (Some x) h = (x, refl)
 
 -- so what is asked for of the output is what lies in the range
-pub asked_is_within : (j : Join) (range : Range) (slots : Slots) (table : Table) → is_join j ≡ true → is_range range.low range.high ≡ true → bind_range j.output range ≡ Some slots
+pub asked_is_within : (j : Join) (range : Range) (slots : Slots) (table : Table) → is_join j ≡ true → is_range range.low range.high ≡ true → range_slots j.output range ≡ Some slots
     → pairs_where (is_asked j.output slots range) (out j table) ≡ pairs_within range (out j table)
 asked_is_within j range slots table ok bounds shared =
     same_tables (pairs_where (is_asked j.output slots range) (out j table)) (pairs_within range (out j table))
@@ -63,8 +63,8 @@ asked_is_within j range slots table ok bounds shared =
         ap (λ c. cond (c && is_some (bind j.output q slots)) (value_at q (out j table)) None) e
         ∙ sym (ap (λ c. cond c (value_at q (out j table)) None) e)
 
--- the slots that a range shares are slots of the output
-pub shared_slots : (j : Join) (range : Range) (slots : Slots) → is_join j ≡ true → bind_range j.output range ≡ Some slots → AreOutputSlots j slots
+-- the slots of a range are slots of the output
+pub shared_slots : (j : Join) (range : Range) (slots : Slots) → is_join j ≡ true → range_slots j.output range ≡ Some slots → AreOutputSlots j slots
 shared_slots j range slots ok shared = subst (λ o. IfSome o (AreOutputSlots j)) shared (shared_are_output_slots j range ok)
 
 -- a join that stands after entries that entered is one

@@ -7,7 +7,7 @@ use Rattle.semantics.specs.Patterns.{no_slots}
 use Rattle.semantics.specs.States.{KeepsRules, below}
 use Rattle.semantics.specs.Texts.{pairs_within}
 use Rattle.semantics.specs.Outputs.{out}
-use Rattle.key_ranges.specs.Containing.{bind_range}
+use Rattle.key_ranges.specs.Containing.{range_slots}
 use Rattle.growing_history.specs.Entered.{HasEntered, HasRank}
 use Rattle.growing_history.proofs.EnteredLemmas.{has_entered_taken, keeps_rules}
 use Rattle.growing_history.proofs.KeyLemmas.{has_keys_below}
@@ -25,7 +25,7 @@ use Rattle.range_state.specs.declared.subject.Subject.{Subject}
 use Rattle.range_state.proofs.FillLemmas.{standing_join}
 
 -- where nothing is held for it, that is what filling it makes
-pub nothing_filled : (s : Subject) (h : History) (p : ℕ) (held : Holding) → HasEntered h → HasRank (joins_of (take p h)) s.join s.rank → is_range s.range.low s.range.high ≡ true → bind_range s.join.output s.range ≡ None
+pub nothing_filled : (s : Subject) (h : History) (p : ℕ) (held : Holding) → HasEntered h → HasRank (joins_of (take p h)) s.join s.rank → is_range s.range.low s.range.high ≡ true → range_slots s.join.output s.range ≡ None
     → HoldsAt s p (record { pairs = []; needs = [] }) held.groups held → groups_of held.groups ≡ [] → IsFilledAt s (below (take p h) s.rank) p held
 nothing_filled s h p held entered stands bounds none holds empty =
     let table = below (take p h) s.rank in

@@ -1,6 +1,6 @@
 -- What a kept range says of what changed in its output since a position.
-use Rattle.std.specs.Prelude.{◌≡◌, ℕ, ◌≤◌, ◌||◌, List, take, Contains, Bool, true, false, nat_lt, Option, Some, None}
-use Rattle.std.specs.List.{AllByRecursion}
+use Rattle.std.specs.Prelude.{◌≡◌, ℕ, ◌≤◌, ◌||◌, List, length, take, Contains, Bool, true, false, nat_lt, Option, Some, None, Vec}
+use Rattle.std.specs.declared.alloc.Global.{Global}
 use Rattle.semantics.specs.Texts.{Text, Range, value_at, within}
 use Rattle.semantics.specs.Histories.{History}
 use Rattle.semantics.specs.Outputs.{out}
@@ -30,3 +30,18 @@ IsSameBut s h u q range keys = (x : ℕ) (k : Text) → u ≤ x → x ≤ q → 
 abbrev pub ListsAllSince : KeptRange → History → ℕ → ℕ → Range → Changed → Type 0
 ListsAllSince s h u q range (Keys keys) = IsSameBut s h u q range keys.items
 ListsAllSince s h u q range All = Unit {0}
+
+-- the keys that were touched since a position: none where that is not known
+abbrev pub TouchedSince : ℕ → Range → KeptRange → Option (Vec Text Global) → Type 0
+TouchedSince u range s (Some keys) = (is_unknown_since u range s s.position ≡ false) × (keys.items ≡ keys_since u range s.notes.list)
+TouchedSince u range s None = is_unknown_since u range s s.position ≡ true
+
+-- where keys are handed out, the output is the same at all others
+abbrev pub ListsAllTouched : KeptRange → History → ℕ → ℕ → Range → Option (Vec Text Global) → Type 0
+ListsAllTouched s h u q range (Some keys) = IsSameBut s h u q range keys.items
+ListsAllTouched s h u q range None = Unit {0}
+
+-- how many keys are handed out
+abbrev pub touched_count : Option (Vec Text Global) → ℕ
+touched_count (Some keys) = length keys.items
+touched_count None = 0

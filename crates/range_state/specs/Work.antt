@@ -8,7 +8,7 @@ use Rattle.semantics.specs.Joins.{is_check, Join}
 use Rattle.semantics.specs.Histories.{History, joins_of}
 use Rattle.semantics.specs.States.{below}
 use Rattle.growing_history.specs.Changes.{changed_keys, IsBareThroughout}
-use Rattle.key_ranges.specs.Containing.{bind_range, only}
+use Rattle.key_ranges.specs.Containing.{range_slots, only}
 use Rattle.range_evaluation.specs.Trees.{Need, tree, reading_steps}
 use Rattle.lazy_log.specs.Pending.{meets_output}
 use Rattle.join_eval.specs.Walks.{AreBare}
@@ -57,9 +57,9 @@ abbrev pub needs_under : Join → Range → Table → Option Slots → List Need
 needs_under j range table None = []
 needs_under j range table (Some slots) = tree j slots range table
 
--- the needs of filling a range of a join's output over a table: the tree under the slots that its keys share
+-- the needs of filling a range of a join's output over a table: the tree under the range's slots
 abbrev pub fill_needs : Join → Range → Table → List Need
-fill_needs j range table = needs_under j range table (bind_range j.output range)
+fill_needs j range table = needs_under j range table (range_slots j.output range)
 
 -- the slots that are pending and meet a range
 abbrev pub meeting : KeptRange → Range → List Slots

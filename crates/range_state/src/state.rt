@@ -15,7 +15,7 @@ ghost use Rattle.kept_ranges.specs.Notes.{note_limit};
 ghost use Rattle.kept_ranges.specs.Sound.{IsSound};
 ghost use Rattle.range_state.specs.Held.{forgotten};
 ghost use Rattle.range_state.specs.Ready.{HasSameSubject, pending_meets, StandsAt, StandsOrIsForgotten};
-ghost use Rattle.range_state.specs.Since.{AnswersSince, ListsAllSince};
+ghost use Rattle.range_state.specs.Since.{AnswersSince, ListsAllSince, ListsAllTouched, TouchedSince, touched_count};
 ghost use Rattle.range_state.specs.Work.{AreBareThroughout, advance_steps, AreBareUnder, fill_needs, mend_steps, TouchesLittle};
 
 use crate::advancing::advance_held;
@@ -25,7 +25,7 @@ use crate::mending::mend_all;
 use crate::subject::Subject;
 use join_eval::{Changed, Reader};
 use join_types::{Join, Pair};
-use key_space::Range;
+use key_space::{Key, Range};
 use out_of_memory::OutOfMemory;
 use source_changes::ask_needs;
 use source_changes::laws::{advance_is_cheap, applied_are_bare, few_applications, few_touches};
@@ -314,5 +314,30 @@ impl RangeState {
             return Ok(Changed::All);
         }
         Ok(Changed::Keys(held.notes.keys_since(*alloc, since, range)?))
+    }
+
+    /// The keys that changed in a range of its output since a position, at or before the one where it stands, as `changed_since`
+    /// lists them; none exactly where that answers `All`. It costs what that does, and adds a step and one for each key.
+    pub fn touched_since<L: Ledger>(
+        &self,
+        since: u64,
+        range: &Range,
+        steps: &mut Steps<L>,
+    ) -> Result<Option<Vec<Key>>, OutOfMemory>
+        ensures touched { IfOk result (TouchedSince since range.now self.now) }
+        ensures same { IfOk result (λ touched. (h : History) (q : ℕ) → HasEntered h → StandsAt q self.now → IsSound self.now h → ListsAllTouched self.now h since q range.now touched) }
+        ensures counted { steps.old ≤ steps.new }
+        ensures cost { IfOk result (λ touched. steps.new ≡ steps.old + 1 + touched_count touched) }
+    {
+        match self.changed_since(since, range)? {
+            Changed::Keys(keys) => {
+                steps.count_call(keys.len());
+                Ok(Some(keys))
+            }
+            Changed::All => {
+                steps.count_call(0);
+                Ok(None)
+            }
+        }
     }
 }

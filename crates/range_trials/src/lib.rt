@@ -1,7 +1,7 @@
 // Worked runs and generated histories, played on kept ranges and held to plain evaluation: tests alone, with nothing for
 // other crates.
 //
-// Besides, one worked advance by its parts, cells that are given, used and evicted, and notes that are pushed out.
+// Besides, ranges of one key and what they cost, one worked advance by its parts, cells that are given, used and evicted, and notes that are pushed out.
 //
 // A test tells a history by lines, keeps the range of its last join's output, and plays a script of calls on it: fill,
 // advance, mend, read, what changed since a position, forget, and memory that runs out at a call of the reader. What the
@@ -23,6 +23,8 @@ mod played;
 mod refusing;
 #[cfg(test)]
 mod script;
+#[cfg(test)]
+mod single_keys;
 #[cfg(test)]
 mod telling;
 #[cfg(test)]

@@ -17,7 +17,7 @@ use steps::Steps;
 
 /// What calls on a kept range of the history's last join answer, where steps are counted by this ledger. `calls` is the range
 /// that is kept, the one that is asked for, and a script of calls with commas between them.
-fn play<L: Ledger>(
+pub fn play<L: Ledger>(
     rt: &impl Abort,
     alloc: Global,
     told: Told,

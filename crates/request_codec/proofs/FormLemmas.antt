@@ -1,10 +1,11 @@
 -- The request that the items of an array are, by their number and the texts at their places.
 use Rattle.std.proofs.Common.{◌≡◌, ℕ, ◌≤◌, List, [], ◌∷◌, length, Option, Some, None, option_map, option_and_then, Err, refl, arith}
-use Rattle.serde_json.specs.Data.{Data, Items, item, no_items}
+use Rattle.std.proofs.lemmas.Option.{none-some}
+use Rattle.serde_json.specs.Data.{Data, null, boolean, number, string, array, object, Items, item, no_items}
 use Rattle.serde_json.specs.View.{view, items_view}
 use Rattle.serde_json.specs.declared.value.Value.{Value}
 use Rattle.semantics.specs.Texts.{Text}
-use Rattle.protocol.specs.Requests.{form, text_of, position_of, with_text, last_item, texts_and_position, request_of_form}
+use Rattle.protocol.specs.Requests.{form, text_of, position_of, with_text, last_item, texts_and_position, bounds_request, request_of_form}
 use Rattle.request_codec.specs.Items.{request_of_items, request_of_numbered}
 
 -- a position alone is no form
@@ -74,13 +75,46 @@ pub four_or_more : (P : Option (List Text × Option ℕ) → Type 0) → HoldsOf
     P (texts_and_position (item a (item b (item c (item d ds)))))
 four_or_more P h a b c d ds = behind_items P h (text_of a) (text_of b) (text_of c) d ds
 
--- they are no form
-abbrev are_no_form : HoldsOfFour (λ items. request_of_form items ≡ Err form)
-are_no_form = record { none = refl; texts = λ t u v w ts. refl; position = λ t u v ts n. refl }
+-- ---- four items
 
-pub four_items : (vs : List Value) → 4 ≤ length vs → request_of_items (items_view vs) ≡ Err form
-four_items [] h = absurd (omega arith)
-four_items (v ∷ []) h = absurd (omega arith)
-four_items (v ∷ u ∷ []) h = absurd (omega arith)
-four_items (v ∷ u ∷ t ∷ []) h = absurd (omega arith)
-four_items (v ∷ u ∷ t ∷ s ∷ vs) h = four_or_more (λ items. request_of_form items ≡ Err form) are_no_form (view v) (view u) (view t) (view s) (items_view vs)
+-- four texts are no form
+text_fourth : (t u v : Text) (o : Option Text) → request_of_form (behind_three t u v (last_item o None)) ≡ Err form
+text_fourth t u v None = refl
+text_fourth t u v (Some w) = refl
+
+-- three texts and what is no position are no form
+pub no_fourth : (d e f g : Data) (t u v : Text) → text_of d ≡ Some t → text_of e ≡ Some u → text_of f ≡ Some v → position_of g ≡ None →
+    request_of_items (item d (item e (item f (item g no_items)))) ≡ Err form
+no_fourth d e f g t u v h k l m = rw (h, k, l, m) (text_fourth t u v (text_of g))
+
+-- a position is no text
+position_no_text : (d : Data) (n : ℕ) → position_of d ≡ Some n → text_of d ≡ None
+position_no_text null n e = refl
+position_no_text (boolean b) n e = refl
+position_no_text (number m) n e = refl
+position_no_text (string s) n e = absurd (none-some n e)
+position_no_text (array ds) n e = refl
+position_no_text (object ms) n e = refl
+
+-- three texts and a position are what they ask for
+pub positioned : (d e f g : Data) (t u v : Text) (n : ℕ) → text_of d ≡ Some t → text_of e ≡ Some u → text_of f ≡ Some v → position_of g ≡ Some n →
+    request_of_items (item d (item e (item f (item g no_items)))) ≡ bounds_request t u v n
+positioned d e f g t u v n h k l m = let none = position_no_text g n m in rw (h, k, l, none, m) refl
+
+-- ---- five items or more
+
+-- four items or more behind what may be a text are no form
+behind_first : (a : Option Text) (b c d e : Data) (ds : Items) →
+    request_of_form (option_and_then (λ t. option_map (with_text t) (texts_and_position (item b (item c (item d (item e ds)))))) a) ≡ Err form
+behind_first None b c d e ds = refl
+behind_first (Some t) b c d e ds =
+    four_or_more (λ items. request_of_form (option_map (with_text t) items) ≡ Err form)
+    (record { none = refl; texts = λ u v w x ts. refl; position = λ u v w ts n. refl }) b c d e ds
+
+pub five_items : (vs : List Value) → 5 ≤ length vs → request_of_items (items_view vs) ≡ Err form
+five_items [] h = absurd (omega arith)
+five_items (v ∷ []) h = absurd (omega arith)
+five_items (v ∷ u ∷ []) h = absurd (omega arith)
+five_items (v ∷ u ∷ t ∷ []) h = absurd (omega arith)
+five_items (v ∷ u ∷ t ∷ s ∷ []) h = absurd (omega arith)
+five_items (v ∷ u ∷ t ∷ s ∷ r ∷ vs) h = behind_first (text_of (view v)) (view u) (view t) (view s) (view r) (items_view vs)

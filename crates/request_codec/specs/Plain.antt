@@ -6,18 +6,20 @@ use Rattle.protocol.specs.Requests as plain
 use Rattle.protocol.specs.Replies as replies
 use Rattle.join_types.specs.Causes.{plain_cause}
 use Rattle.request_codec.specs.declared.request.Request.{Request}
-use Rattle.request_codec.specs.declared.request.Request.TheVariants.{Put, Remove, Get, Scan, Declare, Drop, Quit}
+use Rattle.request_codec.specs.declared.request.Request.TheVariants.{Put, Remove, Get, Scan, ScanAt, Changes as ChangesSince, Declare, Drop, Quit}
 use Rattle.request_codec.specs.declared.request.LineFault.{LineFault}
 use Rattle.request_codec.specs.declared.request.LineFault.TheVariants.{Json, Form, Key, Value, Range, Syntax, OutOfMemory}
 use Rattle.request_codec.specs.declared.reply.Reply.{Reply}
-use Rattle.request_codec.specs.declared.reply.Reply.TheVariants.{Done, Found, Absent, Pairs, Refused, Unread, Long, Memory, Bye}
+use Rattle.request_codec.specs.declared.reply.Reply.TheVariants.{Done, Found, Absent, Pairs, Refused, Gone, Ahead, Changes, Unread, Long, Memory, Bye}
 
--- a request as a write, a read, or the end of the session
+-- a request as a write, a read, a question about an earlier position, or the end of the session
 abbrev pub plain_request : Request → plain.Request
 plain_request (Put key value) = plain.write (writes.put key value)
 plain_request (Remove key) = plain.write (writes.remove key)
 plain_request (Get key) = plain.read (answers.get key)
 plain_request (Scan range) = plain.read (answers.scan range)
+plain_request (ScanAt range at) = plain.earlier (plain.scan_at range at)
+plain_request (ChangesSince range from) = plain.earlier (plain.changes_since range from)
 plain_request (Declare join) = plain.write (writes.declare join)
 plain_request (Drop position) = plain.write (writes.drop_join position)
 plain_request Quit = plain.quit
@@ -51,6 +53,9 @@ plain_reply (Found position value) = replies.answered (answers.found position va
 plain_reply (Absent position) = replies.answered (answers.absent position)
 plain_reply (Pairs position pairs) = replies.answered (answers.pairs position pairs.items)
 plain_reply (Refused position cause) = replies.refused position (plain_cause cause)
+plain_reply (Gone position) = replies.gone position
+plain_reply (Ahead position) = replies.ahead position
+plain_reply (Changes from position changes) = replies.changed from position changes.items
 plain_reply (Unread fault) = unread_or_memory (plain_fault fault)
 plain_reply Long = replies.long
 plain_reply Memory = replies.memory

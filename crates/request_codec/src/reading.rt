@@ -2,7 +2,7 @@
 ghost use Rattle.std.specs.Prelude.{◌≡◌, IfOk, IfErr, Some, Ok};
 ghost use Rattle.serde_json.specs.Data.{item, no_items};
 ghost use Rattle.serde_json.specs.View.{view, items_view};
-ghost use Rattle.protocol.specs.Requests.{json_of, position_of, put_request, remove_request, get_request, scan_request, join_or_syntax, request_of_one, request_of_two, request_of_three, request_of_value, request_of_json, request_of};
+ghost use Rattle.protocol.specs.Requests.{json_of, position_of, put_request, remove_request, get_request, scan_request, earlier_request, scan_at, changes_since, bounds_request, join_or_syntax, request_of_one, request_of_two, request_of_three, request_of_value, request_of_json, request_of};
 ghost use Rattle.protocol.specs.JoinText.{read_join};
 ghost use Rattle.request_codec.specs.Items.{request_of_items, request_of_numbered};
 ghost use Rattle.request_codec.specs.Plain.{plain_request, IsFaultOf};
@@ -49,6 +49,24 @@ fn read_scan(alloc: Global, low: &str, high: &str) -> Result<Request, LineFault>
 {
     let range = Range::read(alloc, low, high)?;
     Ok(Request::Scan(range))
+}
+
+/// The request for the pairs between two bounds after so many entries. Linear in the bounds' texts.
+fn read_scan_at(alloc: Global, low: &str, high: &str, at: u64) -> Result<Request, LineFault>
+    ensures request { IfOk result (λ request. earlier_request scan_at low.now high.now at ≡ Ok (plain_request request)) }
+    ensures fault { IfErr result (IsFaultOf (earlier_request scan_at low.now high.now at)) }
+{
+    let range = Range::read(alloc, low, high)?;
+    Ok(Request::ScanAt(range, at))
+}
+
+/// The request for what changed between two bounds after so many entries. Linear in the bounds' texts.
+fn read_changes(alloc: Global, low: &str, high: &str, from: u64) -> Result<Request, LineFault>
+    ensures request { IfOk result (λ request. earlier_request changes_since low.now high.now from ≡ Ok (plain_request request)) }
+    ensures fault { IfErr result (IsFaultOf (earlier_request changes_since low.now high.now from)) }
+{
+    let range = Range::read(alloc, low, high)?;
+    Ok(Request::Changes(range, from))
 }
 
 /// The request to declare a join. Linear in its text, with its names for each slot.
@@ -117,6 +135,26 @@ fn read_numbered(word: &str, last: &Json) -> Result<Request, LineFault>
     }
 }
 
+/// The request of a word, two bounds and the position behind them. Linear in the bounds' texts.
+fn read_bounds(
+    alloc: Global,
+    word: &str,
+    low: &str,
+    high: &str,
+    position: u64,
+) -> Result<Request, LineFault>
+    ensures request { IfOk result (λ request. bounds_request word.now low.now high.now position ≡ Ok (plain_request request)) }
+    ensures fault { IfErr result (IsFaultOf (bounds_request word.now low.now high.now position)) }
+{
+    if word == "scan" {
+        read_scan_at(alloc, low, high, position)
+    } else if word == "changes" {
+        read_changes(alloc, low, high, position)
+    } else {
+        Err(LineFault::Form)
+    }
+}
+
 /// The request that one item is.
 fn read_word(word: &Json) -> Result<Request, LineFault>
     ensures request { IfOk result (λ request. request_of_items (item (view word.now) no_items) ≡ Ok (plain_request request)) }
@@ -164,6 +202,32 @@ fn read_word_and_texts(
     read_three(alloc, word, first, second)
 }
 
+/// The request that four items are: three texts and a position. Linear in the texts.
+fn read_texts_and_position(
+    alloc: Global,
+    word: &Json,
+    low: &Json,
+    high: &Json,
+    last: &Json,
+) -> Result<Request, LineFault>
+    ensures request { IfOk result (λ request. request_of_items (item (view word.now) (item (view low.now) (item (view high.now) (item (view last.now) no_items)))) ≡ Ok (plain_request request)) }
+    ensures fault { IfErr result (IsFaultOf (request_of_items (item (view word.now) (item (view low.now) (item (view high.now) (item (view last.now) no_items)))))) }
+{
+    let Some(word) = text_of(word) else {
+        return Err(LineFault::Form);
+    };
+    let Some(low) = text_of(low) else {
+        return Err(LineFault::Form);
+    };
+    let Some(high) = text_of(high) else {
+        return Err(LineFault::Form);
+    };
+    let Some(position) = position_of(last) else {
+        return Err(LineFault::Form);
+    };
+    read_bounds(alloc, word, low, high, position)
+}
+
 /// The request that the items of an array are.
 fn read_items(alloc: Global, items: &[Json]) -> Result<Request, LineFault>
     ensures request { IfOk result (λ request. request_of_items (items_view items.now) ≡ Ok (plain_request request)) }
@@ -174,6 +238,7 @@ fn read_items(alloc: Global, items: &[Json]) -> Result<Request, LineFault>
         [word] => read_word(word),
         [word, last] => read_word_and_last(alloc, word, last),
         [word, first, second] => read_word_and_texts(alloc, word, first, second),
+        [word, low, high, last] => read_texts_and_position(alloc, word, low, high, last),
         _ => Err(LineFault::Form),
     }
 }

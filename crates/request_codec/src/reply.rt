@@ -1,5 +1,6 @@
 // Replies.
 use crate::request::LineFault;
+use change_lists::Change;
 use join_types::{Cause, Pair};
 use key_space::Value;
 
@@ -16,6 +17,12 @@ pub enum Reply {
     Pairs(u64, Vec<Pair>),
     /// The write has this verdict after so many entries.
     Refused(u64, Cause),
+    /// The position that was asked for lies too far back: so many entries there are.
+    Gone(u64),
+    /// The position that was asked for lies ahead: so many entries there are.
+    Ahead(u64),
+    /// What changed in the range from the first position to the second, in key order.
+    Changes(u64, u64, Vec<Change>),
     /// The line is no request.
     Unread(LineFault),
     /// The line is too long.

@@ -16,6 +16,10 @@ pub enum Request {
     Get(Key),
     /// The pairs in a range.
     Scan(Range),
+    /// The pairs in a range after so many entries.
+    ScanAt(Range, u64),
+    /// What changed in a range after so many entries.
+    Changes(Range, u64),
     /// The join stands from now on.
     Declare(Join),
     /// The join that was declared at the position stands no more.

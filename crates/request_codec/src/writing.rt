@@ -3,7 +3,7 @@ ghost use Rattle.std.specs.Prelude.{◌≡◌, ◌≢◌, ◌∷◌, [], IfOk, O
 ghost use Rattle.serde_json.specs.Data.{string};
 ghost use Rattle.protocol.specs.Rows.{whole_number, list_of};
 ghost use Rattle.protocol.specs.JoinsFile.{cause_name};
-ghost use Rattle.protocol.specs.Replies.{pair_item, error_items, cause_items, reply_items, reply_text};
+ghost use Rattle.protocol.specs.Replies.{pair_item, value_items, change_item, changed_items, error_items, cause_items, reply_items, reply_text};
 ghost use Rattle.join_types.specs.Causes.{plain_cause};
 ghost use Rattle.request_codec.specs.Plain.{plain_reply};
 ghost use Rattle.request_codec.specs.Tokens.{Appends};
@@ -11,6 +11,7 @@ ghost use Rattle.request_codec.specs.Tokens.{Appends};
 use crate::lines::LINE_END;
 use crate::reply::Reply;
 use crate::request::LineFault;
+use change_lists::Change;
 use join_types::{Cause, Pair};
 use json::Writer;
 use out_of_memory::OutOfMemory;
@@ -34,11 +35,28 @@ fn pairs_room(pairs: &[Pair]) -> usize {
     room
 }
 
-/// Room for the line of a reply, to which escapes may add. Linear in the number of its pairs.
+/// Room for changes, which is all they need where no byte of theirs is escaped. Linear in their number.
+fn changes_room(changes: &[Change]) -> usize {
+    let mut room = 0usize;
+    for change in changes {
+        let text = match &change.value {
+            Some(value) => value.text().len(),
+            None => 0,
+        };
+        room = room
+            .saturating_add(change.key.text().len())
+            .saturating_add(text)
+            .saturating_add(PAIR_FRAME_ROOM);
+    }
+    room
+}
+
+/// Room for the line of a reply, to which escapes may add. Linear in the number of its pairs or changes.
 fn reply_room(reply: &Reply) -> usize {
     let texts = match reply {
         Reply::Found(_, value) => value.text().len(),
         Reply::Pairs(_, pairs) => pairs_room(pairs.as_slice()),
+        Reply::Changes(_, _, changes) => changes_room(changes.as_slice()),
         _ => 0,
     };
     texts.saturating_add(FRAME_ROOM)
@@ -65,6 +83,37 @@ fn write_pairs(writer: &mut Writer, pairs: &[Pair]) -> Result<(), AllocError>
     writer.end_array()
 }
 
+/// Writes the items of a change: its key, and its value if it has one. Linear in both.
+fn write_change_items(writer: &mut Writer, change: &Change) -> Result<(), AllocError>
+    ensures { OnOk result (Appends writer.old writer.new (string change.now.key ∷ value_items change.now.value)) }
+{
+    writer.string(change.key.text())?;
+    match &change.value {
+        Some(value) => writer.string(value.text()),
+        None => Ok(()),
+    }
+}
+
+/// Writes a change as an array. Linear in its texts.
+fn write_change(writer: &mut Writer, change: &Change) -> Result<(), AllocError>
+    ensures { OnOk result (Appends writer.old writer.new (change_item change.now ∷ [])) }
+{
+    writer.begin_array()?;
+    write_change_items(writer, change)?;
+    writer.end_array()
+}
+
+/// Writes changes as an array of arrays. Linear in their texts.
+fn write_changes(writer: &mut Writer, changes: &[Change]) -> Result<(), AllocError>
+    ensures { OnOk result (Appends writer.old writer.new (list_of (map change_item changes.now) ∷ [])) }
+{
+    writer.begin_array()?;
+    for change in changes {
+        write_change(writer, change)?;
+    }
+    writer.end_array()
+}
+
 /// Writes numbers as an array. Linear in how many there are.
 fn write_numbers(writer: &mut Writer, numbers: &[u64]) -> Result<(), AllocError>
     ensures { OnOk result (Appends writer.old writer.new (list_of (map whole_number numbers.now) ∷ [])) }
@@ -82,6 +131,20 @@ fn write_numbered(writer: &mut Writer, word: &str, number: u64) -> Result<(), Al
 {
     writer.string(word)?;
     writer.u64(number)
+}
+
+/// Writes the items of the answer to what changed from one position to another. Linear in the texts of the changes.
+fn write_changed(
+    writer: &mut Writer,
+    from: u64,
+    position: u64,
+    changes: &[Change],
+) -> Result<(), AllocError>
+    ensures { OnOk result (Appends writer.old writer.new (changed_items from position changes.now)) }
+{
+    write_numbered(writer, "changes", from)?;
+    writer.u64(position)?;
+    write_changes(writer, changes)
 }
 
 /// Writes the items of an error without a number. Linear in its name.
@@ -163,6 +226,11 @@ fn write_items(writer: &mut Writer, reply: &Reply) -> Result<(), AllocError>
             write_pairs(writer, pairs.as_slice())
         }
         Reply::Refused(position, cause) => write_cause(writer, *position, cause),
+        Reply::Gone(position) => write_refusal(writer, "gone", *position),
+        Reply::Ahead(position) => write_refusal(writer, "ahead", *position),
+        Reply::Changes(from, position, changes) => {
+            write_changed(writer, *from, *position, changes.as_slice())
+        }
         Reply::Unread(fault) => write_fault(writer, *fault),
         Reply::Long => write_error(writer, "long"),
         Reply::Memory => write_error(writer, "memory"),

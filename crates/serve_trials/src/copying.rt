@@ -29,6 +29,15 @@ impl<'a, R: Wait> Link for Copying<'a, R> {
 
     ghost write_faults = { λ l. l.link.sink.log.faults };
 
+    type Receipt = MemLink;
+
+    ghost tells = { λ l. record {
+      left = Some l.source.left;
+      taken = Some l.sink.taken;
+      read_faults = l.source.log.faults;
+      write_faults = l.sink.log.faults;
+    } };
+
     fn read(&mut self, into: &mut [u8]) -> Result<usize, Failed> {
         self.link.read(into)
     }
@@ -38,6 +47,11 @@ impl<'a, R: Wait> Link for Copying<'a, R> {
         let mut taken = self.taken.lock(self.rt);
         let _ = taken.extend_from_slice(&bytes[..count]);
         Ok(count)
+    }
+
+    fn finish(self) -> MemLink {
+        let Copying { link, .. } = self;
+        link
     }
 }
 
@@ -89,6 +103,7 @@ pub fn serve_by<R, K, G>(
 where
     R: AllocGlobal + Threads + Wait + Abort + Sync,
     K: Link + Send + Drop,
+    <K as Link>::Receipt: Send,
     G: Gate + Sync,
 {
     let alloc: Global = rt.alloc();

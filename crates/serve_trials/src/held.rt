@@ -3,7 +3,7 @@ ghost use Rattle.std.specs.Prelude.{Some};
 
 use crate::copying::{Copying, Taken, cut_link, expect_taken, serve_by};
 use pequod_commands::Status;
-use pq_io::{Failed, Gate, Link};
+use pq_io::{Failed, Gate, Link, MemLink};
 use std::alloc::Global;
 use std::sync::{Arc, Mutex, Wait};
 use std::test::Fail;
@@ -98,6 +98,15 @@ impl<R: Wait> Link for Paced<'_, R> {
 
     ghost write_faults = { λ l. l.link.link.sink.log.faults };
 
+    type Receipt = MemLink;
+
+    ghost tells = { λ l. record {
+      left = Some l.source.left;
+      taken = Some l.sink.taken;
+      read_faults = l.source.log.faults;
+      write_faults = l.sink.log.faults;
+    } };
+
     fn read(&mut self, into: &mut [u8]) -> Result<usize, Failed> {
         if let Some(stage) = self.waits.pop() {
             wait_for(self.link.rt, &self.course, stage);
@@ -112,6 +121,11 @@ impl<R: Wait> Link for Paced<'_, R> {
             come_to(self.link.rt, &self.course, self.stage);
         }
         Ok(count)
+    }
+
+    fn finish(self) -> MemLink {
+        let Paced { link, .. } = self;
+        link.finish()
     }
 }
 

@@ -16,4 +16,6 @@ mod linked;
 #[cfg(test)]
 mod loads;
 #[cfg(test)]
+mod returned;
+#[cfg(test)]
 mod staffed;

@@ -12,7 +12,7 @@ use join_types::{Join, Write};
 use out_of_memory::OutOfMemory;
 use pequod_cache::Seats;
 use pq_io::{MemDoors, OpenGate};
-use server::{Ended, serve_doors, staff};
+use server::{Declaring, Ended, serve_doors, staff};
 use std::alloc::Global;
 use std::marker::Brand;
 use std::process::Abort;
@@ -58,11 +58,12 @@ fn make_seats(alloc: Global, clients: u32) -> Result<Seats, OutOfMemory>
     Seats::make(alloc, clients, 4)
 }
 
-/// Opens doors that give the links and fail at these calls, and serves them by all clients but the first, which declares a join.
-fn serve<N: Naming + Send + Sync, R: Threads + Wait + Abort + Sync>(
+/// Opens doors that give the links and fail at these calls, and serves them by all clients but the first, which declares the joins.
+fn serve<N: Naming + Send + Sync, J: Declaring, R: Threads + Wait + Abort + Sync>(
     rt: &R,
     alloc: Global,
     seats: Seats,
+    joins: Vec<Join>,
     links: Vec<Copying<'_, R>>,
     fails: Vec<usize>,
 ) -> Result<Ended, Fail>
@@ -73,12 +74,13 @@ fn serve<N: Naming + Send + Sync, R: Threads + Wait + Abort + Sync>(
     requires cells { AreOf N.history (length seats.cells.items) seats.cells.items }
     requires count { length seats.cells.items ≡ 4 }
     requires updater { IsFresh N.history seats.updater }
+    requires joins { AreDeclarable joins.items }
+    requires declares { joins.items ≡ J.joins }
 {
-    let joins = one_join(rt, alloc);
     let (workers, updater) = staff::<N, _, _>(rt, alloc, seats, 1_000, joins, &OpenGate)?;
     let mut doors = MemDoors::new(links, fails);
     let address = "127.0.0.1:7000";
-    Ok(serve_doors(rt, alloc, address, &mut doors, workers, updater))
+    Ok(serve_doors::<N, J, _, _, _>(rt, alloc, address, &mut doors, workers, updater))
 }
 
 /// Puts a pair, and reads the join's output.
@@ -106,7 +108,8 @@ fn serve_both<R: Threads + Wait + Abort + Sync>(
     links.push(writer)?;
     links.push(reader)?;
     let seats = make_seats(alloc, clients)?;
-    let ended = serve::<Brand, _>(rt, alloc, seats, links, Vec::new(alloc))?;
+    let joins = one_join(rt, alloc);
+    let ended = serve::<Brand, Brand, _>(rt, alloc, seats, joins, links, Vec::new(alloc))?;
     assert!(rt; ended == Ended::Closed);
     Ok((to_writer, to_reader))
 }
@@ -136,7 +139,9 @@ fn closed_doors_end_it(rt: HostRuntime) -> Result<(), Fail> {
     let alloc: Global = rt.alloc();
     for clients in [2, 3] {
         let seats = make_seats(alloc, clients)?;
-        let ended = serve::<Brand, _>(&rt, alloc, seats, Vec::new(alloc), Vec::new(alloc))?;
+        let joins = one_join(&rt, alloc);
+        let links = Vec::new(alloc);
+        let ended = serve::<Brand, Brand, _>(&rt, alloc, seats, joins, links, Vec::new(alloc))?;
         assert!(rt; ended == Ended::Closed);
     }
     Ok(())
@@ -158,7 +163,9 @@ fn links_before_a_failure_are_served(rt: HostRuntime) -> Result<(), Fail> {
         let mut links = Vec::new(alloc);
         links.push(writer)?;
         let seats = make_seats(alloc, clients)?;
-        let ended = serve::<Brand, _>(&rt, alloc, seats, links, vec![in alloc; call; 1]?)?;
+        let joins = one_join(&rt, alloc);
+        let fails = vec![in alloc; call; 1]?;
+        let ended = serve::<Brand, Brand, _>(&rt, alloc, seats, joins, links, fails)?;
         assert!(rt; ended == Ended::Failed);
         expect_taken(&rt, &to_writer, told);
     }

@@ -1,1 +1,3 @@
 pub mod StaffLemmas
+pub mod ReceiptLemmas
+pub mod AcceptLemmas

@@ -6,12 +6,16 @@
 #![tactic(auto)]
 
 mod accepting;
+pub mod declaring;
 pub mod opening;
 pub mod serving;
+mod settling;
 pub mod staffing;
 mod updating;
+mod worker;
 mod working;
 
+pub use declaring::Declaring;
 pub use opening::{Size, serve};
 pub use serving::{Ended, serve_doors};
 pub use staffing::staff;

@@ -2,16 +2,19 @@
 ghost use Rattle.std.specs.Prelude.{◌≡◌, ◌≢◌, ◌≤◌, length, IfOk};
 ghost use Rattle.pequod_cache.specs.Sitting.{AreOf, AreOfParts, AreWriters, IsFresh};
 ghost use Rattle.pq_io.specs.Faults.{Rose};
+ghost use Rattle.pq_io.specs.Links.{link_told};
 ghost use Rattle.server.specs.Doors.{HoldNone};
+ghost use Rattle.server.specs.Receipts.{LinksCameBack};
 ghost use Rattle.server.specs.Staffs.{AreDeclarable};
 
+use crate::declaring::Declaring;
 use crate::serving::{Ended, serve_doors};
 use crate::staffing::staff;
 use base_shards::Naming;
 use join_types::Join;
 use out_of_memory::OutOfMemory;
 use pequod_cache::Seats;
-use pq_io::{Doors, Gate};
+use pq_io::{Doors, Gate, Link};
 use std::alloc::Global;
 use std::marker::Brand;
 use std::sync::Wait;
@@ -50,7 +53,7 @@ fn make_seats(alloc: Global, workers: u32, cells: u32) -> Result<Seats, OutOfMem
 }
 
 /// Serves the links of the doors, which are opened at the address, with the clients of a cache of these passes.
-fn serve_seats<N: Naming + Send + Sync, R: Threads + Wait + Sync, D: Doors, G: Gate + Sync>(
+fn serve_seats<N, J, R, D, G>(
     rt: &R,
     alloc: Global,
     seats: Seats,
@@ -60,6 +63,13 @@ fn serve_seats<N: Naming + Send + Sync, R: Threads + Wait + Sync, D: Doors, G: G
     doors: &mut D,
     gate: &G,
 ) -> Ended
+where
+    N: Naming + Send + Sync,
+    J: Declaring,
+    R: Threads + Wait + Sync,
+    D: Doors,
+    <D::Wire as Link>::Receipt: Send,
+    G: Gate + Sync,
     requires named { seats.history ≡ N.history }
     requires clients { AreWriters N.history (length seats.clients.items) seats.clients.items }
     requires two { 2 ≤ length seats.clients.items }
@@ -70,6 +80,8 @@ fn serve_seats<N: Naming + Send + Sync, R: Threads + Wait + Sync, D: Doors, G: G
     requires updater { IsFresh N.history seats.updater }
     requires limit { 1 ≤ limit }
     requires joins { AreDeclarable joins.items }
+    requires declares { joins.items ≡ J.joins }
+    ensures links { result ≢ Ended.OutOfMemory → LinksCameBack (link_told D.Wire.left D.Wire.taken D.Wire.read_faults D.Wire.write_faults) D.Wire.tells J.joins (D.held doors.old) (D.held doors.new) (D.returned doors.new) }
     ensures closed { result ≡ Ended.Closed → HoldNone (D.held doors.new) }
     ensures failed { result ≡ Ended.Failed → Rose (D.faults doors.old) (D.faults doors.new) }
     ensures kept { result ≢ Ended.Failed → D.faults doors.new ≡ D.faults doors.old }
@@ -79,7 +91,7 @@ fn serve_seats<N: Naming + Send + Sync, R: Threads + Wait + Sync, D: Doors, G: G
     let Ok((workers, updater)) = staff::<N, G, R>(rt, alloc, seats, limit, joins, gate) else {
         return Ended::OutOfMemory;
     };
-    serve_doors(rt, alloc, address.text, doors, workers, updater)
+    serve_doors::<N, J, _, _, _>(rt, alloc, address.text, doors, workers, updater)
 }
 
 /// Makes a cache, declares the joins, starts the workers and an updater, opens the doors at the address, and serves each link that
@@ -98,6 +110,7 @@ pub fn serve<R, D, G>(
 where
     R: Threads + Wait + Sync,
     D: Doors,
+    <D::Wire as Link>::Receipt: Send,
     G: Gate + Sync,
     requires some_cells { 1 ≤ size.cells }
     requires few_cells { size.cells ≤ 65536 }
@@ -105,6 +118,7 @@ where
     requires some_workers { 1 ≤ size.workers }
     requires few_workers { size.workers ≤ 64 }
     requires joins { AreDeclarable joins.items }
+    ensures links { result ≢ Ended.OutOfMemory → LinksCameBack (link_told D.Wire.left D.Wire.taken D.Wire.read_faults D.Wire.write_faults) D.Wire.tells joins.items (D.held doors.old) (D.held doors.new) (D.returned doors.new) }
     ensures closed { result ≡ Ended.Closed → HoldNone (D.held doors.new) }
     ensures failed { result ≡ Ended.Failed → Rose (D.faults doors.old) (D.faults doors.new) }
     ensures kept { result ≢ Ended.Failed → D.faults doors.new ≡ D.faults doors.old }
@@ -115,5 +129,5 @@ where
         return Ended::OutOfMemory;
     };
     let address = Address { text: address };
-    serve_seats::<Brand, _, _, _>(rt, alloc, seats, size.rows, joins, address, doors, gate)
+    serve_seats::<Brand, Brand, _, _, _>(rt, alloc, seats, size.rows, joins, address, doors, gate)
 }

@@ -53,7 +53,7 @@ fn declare_all<N: Naming, G: Gate, R: Wait>(
 }
 
 /// Each of the others, clients of one cache, sees what the first has seen.
-fn meet_all<'g, N: Naming, G: Gate, R: Wait>(
+fn meet_all<'g, N: Naming, G: Gate, R>(
     rt: &R,
     first: &mut Client<'g, N, G>,
     others: &mut [Client<'g, N, G>],

@@ -1,53 +1,110 @@
 // Serving links one after another.
+ghost use Rattle.std.specs.Prelude.{◌≡◌, ◌<◌};
+ghost use Rattle.std.specs.Vec.{vec_len, vec_capacity};
+ghost use Rattle.pq_io.specs.Links.{link_told};
+ghost use Rattle.door_queue.specs.Tallies.{EachOnce, all_parts};
+ghost use Rattle.server.specs.Receipts.{HasServed, WasServed};
 
-use crate::updating::Ringing;
-use base_shards::Naming;
-use door_queue::{Bell, DoorQueue};
-use pequod_cache::{Client, ClientService};
-use pq_io::{Gate, Link};
+use door_queue::{TalliedQueue, Tally};
+use pq_io::Link;
 use session::{End, Service, serve_link};
 use std::alloc::Global;
 use std::sync::Wait;
+use std::thread;
 
 /// How often a link is tried. By then a cache of which the others keep nothing more meanwhile has let go of everything.
 const MOST_TRIES: u32 = 65;
 
-/// Serves the links that the queue gives, one after another, with one client, until the queue is closed and empty. However one
-/// link ends, the next is served. The bell is rung after each write that is acknowledged.
-pub fn work<N: Naming, G: Gate, K: Link + Drop, R: Wait>(
-    rt: &R,
-    alloc: Global,
-    queue: &DoorQueue<K>,
-    bell: &Bell,
-    client: Client<'_, N, G>,
-) {
-    let service = ClientService { rt, client };
-    serve_queued(rt, alloc, queue, Ringing { rt, bell, service })
-}
-
-/// Serves the links that the queue gives with this service, until the queue is closed and empty.
-fn serve_queued<S: Service + Drop, K: Link + Drop, R: Wait>(
-    rt: &R,
-    alloc: Global,
-    queue: &DoorQueue<K>,
-    mut service: S,
-) {
-    for _ in rt.forever() {
-        let Some(mut link) = queue.take(rt) else {
-            return;
-        };
-        serve_one(alloc, &mut service, &mut link);
-    }
-    unreachable!()
-}
-
 /// Serves a link with this service. Where no memory is found to begin with, the link is as it was, the service makes room, and it is
 /// tried again, as long as something went.
-fn serve_one<S: Service, K: Link>(alloc: Global, service: &mut S, link: &mut K) {
+fn serve_patiently<S: Service, K: Link>(alloc: Global, service: &mut S, link: &mut K)
+    ensures served { WasServed (S.number service.old) (S.view service.old) (S.view service.new)
+        (link_told K.left K.taken K.read_faults K.write_faults link.old) (link_told K.left K.taken K.read_faults K.write_faults link.new) }
+    ensures same_number { S.number service.new ≡ S.number service.old }
+{
     for _ in 0..MOST_TRIES {
         let end = serve_link(alloc, service, link);
         if end != End::OutOfMemory || !service.make_room() {
             return;
         }
     }
+}
+
+/// Serves a link with this service, and gives its receipt.
+fn serve_one<S: Service, K: Link>(alloc: Global, service: &mut S, mut link: K) -> K::Receipt
+    ensures served { WasServed (S.number service.old) (S.view service.old) (S.view service.new)
+        (link_told K.left K.taken K.read_faults K.write_faults link) (K.tells result) }
+    ensures same_number { S.number service.new ≡ S.number service.old }
+{
+    serve_patiently(alloc, service, &mut link);
+    link.finish()
+}
+
+/// Makes room for one receipt more, before a link is taken. Where no memory is found for it, the service makes room, and it is tried
+/// again until some is found. Receipts that have no bytes take none.
+fn reserve_one<S: Service, A, R: Wait>(rt: &R, service: &S, receipts: &mut Vec<A>)
+    ensures items { receipts.new.items ≡ receipts.old.items }
+    ensures room { vec_len receipts.new < vec_capacity receipts.new }
+{
+    for _ in rt.forever() {
+        if receipts.reserve(1).is_ok() {
+            return;
+        }
+        service.make_room();
+        thread::yield_now();
+    }
+    unreachable!()
+}
+
+/// Serves the links that the queue gives with this service, one after another, until the queue is closed and empty, and puts their
+/// receipts behind the others. However one link ends, the next is served.
+pub fn serve_queued<S: Service, K: Link, R: Wait>(
+    rt: &R,
+    alloc: Global,
+    queue: &TalliedQueue<K>,
+    service: &mut S,
+    tally: &mut Tally<K>,
+    receipts: &mut Vec<K::Receipt>,
+)
+    requires queue { tally.old.queue ≡ queue.now }
+    requires parts { 0 < tally.old.parts }
+    ensures served { HasServed (link_told K.left K.taken K.read_faults K.write_faults) K.tells
+        (S.number service.old) (S.view service.old) (S.view service.new) tally.old tally.new receipts.old.items receipts.new.items }
+    ensures same_number { S.number service.new ≡ S.number service.old }
+{
+    for _ in rt.forever() {
+        reserve_one(rt, service, receipts);
+        match queue.take(rt, tally) {
+            Some(link) => receipts.push_reserved(serve_one(alloc, service, link)),
+            None => return,
+        }
+    }
+    unreachable!()
+}
+
+/// Serves the links that are left in the queue when all tallies are joined to one, as `serve_queued` does. Then each link that was put
+/// was taken once.
+pub fn serve_left<S: Service, K: Link, R: Wait>(
+    rt: &R,
+    alloc: Global,
+    queue: &TalliedQueue<K>,
+    service: &mut S,
+    tally: &mut Tally<K>,
+    receipts: &mut Vec<K::Receipt>,
+)
+    requires queue { tally.old.queue ≡ queue.now }
+    requires whole { tally.old.parts ≡ all_parts }
+    ensures served { HasServed (link_told K.left K.taken K.read_faults K.write_faults) K.tells
+        (S.number service.old) (S.view service.old) (S.view service.new) tally.old tally.new receipts.old.items receipts.new.items }
+    ensures same_number { S.number service.new ≡ S.number service.old }
+    ensures once { EachOnce tally.new.put tally.new.taken }
+{
+    for _ in rt.forever() {
+        reserve_one(rt, service, receipts);
+        match queue.take_left(rt, tally) {
+            Some(link) => receipts.push_reserved(serve_one(alloc, service, link)),
+            None => return,
+        }
+    }
+    unreachable!()
 }

@@ -8,8 +8,8 @@ use Rattle.std.proofs.lemmas.Option.{slice_get_within}
 use Rattle.semantics.specs.Texts.{Text}
 use Rattle.semantics.specs.Histories.{Write, Entry, History}
 use Rattle.semantics.specs.Verdicts.{Cause, full, verdict, write_cause, first_cause}
-use Rattle.protocol.specs.Requests.{Request, write, read, quit, LineFault, request_of}
-use Rattle.protocol.specs.Replies.{Reply, done, answered, refused, unread, long, memory, bye, reply_text}
+use Rattle.protocol.specs.Requests.{Request, write, read, earlier, quit, LineFault, request_of}
+use Rattle.protocol.specs.Replies.{Reply, done, answered, refused, gone, ahead, changed, unread, long, memory, bye, reply_text}
 use Rattle.protocol.specs.Told.{Told}
 use Rattle.protocol.specs.Session.{AnswersLine, Serves, is_bye, told_pairs}
 use Rattle.pq_io.specs.Streams.{Took, TookProperPrefix}
@@ -46,6 +46,9 @@ pub sent_as_itself : (reply : Reply) → IsSentAs reply reply
 sent_as_itself (done n) = refl
 sent_as_itself (answered a) = inl refl
 sent_as_itself (refused n cause) = inl refl
+sent_as_itself (gone n) = inl refl
+sent_as_itself (ahead n) = inl refl
+sent_as_itself (changed from n listed) = inl refl
 sent_as_itself (unread fault) = inl refl
 sent_as_itself long = inl refl
 sent_as_itself memory = refl
@@ -55,6 +58,9 @@ pub sent_as_memory : (reply : Reply) → IsPlain reply → IsSentAs reply memory
 sent_as_memory (done n) plain = absurd plain
 sent_as_memory (answered a) plain = inr refl
 sent_as_memory (refused n cause) plain = inr refl
+sent_as_memory (gone n) plain = inr refl
+sent_as_memory (ahead n) plain = inr refl
+sent_as_memory (changed from n listed) plain = inr refl
 sent_as_memory (unread fault) plain = inr refl
 sent_as_memory long plain = inr refl
 sent_as_memory memory plain = refl
@@ -64,6 +70,9 @@ pub is_bye-plain : (reply : Reply) → IsPlain reply → is_bye reply ≡ false
 is_bye-plain (done n) plain = refl
 is_bye-plain (answered a) plain = refl
 is_bye-plain (refused n cause) plain = refl
+is_bye-plain (gone n) plain = refl
+is_bye-plain (ahead n) plain = refl
+is_bye-plain (changed from n listed) plain = refl
 is_bye-plain (unread fault) plain = refl
 is_bye-plain long plain = refl
 is_bye-plain memory plain = refl
@@ -80,6 +89,7 @@ answers_sent_as (Err fault) reply sent goes (inl e) = subst (λ r. IsSentAs r se
 answers_sent_as (Err fault) reply sent goes (inr e) = inr (subst (λ r. IsSentAs r sent) e goes)
 answers_sent_as (Ok (write w)) reply sent goes h = tt
 answers_sent_as (Ok (read r)) reply sent goes h = tt
+answers_sent_as (Ok (earlier q)) reply sent goes h = tt
 answers_sent_as (Ok quit) reply sent goes (inl e) = subst (λ r. IsSentAs r sent) e goes
 answers_sent_as (Ok quit) reply sent goes (inr e) = inr (subst (λ r. IsSentAs r sent) e goes)
 
@@ -92,6 +102,7 @@ told_at_sent_as : (before after : History) (client : ℕ) (line : Text) (reply s
 told_at_sent_as before after client line reply sent (Err fault) e goes told = rw e (rw e at told)
 told_at_sent_as before after client line reply sent (Ok (write w)) e goes told = rw e (told_sent_as before after client (write w) reply sent goes (rw e at told))
 told_at_sent_as before after client line reply sent (Ok (read r)) e goes told = rw e (told_sent_as before after client (read r) reply sent goes (rw e at told))
+told_at_sent_as before after client line reply sent (Ok (earlier q)) e goes told = rw e (told_sent_as before after client (earlier q) reply sent goes (rw e at told))
 told_at_sent_as before after client line reply sent (Ok quit) e goes told = rw e (rw e at told)
 
 -- a line is served by what is sent for its reply
@@ -128,6 +139,9 @@ small_done_by before after client line n (Ok (write w)) e h told =
 small_done_by before after client line n (Ok (read r)) e h told =
     let one : Told before after client (read r ∷ []) (done n ∷ []) = rw e at told in
     absurd (one.answers.0)
+small_done_by before after client line n (Ok (earlier q)) e h told =
+    let one : Told before after client (earlier q ∷ []) (done n ∷ []) = rw e at told in
+    absurd (one.answers.0)
 small_done_by before after client line n (Ok quit) e (inl h) told = absurd (cc)
 small_done_by before after client line n (Ok quit) e (inr h) told = absurd (cc)
 
@@ -136,6 +150,9 @@ pub small_done : (before after : History) (client : ℕ) (line : Text) (reply : 
 small_done before after client line (done n) served = small_done_by before after client line n (request_of line) refl served.each.0 served.told
 small_done before after client line (answered a) served = tt
 small_done before after client line (refused n cause) served = tt
+small_done before after client line (gone n) served = tt
+small_done before after client line (ahead n) served = tt
+small_done before after client line (changed from n listed) served = tt
 small_done before after client line (unread fault) served = tt
 small_done before after client line long served = tt
 small_done before after client line memory served = tt

@@ -6,8 +6,8 @@ use Rattle.std.proofs.lemmas.List.Folds.{list_any-append}
 use Rattle.std.proofs.lemmas.Slice.Zip.{AllZip-long}
 use Rattle.semantics.specs.Texts.{Text}
 use Rattle.semantics.specs.Histories.{History}
-use Rattle.protocol.specs.Requests.{Request, write, read, quit}
-use Rattle.protocol.specs.Replies.{Reply, done, answered, refused, unread, long, memory, bye}
+use Rattle.protocol.specs.Requests.{Request, write, read, earlier, quit}
+use Rattle.protocol.specs.Replies.{Reply, done, answered, refused, gone, ahead, changed, unread, long, memory, bye}
 use Rattle.protocol.specs.Told.{Told, own_positions}
 use Rattle.protocol.specs.Session.{told_pairs, Serves, NoBye, is_bye}
 use Rattle.protocol.proofs.Telling.{told-append, AllZip-append}
@@ -28,7 +28,7 @@ told_nothing view client = record {
   own = ap (own_positions client (length view + 1)) (drop-all view);
 }
 
--- the writes and reads among lines in two parts, where each line of the first has a reply
+-- what is told of lines in two parts, where each line of the first has a reply
 pub told_pairs-append : (lines more : List Text) (replies others : List Reply) → length replies ≡ length lines →
     told_pairs (lines ++ more) (replies ++ others) ≡ told_pairs lines replies ++ told_pairs more others
 told_pairs-append [] more [] others same = refl
@@ -69,6 +69,7 @@ told_memory_of : (before after : History) (client : ℕ) (request : Request) (re
     Told before after client (request ∷ []) (reply ∷ []) → Told before after client (request ∷ []) (memory ∷ [])
 told_memory_of before after client (write w) reply none told = record { grows = told.grows; answers = (tt, tt); ordered = tt; own = none }
 told_memory_of before after client (read r) reply none told = record { grows = told.grows; answers = (tt, tt); ordered = tt; own = none }
+told_memory_of before after client (earlier e) reply none told = record { grows = told.grows; answers = (tt, tt); ordered = tt; own = none }
 told_memory_of before after client quit reply none told = absurd (told.answers.0)
 
 -- a reply other than `done` may be told as `memory`
@@ -81,6 +82,15 @@ told_sent_as before after client request (answered a) sent (inr e) told =
 told_sent_as before after client request (refused n cause) sent (inl e) told = subst (λ r. Told before after client (request ∷ []) (r ∷ [])) (sym e) told
 told_sent_as before after client request (refused n cause) sent (inr e) told =
     subst (λ r. Told before after client (request ∷ []) (r ∷ [])) (sym e) (told_memory_of before after client request (refused n cause) told.own told)
+told_sent_as before after client request (gone n) sent (inl e) told = subst (λ r. Told before after client (request ∷ []) (r ∷ [])) (sym e) told
+told_sent_as before after client request (gone n) sent (inr e) told =
+    subst (λ r. Told before after client (request ∷ []) (r ∷ [])) (sym e) (told_memory_of before after client request (gone n) told.own told)
+told_sent_as before after client request (ahead n) sent (inl e) told = subst (λ r. Told before after client (request ∷ []) (r ∷ [])) (sym e) told
+told_sent_as before after client request (ahead n) sent (inr e) told =
+    subst (λ r. Told before after client (request ∷ []) (r ∷ [])) (sym e) (told_memory_of before after client request (ahead n) told.own told)
+told_sent_as before after client request (changed from n listed) sent (inl e) told = subst (λ r. Told before after client (request ∷ []) (r ∷ [])) (sym e) told
+told_sent_as before after client request (changed from n listed) sent (inr e) told =
+    subst (λ r. Told before after client (request ∷ []) (r ∷ [])) (sym e) (told_memory_of before after client request (changed from n listed) told.own told)
 told_sent_as before after client request (unread fault) sent (inl e) told = subst (λ r. Told before after client (request ∷ []) (r ∷ [])) (sym e) told
 told_sent_as before after client request (unread fault) sent (inr e) told =
     subst (λ r. Told before after client (request ∷ []) (r ∷ [])) (sym e) (told_memory_of before after client request (unread fault) told.own told)

@@ -1,7 +1,6 @@
 -- What a cell keeps, over longer histories, and as the join's that is asked for.
 use Rattle.std.proofs.Common.{◌≡◌, ℕ, ◌<◌, ◌≤◌, length, take, Option, IfSome, Some, None, refl, sym, ◌∙◌, subst, arith}
 use Rattle.std.specs.Option.{IsSomeAnd}
-use Rattle.std.proofs.lemmas.Option.{none-some}
 use Rattle.semantics.specs.Texts.{Table, Range, value_at, pairs_within}
 use Rattle.semantics.specs.Joins.{Join}
 use Rattle.semantics.specs.Histories.{History, IsPrefix, joins_of}
@@ -18,12 +17,12 @@ use Rattle.kept_ranges.specs.Sound.{KeptRange, IsSound, IsSoundAt}
 use Rattle.kept_ranges.proofs.SoundLemmas.{sound_over_longer}
 use Rattle.range_state.specs.Held.{forgotten}
 use Rattle.range_state.specs.Ready.{IsReady}
-use Rattle.range_serving.specs.Serving.{IsBroughtTo, IsPast, StandsFrom, output_within}
+use Rattle.range_serving.specs.Serving.{IsPast, StandsFrom, output_within}
 use Rattle.range_serving.specs.Telling.{TellsOutput}
 use Rattle.cell_slots.specs.Slots.{IsDeclared, IsOutput, IsRightFor, StandsAs, IsRankIn, IsRankAt}
 use Rattle.cell_slots.proofs.DeclaredLemmas.{declared_over_longer, declared_once, has_rank, stands_ranked, stands_over}
 use Rattle.rank_layers.specs.Telling.{TellsJoin}
-use Rattle.shared_cells.specs.Bringing.{BringsTo}
+use Rattle.shared_cells.specs.Bringing.{BringsTo, IsBroughtFrom}
 use Rattle.shared_cells.specs.Cells.{CellView, IsRightIn, IsCell, HasSamePlace, IsCellFor, IsLentFor, CanServe, IsReadyCell}
 
 -- ---- over longer histories
@@ -133,16 +132,14 @@ rank_of_kept cell h more p rank s within prefix met same is right =
     let stands = stands_ranked more p cell.at cell.rank s.join (right_here cell more cell.at s met refl right).declared there in
     subst (HasRank (joins_of (take p more)) s.join) (sym right.ranked) (has_rank more p cell.at cell.rank s.join stands)
 
--- nothing is brought where nothing is kept, or what stands below a floor
-pub brings_nothing : (floor p : ℕ) (held taken left : Option KeptRange) → (IfSome held (StandsFrom floor) → taken ≡ held) → taken ≡ None → left ≡ None → BringsTo floor p held left
-brings_nothing floor p None taken left takes none empty = empty
-brings_nothing floor p (Some s) taken left takes none empty = record { brought = λ from. absurd (none-some s (sym none ∙ takes from)); gone = λ below. empty }
+-- nothing is brought where nothing is kept
+pub brings_nothing : (floor p : ℕ) (held left : Option KeptRange) → held ≡ None → left ≡ None → BringsTo floor p held left
+brings_nothing floor p held left none empty = subst (λ (o : Option KeptRange). BringsTo floor p o left) (sym none) empty
 
 -- what is kept was brought there
-pub brings : (floor p : ℕ) (held after : Option KeptRange) (s t : KeptRange) → held ≡ Some s → after ≡ Some t → StandsFrom floor s → IsBroughtTo p s t → BringsTo floor p held after
-brings floor p held after s t is gives from brought =
-    subst (λ (o : Option KeptRange). BringsTo floor p o after) (sym is)
-    (record { brought = λ _. subst (λ (o : Option KeptRange). IsSomeAnd o (IsBroughtTo p s)) (sym gives) brought; gone = λ below. absurd (below from) })
+pub brings : (floor p : ℕ) (held after : Option KeptRange) (s t : KeptRange) → held ≡ Some s → after ≡ Some t → IsBroughtFrom floor p s t → BringsTo floor p held after
+brings floor p held after s t is gives brought =
+    subst (λ (o : Option KeptRange). BringsTo floor p o after) (sym is) (subst (λ (o : Option KeptRange). IsSomeAnd o (IsBroughtFrom floor p s)) (sym gives) brought)
 
 -- ---- what can be served
 

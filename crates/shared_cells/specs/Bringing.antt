@@ -1,21 +1,28 @@
 -- What it is to bring what a cell keeps to a position.
-use Rattle.std.specs.Prelude.{◌≡◌, ℕ, Option, Some, None, Result, OnOk}
+use Rattle.std.specs.Prelude.{◌≡◌, ℕ, [], Option, Some, None, Result, OnOk}
 use Rattle.std.specs.Option.{IsSomeAnd}
 use Rattle.kept_ranges.specs.Sound.{KeptRange}
+use Rattle.range_state.specs.Ready.{HasSameSubject, StandsAt}
 use Rattle.range_serving.specs.Serving.{IsBroughtTo, StandsFrom}
 use Rattle.shared_cells.specs.Cells.{CellView}
 
--- what was kept was brought to a position, unless it stood below a floor: then it was let go
-pub record IsBroughtFrom (floor p : ℕ) (s : KeptRange) (new : Option KeptRange) : Type 0 where
-  pub brought : StandsFrom floor s → IsSomeAnd new (IsBroughtTo p s)
-  pub gone : (StandsFrom floor s → ⊥) → new ≡ None
+-- a kept range of the same subject stands at a position, with nothing pending
+pub record IsFilledAt (p : ℕ) (old new : KeptRange) : Type 0 where
+  pub same : HasSameSubject old new
+  pub at : StandsAt p new
+  pub clear : new.kept.pending ≡ []
 
--- what is kept, if something is, was brought to a position, or stood below a floor and was let go
+-- a kept range was brought to a position, unless it stood below a floor: then it was filled there
+pub record IsBroughtFrom (floor p : ℕ) (old new : KeptRange) : Type 0 where
+  pub brought : StandsFrom floor old → IsBroughtTo p old new
+  pub filled : (StandsFrom floor old → ⊥) → IsFilledAt p old new
+
+-- what is kept, if something is, was brought to a position, or filled there where it stood below a floor
 abbrev pub BringsTo : ℕ → ℕ → Option KeptRange → Option KeptRange → Type 0
 BringsTo floor p None new = new ≡ None
-BringsTo floor p (Some s) new = IsBroughtFrom floor p s new
+BringsTo floor p (Some s) new = IsSomeAnd new (IsBroughtFrom floor p s)
 
--- a call brings a cell to a position for a rank: where this is the cell's, what the cell keeps is brought there if the call succeeds, or let go if it stands below a floor; where none is given or another, it stays as it is
+-- a call brings a cell to a position for a rank: where this is the cell's, what the cell keeps is brought there if the call succeeds, or filled there if it stands below a floor; where none is given or another, it stays as it is
 pub record BringsCell {T E : Type 0} (floor p : ℕ) (rank : Option ℕ) (done : Result T E) (old new : CellView) : Type 0 where
   pub brought : rank ≡ Some old.rank → OnOk done (BringsTo floor p old.held new.held)
   pub left : (rank ≡ Some old.rank → ⊥) → new.held ≡ old.held

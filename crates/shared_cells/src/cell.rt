@@ -13,6 +13,7 @@ ghost use Rattle.rank_layers.specs.Telling.{TellsJoin};
 ghost use Rattle.shared_cells.specs.Bringing.{BringsCell};
 ghost use Rattle.shared_cells.specs.Cells.{CanBeLent, CanServe, HasSamePlace, IsLentFor, IsReadyCell, IsRightIn};
 
+use crate::bringing::{bring, stands_from};
 use crate::ranked_join::RankedJoin;
 use base_shards::Naming;
 use join_eval::{Changed, Reader};
@@ -20,7 +21,7 @@ use join_types::Pair;
 use key_space::Range;
 use out_of_memory::OutOfMemory;
 use pq_io::Gate;
-use range_serving::{catch_up, is_past, serve, tell};
+use range_serving::{is_past, serve, tell};
 use range_state::RangeState;
 use rank_layers::Query;
 use shared_reader::{Followed, Stacked};
@@ -53,17 +54,6 @@ impl<N: Naming> Model for Cell<N> {
     ghost view = { λ c. record { at = c.at; rank = c.rank; range = c.range; held = c.held; pass = c.pass } };
 
     ghost invariant = { λ c. IsCell N.history c.at c.rank c.range c.held c.pass };
-}
-
-/// Whether it stands nowhere, or not below a floor.
-fn stands_from(state: &RangeState, floor: u64) -> bool
-    ensures yes { result ≡ true → StandsFrom floor state.now }
-    ensures no { result ≡ false → StandsFrom floor state.now → ⊥ }
-{
-    match state.position() {
-        None => true,
-        Some(at) => floor <= at,
-    }
 }
 
 /// Whether the second range begins at or before the first, and ends at or after it.
@@ -380,20 +370,22 @@ impl<N: Naming> Cell<N> {
     }
 
     /// Brings what is kept to where the first p entries stand, where it stands below: it is advanced. What is pending then stays
-    /// so, what is forgotten stays so, and what stands past p stays there. What stands below the reader's floor is let go. The rank
-    /// is the one that the join has after p entries, and none where it does not stand then; where it is not the cell's, what is
-    /// kept stays as it is and no step is taken, so that nothing changes but what the cell's pass has seen. It and the reader see
-    /// what either has seen.
+    /// so, what is forgotten stays so, and what stands past p stays there. What stands below the reader's floor is let go, and the
+    /// cell's whole range is filled; the gate is passed before. The rank is the one that the join has after p entries, and none
+    /// where it does not stand then; where it is not the cell's, what is kept stays as it is and no step is taken, so that nothing
+    /// changes but what the cell's pass has seen. It and the reader see what either has seen.
     ///
     /// On `OutOfMemory` what is kept stands where it stood, or at p, or nothing is kept.
-    pub fn bring<R: Stacked<N>, L: Ledger>(
+    pub fn bring<R: Stacked<N>, G: Gate, L: Ledger>(
         &mut self,
         p: u64,
         rank: Option<u8>,
+        gate: &G,
         reader: &mut R,
         steps: &mut Steps<L>,
     ) -> Result<(), OutOfMemory>
         requires within { p ≤ length (R.list reader.old) }
+        requires above { R.floor reader.old ≤ p }
         requires rank { IsRankAt (R.list reader.old) p self.old.at rank }
         requires ranked { IfSome rank (λ r. r ≤ R.top) }
         ensures brings { BringsCell (R.floor reader.old) p rank result self.old self.new }
@@ -407,12 +399,12 @@ impl<N: Naming> Cell<N> {
         if !self.is_for(rank) {
             return Ok(());
         }
-        let Some(state) = self.take_from(reader.least_position()) else {
+        let Some(state) = self.take_held() else {
             return Ok(());
         };
         let mut state = state;
-        let advanced = catch_up(&mut state, p, reader, steps);
+        let brought = bring(&mut state, p, gate, reader, steps);
         self.give_back(state, reader);
-        advanced
+        brought
     }
 }

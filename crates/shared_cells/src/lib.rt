@@ -7,6 +7,7 @@
 #![tactic(auto)]
 
 mod book;
+mod bringing;
 pub mod cell;
 mod directory;
 mod followed;

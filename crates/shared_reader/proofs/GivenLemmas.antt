@@ -1,8 +1,8 @@
 -- The joins that a reader is given, and how it reads on.
-use Rattle.std.proofs.Common.{◌≡◌, ℕ, ◌+◌, ◌-◌, ◌≤◌, take, sym, ap, ◌∙◌, subst, arith}
+use Rattle.std.proofs.Common.{◌≡◌, ℕ, ◌-◌, ◌≤◌, take, refl, sym, ap, ◌∙◌, subst, arith}
 use Rattle.join_set.specs.Sets.{Joins, AreJoins}
 use Rattle.write_history.specs.Entries.{IsRecorded}
-use Rattle.write_history.specs.Marks.{before, reach}
+use Rattle.write_history.specs.Marks.{MayAsk, before, reach}
 use Rattle.write_history.specs.Passes.{HistoryId, PassView}
 use Rattle.write_history.specs.declared.known.Mark.TheVariants.{Pinned}
 use Rattle.write_history.proofs.Marking.{before_is}
@@ -12,9 +12,9 @@ use Rattle.join_eval.specs.Moves.{Moves}
 use Rattle.shared_reader.specs.Readable.{IsReadable}
 
 -- after the first entries for which it was made they are the joins
-pub given_joins : (name history : HistoryId) (joins : Joins) (own p : ℕ) (pass now : PassView) → IsReadable name history joins own pass → pass ≡ now → p ≡ own → AreJoins 0 joins (take p now.view)
+pub given_joins : (name history : HistoryId) (joins : Joins) (own p : ℕ) (pass now : PassView) → IsReadable name history joins own pass → pass ≡ now → p ≡ own → AreJoins (reach now.mark) joins (take p now.view)
 given_joins name history joins own p pass now readable same at =
-    subst (λ (v : PassView). AreJoins 0 joins (take p v.view)) same (subst (λ n. AreJoins 0 joins (take n pass.view)) (sym at) readable.are_joins)
+    subst (λ (v : PassView). AreJoins (reach v.mark) joins (take p v.view)) same (subst (λ n. AreJoins (reach pass.mark) joins (take n pass.view)) (sym at) readable.are_joins)
 
 -- a pass that reads on, where the one that it was may have seen what it had
 pub reads_moves : (old now new : PassView) → IsRecorded old.writers old.view → old ≡ now → ReadsOn old new → Moves (λ (v : PassView). v.view) (λ v. reach v.mark) ReadsOn now new
@@ -30,3 +30,16 @@ pub reaches_back : (old now : PassView) (pin p : ℕ) → old.mark ≡ Pinned pi
 reaches_back old now pin p pinned same above =
     let is : reach now.mark ≡ pin - 65536 = ap (λ (v : PassView). reach v.mark) (sym same) ∙ ap reach pinned ∙ before_is pin in
     record { pin = pin; pinned = pinned; near = omega (arith, is, above) }
+
+-- it may ask from such a position on
+pub asks_from : (old now : PassView) (pin p : ℕ) → old.mark ≡ Pinned pin → old ≡ now → reach now.mark ≤ p → MayAsk old.mark p
+asks_from old now pin p pinned same above =
+    let is : reach now.mark ≡ before pin = ap (λ (v : PassView). reach v.mark) (sym same) ∙ ap reach pinned in
+    subst (λ m. MayAsk m p) (sym pinned) (subst (λ n. n ≤ p) is above)
+
+-- joins that tell of dropped ones from each position on for which it may ask tell of them from where it reaches to
+pub asked_joins : (old now : PassView) (pin p : ℕ) (joins : Joins) → old.mark ≡ Pinned pin → old ≡ now →
+    ((from : ℕ) → MayAsk old.mark from → AreJoins from joins (take p old.view)) → AreJoins (reach now.mark) joins (take p now.view)
+asked_joins old now pin p joins pinned same each =
+    subst (λ (v : PassView). AreJoins (reach v.mark) joins (take p v.view)) same
+    (each (reach old.mark) (asks_from old old pin (reach old.mark) pinned refl (omega arith)))

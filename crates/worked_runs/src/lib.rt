@@ -6,5 +6,6 @@
 
 pub mod aggregate_rows;
 pub mod copy_rows;
+pub mod earlier_rows;
 pub mod input_rows;
 pub mod refusal_rows;

@@ -7,7 +7,10 @@ pub mod Few
 pub mod Numbering
 pub mod Marking
 pub mod Fitting
+pub mod Keeping
 pub mod Turning
+pub mod Raising
+pub mod Dealing
 pub mod Appending
 pub mod Telling
 pub mod Pinning

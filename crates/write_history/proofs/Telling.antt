@@ -1,7 +1,7 @@
 -- What a look tells of the joins that stand.
-use Rattle.std.proofs.Common.{◌≡◌, ◌≢◌, ℕ, ◌≤◌, [], length, take, Some, None, refl, sym, ap, ◌∙◌, subst, arith}
+use Rattle.std.proofs.Common.{◌≡◌, ◌≢◌, ℕ, ◌≤◌, length, take, Some, None, refl, sym, ap, ◌∙◌, subst}
 use Rattle.semantics.specs.Histories.{History}
-use Rattle.growing_history.proofs.PrefixLemmas.{prefix_length, take_prefix}
+use Rattle.growing_history.proofs.PrefixLemmas.{take_prefix}
 use Rattle.join_set.specs.Sets.{Joins, AreJoins}
 use Rattle.write_history.specs.Stored.{Stored, IsLog}
 use Rattle.write_history.specs.Steps.{Sat, HasLog, TakesTurn, held_by}
@@ -23,12 +23,6 @@ told_all h floor log joins known is kept other = record {
   same = tt;
   none = λ e. absurd (other (ap (λ (j : Joins). j.changed) kept ∙ is.stands.joins.changed ∙ e));
 }
-
--- the log keeps as many entries as the view has, at least
-pub kept_as_many : (m m' : Sat) (turn : TakesTurn m m') (p : ℕ) → p ≤ length m.0.seen → p ≤ turn.log.summary.length
-kept_as_many m m' turn p within =
-    let more = prefix_length m.0.seen turn.history turn.begins in
-    omega (arith, within, more, turn.is_log.stands.same_length)
 
 -- the first entries of the view are those of the history
 pub first_of_view : (m m' : Sat) (turn : TakesTurn m m') (p : ℕ) → p ≤ length m.0.seen → take p turn.history ≡ take p m.0.seen

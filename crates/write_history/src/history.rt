@@ -279,7 +279,7 @@ impl History {
     }
 
     /// Each of the two passes sees what the other has seen. Nothing is allocated, no turn is taken, and it costs six loads.
-    pub fn meet<R: Wait>(&self, _rt: &R, a: &mut Pass, b: &mut Pass)
+    pub fn meet<R>(&self, _rt: &R, a: &mut Pass, b: &mut Pass)
         requires same_history { (a.old.history ≡ self.now) × (b.old.history ≡ self.now) }
         ensures first { GoesOn a.old a.new }
         ensures second { GoesOn b.old b.new }
@@ -344,14 +344,17 @@ impl History {
         copies
     }
 
-    /// Makes the joins of the first p entries of the view. The pass is unchanged. Under the turn it goes over the joins that were
-    /// ever declared, holds each against the tables of dropped ones, and compares those that stood with each other.
+    /// Makes the joins of the first p entries of the view. The pass is unchanged, and p is bounded as `from` of `entries` is: what
+    /// the joins tell of dropped ones holds from each position on for which the pass may ask. Under the turn it goes over the joins
+    /// that stood at the floor or were declared later, holds each against the tables of dropped ones, and compares those that stood
+    /// with each other.
     pub fn joins_at<R: Wait>(&self, rt: &R, pass: &mut Pass, p: u64) -> Result<JoinSet, OutOfMemory>
         requires same_history { pass.old.history ≡ self.now }
         requires within { p ≤ length pass.old.view }
+        requires kept { MayAsk pass.old.mark p }
         ensures goes_on { GoesOn pass.old pass.new }
         ensures unchanged { pass.new ≡ pass.old }
-        ensures joins { IfOk result (λ joins. AreJoins 0 joins (take p pass.old.view)) }
+        ensures joins { IfOk result (λ joins. (from : ℕ) → MayAsk pass.old.mark from → AreJoins from joins (take p pass.old.view)) }
     {
         let board = &self.board.shared;
         take_turn(rt, board, &mut pass.place);
@@ -362,7 +365,7 @@ impl History {
 
     /// Notes that nobody asks any more, by this pass, for what is before a position. The position is one that the pass has seen, and
     /// not below the last one that it has noted. Constant time; nothing is allocated, and no turn is taken.
-    pub fn note<R: Wait>(&self, _rt: &R, pass: &mut Pass, position: u64)
+    pub fn note<R>(&self, _rt: &R, pass: &mut Pass, position: u64)
         requires same_history { pass.old.history ≡ self.now }
         requires noted { (last : ℕ) × (pass.old.mark ≡ Noted last) × (last ≤ position) }
         requires within { position ≤ length pass.old.view }
@@ -385,7 +388,7 @@ impl History {
     }
 
     /// Takes the pin of the pass away. Constant time; nothing is allocated, and no turn is taken.
-    pub fn unpin<R: Wait>(&self, _rt: &R, pass: &mut Pass)
+    pub fn unpin<R>(&self, _rt: &R, pass: &mut Pass)
         requires same_history { pass.old.history ≡ self.now }
         requires pinned { (position : ℕ) × (pass.old.mark ≡ Pinned position) }
         ensures { pass.new ≡ record pass.old { mark = NotPinned } }
@@ -397,7 +400,8 @@ impl History {
     /// each pin less 65,536, and the number of entries less 65,536, where a difference below 0 counts as 0. The view has then all
     /// entries.
     ///
-    /// It loads a word for each pass that has one, and lets the dropped entries go, under the turn. Nothing is allocated. While
+    /// Under the turn it loads a word for each pass that has one, lets the dropped entries go, and goes over the joins that stood at
+    /// the floor before or were declared later, of which those that were dropped up to the floor go. Nothing is allocated. While
     /// another thread has the turn, this one sleeps.
     pub fn trim<R: Wait>(&self, rt: &R, pass: &mut Pass) -> u64
         requires same_history { pass.old.history ≡ self.now }

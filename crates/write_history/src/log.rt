@@ -38,7 +38,7 @@ impl Model for Log {
 
     ghost view = { λ l. record { lacks = l.entries.lacks; entries = l.entries.entries; summary = l.standing } };
 
-    ghost invariant = { λ l. (l.standing.length ≡ l.entries.lacks + length l.entries.entries) × AreNumbered l.entries.lacks l.entries.entries l.numbers };
+    ghost invariant = { λ l. (l.standing.length ≡ l.entries.lacks + length l.entries.entries) × AreNumbered l.entries.lacks l.entries.entries l.numbers × (l.standing.floor ≡ l.entries.lacks) };
 }
 
 /// Looks at the key or the join of a write, and so knows that it is one.
@@ -100,13 +100,14 @@ impl Log {
         self.entries.lacks() as u64
     }
 
-    /// Drops the first entries up to a position.
+    /// Drops the first entries up to a position, and lets go of the joins that were dropped up to there.
     pub(crate) fn drop_to(&mut self, floor: u64)
         requires { (h : History) × (lacks : ℕ) × IsLog h lacks self.old × (lacks ≤ floor) × (floor ≤ length h) }
         ensures { (h : History) (lacks : ℕ) → IsLog h lacks self.old → lacks ≤ floor → floor ≤ length h → IsLog h floor self.new }
     {
         self.entries.drop_to(floor as usize);
         self.numbers.drop_upto(floor);
+        self.standing.settle(floor);
     }
 
     /// Equal entries from one position up to another.
@@ -153,10 +154,10 @@ impl Log {
         Ok(Some(joins.copy()?))
     }
 
-    /// Makes the joins of the first p entries, at the cost of `Standing::joins_at`.
+    /// Makes the joins of the first p entries, of which it lacks no more, at the cost of `Standing::joins_at`.
     pub(crate) fn joins_at(&self, p: u64) -> Result<JoinSet, OutOfMemory>
-        requires { p ≤ self.now.summary.length }
-        ensures { IfOk result (λ joins. (h : History) (floor : ℕ) → IsLog h floor self.now → AreJoins 0 joins (take p h)) }
+        requires { (h : History) × (lacks : ℕ) × IsLog h lacks self.now × (lacks ≤ p) × (p ≤ length h) }
+        ensures { IfOk result (λ joins. (h : History) (lacks : ℕ) → IsLog h lacks self.now → AreJoins lacks joins (take p h)) }
     {
         self.standing.joins_at(p)
     }

@@ -208,17 +208,17 @@ pub(crate) fn copy_own(
     log.copy_own(alloc, part, from, to)
 }
 
-/// Makes the joins of the first p entries, out of the log.
+/// Makes the joins of the first p entries, of which the log lacks no more, out of the log.
 pub(crate) fn make_joins_at(
     board: &SharedBoard,
     place: &mut Place,
     p: u64,
 ) -> Result<JoinSet, OutOfMemory>
     requires own { place.old.table_id ≡ board.now.table_id }
-    requires log { (h : History) × (log : Stored) × HasLog h log place.old.me × (p ≤ log.summary.length) }
+    requires log { (h : History) × (log : Stored) × HasLog h log place.old.me × (place.old.me.0.lacks ≤ p) × (p ≤ length h) }
     ensures own { place.new.table_id ≡ place.old.table_id }
     ensures unchanged { place.new.me ≡ place.old.me }
-    ensures joins { IfOk result (λ joins. (h : History) (log : Stored) → HasLog h log place.old.me → AreJoins 0 joins (take p h)) }
+    ensures joins { IfOk result (λ joins. (h : History) (log : Stored) → HasLog h log place.old.me → AreJoins place.old.me.0.lacks joins (take p h)) }
 {
     let log = place.slot_mut(board, LOG);
     log.joins_at(p)

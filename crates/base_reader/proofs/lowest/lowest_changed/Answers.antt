@@ -1,4 +1,4 @@
-use Rattle.std.proofs.Common.{ℕ, ◌+◌, ◌≤◌, length, ap, arith}
+use Rattle.std.proofs.Common.{ℕ, ◌+◌, ◌≤◌, length, sym, ap, subst, arith}
 use Rattle.growing_history.specs.Changes.{changed_keys}
 use Rattle.growing_history.proofs.PrefixLemmas.{prefix_length, take_prefix}
 use Rattle.join_eval.specs.declared.reading.Changed.{Changed}
@@ -19,6 +19,9 @@ returns-in_err-keys-clause-entered g c = c.base_changes.ensures.moves.entered c.
 
 pub lowest_between-requires-clause-within : goal.lowest_between-requires-clause-within
 lowest_between-requires-clause-within g c = let list = g.S.BaseSource.list in omega (arith, c.requires.within, prefix_length (list c.args.source.now) (list c.base_changes.new.self) c.base_changes.ensures.moves.kept)
+
+pub lowest_between-requires-clause-above : goal.lowest_between-requires-clause-above
+lowest_between-requires-clause-above g c = subst (λ n. n ≤ c.args.q) (sym c.base_changes.ensures.moves.same_floor) c.requires.above
 
 pub returns-in_err-joins-clause-moves : goal.returns-in_err-joins-clause-moves
 returns-in_err-joins-clause-moves g c =

@@ -1,4 +1,4 @@
-use Rattle.std.proofs.Common.{length, take, not, ap, arith}
+use Rattle.std.proofs.Common.{◌≤◌, length, take, not, sym, ap, subst, arith}
 use Rattle.std.proofs.lemmas.Result.{IfOk-weaker}
 use Rattle.semantics.specs.Histories.{joins_of, is_computed}
 use Rattle.growing_history.proofs.PrefixLemmas.{prefix_length}
@@ -9,8 +9,11 @@ use Rattle.base_reader.proofs.lowest.lowest_pairs.Goals as goal
 pub returns-in_err-pairs-clause-entered : goal.returns-in_err-pairs-clause-entered
 returns-in_err-pairs-clause-entered g c = c.base_pairs.ensures.moves.entered c.base_pairs.ensures.entered
 
-pub visible-requires : goal.visible-requires
-visible-requires g c = let list = g.S.BaseSource.list in omega (arith, c.requires.within, prefix_length (list c.args.source.now) (list c.base_pairs.new.self) c.base_pairs.ensures.moves.kept)
+pub visible-requires-clause-above : goal.visible-requires-clause-above
+visible-requires-clause-above g c = subst (λ n. n ≤ c.args.p) (sym c.base_pairs.ensures.moves.same_floor) c.requires.above
+
+pub visible-requires-clause-within : goal.visible-requires-clause-within
+visible-requires-clause-within g c = let list = g.S.BaseSource.list in omega (arith, c.requires.within, prefix_length (list c.args.source.now) (list c.base_pairs.new.self) c.base_pairs.ensures.moves.kept)
 
 pub returns-clause-exact : goal.returns-clause-exact
 returns-clause-exact g c =

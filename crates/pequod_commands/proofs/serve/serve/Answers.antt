@@ -1,4 +1,4 @@
-use Rattle.std.proofs.Common.{[], subst, sym, ⊎_elim}
+use Rattle.std.proofs.Common.{[], subst, sym, arith, ⊎_elim}
 use Rattle.pq_io.specs.Streams.{Took}
 use Rattle.pq_io.proofs.StreamLemmas.{Took-nothing}
 use Rattle.pequod_commands.specs.Serves.{closed, failed, unserved, no_memory}
@@ -12,9 +12,15 @@ returns-clause-serve g c =
     let joins = c.in-Ok.joins.items in
     let nothing = subst (λ s. Took (g.W.Sink.taken c.args.sink.now) (g.W.Sink.taken s) []) (sym c.in-Ok.ensures.same_sink) (Took-nothing _) in
     ⊎_elim
-    (λ zero. record { ending = closed joins; served = (zero, c.in-Ok.ensures.joins, nothing, c.serve_links.ensures.closed zero) })
+    (λ zero. record {
+      ending = closed joins;
+      served = (zero, c.in-Ok.ensures.joins, nothing, c.serve_links.ensures.closed zero, c.serve_links.ensures.links (λ six. omega arith));
+    })
     (λ others. ⊎_elim
     (λ six. record { ending = unserved no_memory; served = (six, nothing) })
-    (λ eight. record { ending = failed joins; served = (eight, c.in-Ok.ensures.joins, nothing) })
+    (λ eight. record {
+      ending = failed joins;
+      served = (eight, c.in-Ok.ensures.joins, nothing, c.serve_links.ensures.links (λ six. omega arith));
+    })
     others)
     c.serve_links.ensures.ends

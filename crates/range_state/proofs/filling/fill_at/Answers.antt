@@ -1,5 +1,5 @@
 use Rattle.std.proofs.Common.{◌≡◌, None, Result, Ok, Err, IfOk, rules}
-use Rattle.key_ranges.specs.Containing.{bind_range}
+use Rattle.key_ranges.specs.Containing.{range_slots}
 use Rattle.range_state.proofs.NothingLemmas.{nothing_filled}
 use Rattle.range_state.proofs.filling.fill_at.Goals as goal
 
@@ -10,6 +10,6 @@ all (Err e) P Q S f p q = tt
 
 pub returns-in-None-clause-filled : goal.returns-in-None-clause-filled
 returns-in-None-clause-filled g c =
-    let none : bind_range c.args.subject.now.join.output c.args.subject.now.range ≡ None = search rules in
+    let none : range_slots c.args.subject.now.join.output c.args.subject.now.range ≡ None = search rules in
     all c.hold_nothing.result _ _ _ (λ held holds empty.
     nothing_filled c.args.subject.now (g.R.Reader.list c.args.reader.now) c.args.p held c.requires.entered c.requires.stands c.look.ensures none holds empty) c.hold_nothing.ensures.held c.hold_nothing.ensures.groups

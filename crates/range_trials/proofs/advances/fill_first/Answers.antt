@@ -8,7 +8,7 @@ use Rattle.semantics.specs.Histories.{History, DeclaredJoin, joins_of}
 use Rattle.semantics.specs.Outputs.{out}
 use Rattle.semantics.specs.States.{below}
 use Rattle.semantics.proofs.StateLemmas.{ascending-below}
-use Rattle.key_ranges.specs.Containing.{bind_range}
+use Rattle.key_ranges.specs.Containing.{range_slots}
 use Rattle.growing_history.specs.Entered.{HasEntered, HasRank}
 use Rattle.growing_history.proofs.ElementLemmas.{all_from_has, has_of_all}
 use Rattle.growing_history.proofs.EnteredLemmas.{rank_of_place, has_entered_taken, keeps_rules}
@@ -22,18 +22,18 @@ use Rattle.source_changes.specs.Filling.{CanFill}
 use Rattle.source_changes.specs.Laws.{NeedCanFill}
 use Rattle.range_trials.proofs.advances.fill_first.Goals as goal
 
--- the slots that the keys of a range share are slots of the output
-slots_of_range : (j inside : Join) (range : Range) (slots : Slots) (o : Option Slots) → SharedAreOutputSlots → inside ≡ j → is_join inside ≡ true → o ≡ bind_range inside.output range → o ≡ Some slots → AreOutputSlots j slots
+-- the slots of a range are slots of the output
+slots_of_range : (j inside : Join) (range : Range) (slots : Slots) (o : Option Slots) → SharedAreOutputSlots → inside ≡ j → is_join inside ≡ true → o ≡ range_slots inside.output range → o ≡ Some slots → AreOutputSlots j slots
 slots_of_range j inside range slots o shared view ok binds is =
-    subst (λ (found : Option Slots). IfSome found (AreOutputSlots j)) (ap (λ (join : Join). bind_range join.output range) (sym view) ∙ sym binds ∙ is)
+    subst (λ (found : Option Slots). IfSome found (AreOutputSlots j)) (ap (λ (join : Join). range_slots join.output range) (sym view) ∙ sym binds ∙ is)
     (shared j range (ap is_join (sym view) ∙ ok))
 
 pub evaluate-requires-clause-own_slots : goal.evaluate-requires-clause-own_slots
 evaluate-requires-clause-own_slots g c =
-    slots_of_range c.join-join.result.now _ c.args.range.now c.in-Some.slots _ c.shared_are_output_slots.ensures c.join.view_is c.join.invariant c.bind_range.ensures.binds c.in-Some.is
+    slots_of_range c.join-join.result.now _ c.args.range.now c.in-Some.slots _ c.shared_are_output_slots.ensures c.join.view_is c.join.invariant c.range_slots.ensures.exact c.in-Some.is
 
 -- the needs of a filled range can fill
-tree_can_fill : NeedCanFill → (h : History) (j : Join) (rank : ℕ) (range : Range) (slots : Slots) → HasEntered h → HasRank (joins_of h) j rank → is_join j ≡ true → is_range range.low range.high ≡ true → bind_range j.output range ≡ Some slots →
+tree_can_fill : NeedCanFill → (h : History) (j : Join) (rank : ℕ) (range : Range) (slots : Slots) → HasEntered h → HasRank (joins_of h) j rank → is_join j ≡ true → is_range range.low range.high ≡ true → range_slots j.output range ≡ Some slots →
     AllByRecursion (CanFill j) (tree j slots range (below h rank))
 tree_can_fill law h j rank range slots entered stands ok bounds binds =
     let table = below h rank in
@@ -54,6 +54,6 @@ returns g c =
     let all : take p h ≡ entries = ap (take p) c.new-reader.ensures.list ∙ take_all p entries (omega (arith, c.length-position.ensures.length, c.requires.stands.same_length)) in
     let stands = subst (λ (joins : List DeclaredJoin). HasRank joins j rank) (ap (λ (js : Joins). js.standing) c.joins-joins.ensures.joins ∙ c.requires.stands.joins.standing ∙ ap joins_of (sym all))
     (rank_of_place c.joins-joins.result.now.standing j 0 rank _ refl c.join-join.ensures c.rank-rank.ensures.exact) in
-    let binds = ap (λ (k : Join). bind_range k.output range) (sym c.join.view_is) ∙ sym c.bind_range.ensures.binds ∙ c.in-Some.is in
+    let binds = ap (λ (k : Join). range_slots k.output range) (sym c.join.view_is) ∙ sym c.range_slots.ensures.exact ∙ c.in-Some.is in
     let fills = tree_can_fill c.need_can_fill.ensures (take p h) j rank range c.in-Some.slots (has_entered_taken p h c.new-reader.ensures.entered) stands (ap is_join (sym c.join.view_is) ∙ c.join.invariant) c.lo-low.ensures.is_range binds in
     subst (λ (k : Join). AllByRecursion (CanFill k) c.in_ok-rows.rows.needs) (sym c.in_ok-join.ensures) (subst (AllByRecursion (CanFill j)) (sym c.in_ok-rows.ensures.needs) fills)

@@ -5,7 +5,7 @@ use Rattle.write_history.specs.Steps.{Sat, IsResting, dealing, dealt}
 use Rattle.write_history.proofs.Entering.{IsRecorded-nil}
 use Rattle.write_history.proofs.Lists.{each_push}
 use Rattle.write_history.proofs.Marking.{first_low, first_placed}
-use Rattle.write_history.proofs.Turning.{deals}
+use Rattle.write_history.proofs.Dealing.{deals}
 use Rattle.write_history.proofs.history.deal.Goals as goal
 
 pub split_seat-place-requires : goal.split_seat-place-requires

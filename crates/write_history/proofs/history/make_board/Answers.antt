@@ -5,7 +5,7 @@ use Rattle.write_history.specs.Rule.{Keeps, dealer, first_words}
 use Rattle.write_history.specs.Marks.{words_of}
 use Rattle.write_history.proofs.Lines.{length-lines}
 use Rattle.write_history.proofs.Marking.{first_words_are}
-use Rattle.write_history.proofs.Turning.{opens}
+use Rattle.write_history.proofs.Dealing.{opens}
 use Rattle.write_history.proofs.history.make_board.Goals as goal
 
 pub new-requires-2 : goal.new-requires-2

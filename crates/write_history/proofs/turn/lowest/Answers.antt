@@ -5,7 +5,7 @@ use Rattle.write_history.specs.Rule.{Keeps}
 use Rattle.write_history.specs.Steps.{Sat, passing}
 use Rattle.write_history.proofs.Marking.{before_is}
 use Rattle.write_history.proofs.Lines.{mark_at}
-use Rattle.write_history.proofs.Turning.{passes}
+use Rattle.write_history.proofs.Raising.{passes}
 use Rattle.write_history.proofs.turn.lowest.Goals as goal
 
 pub load-word-requires : goal.load-word-requires

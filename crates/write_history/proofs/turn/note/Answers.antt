@@ -6,7 +6,7 @@ use Rattle.write_history.specs.Steps.{Sat, marked}
 use Rattle.write_history.specs.declared.known.Mark.TheVariants.{Noted}
 use Rattle.write_history.proofs.Marking.{allowed_note}
 use Rattle.write_history.proofs.Lines.{mark_at}
-use Rattle.write_history.proofs.Turning.{remarks}
+use Rattle.write_history.proofs.Raising.{remarks}
 use Rattle.write_history.proofs.turn.note.Goals as goal
 
 pub store-requires : goal.store-requires

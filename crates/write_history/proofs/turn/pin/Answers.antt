@@ -4,7 +4,7 @@ use Rattle.write_history.specs.Rule.{Keeps}
 use Rattle.write_history.specs.Steps.{Sat, pinned, held_or}
 use Rattle.write_history.specs.declared.known.Mark.TheVariants.{Pinned}
 use Rattle.write_history.proofs.Lines.{mark_at}
-use Rattle.write_history.proofs.Turning.{pins_down}
+use Rattle.write_history.proofs.Raising.{pins_down}
 use Rattle.write_history.proofs.turn.pin.Goals as goal
 
 pub store-requires : goal.store-requires

@@ -4,7 +4,7 @@ use Rattle.write_history.specs.Marks.{pins, words_of, IsPlaced}
 use Rattle.write_history.specs.Rule.{Keeps}
 use Rattle.write_history.specs.Steps.{Sat, reread}
 use Rattle.write_history.proofs.Lines.{mark_at}
-use Rattle.write_history.proofs.Turning.{rereads}
+use Rattle.write_history.proofs.Raising.{rereads}
 use Rattle.write_history.proofs.turn.pinned_at.Goals as goal
 
 pub load-requires : goal.load-requires

@@ -4,7 +4,7 @@ use Rattle.write_history.specs.Marks.{words_of, IsLow}
 use Rattle.write_history.specs.Rule.{Keeps}
 use Rattle.write_history.specs.declared.known.Mark.{Mark}
 use Rattle.write_history.specs.Steps.{Sat, raised}
-use Rattle.write_history.proofs.Turning.{raises}
+use Rattle.write_history.proofs.Raising.{raises}
 use Rattle.write_history.proofs.turn.raise.Goals as goal
 
 pub store-requires : goal.store-requires

@@ -1,6 +1,6 @@
 use Rattle.std.proofs.Common.{ap, ◌∙◌, subst, arith}
 use Rattle.write_history.specs.Steps.{Sat, Agrees, informed}
-use Rattle.write_history.proofs.Turning.{notes, informs, agrees}
+use Rattle.write_history.proofs.Dealing.{notes, informs, agrees}
 use Rattle.write_history.proofs.Appending.{learns_from}
 use Rattle.write_history.proofs.turn.tell.Goals as goal
 

@@ -6,7 +6,7 @@ use Rattle.write_history.specs.Steps.{Sat, marked}
 use Rattle.write_history.specs.declared.known.Mark.TheVariants.{Free, Pinned}
 use Rattle.write_history.proofs.Marking.{before_more, allowed_pin, no_pin_is}
 use Rattle.write_history.proofs.Lines.{mark_at}
-use Rattle.write_history.proofs.Turning.{remarks}
+use Rattle.write_history.proofs.Raising.{remarks}
 use Rattle.write_history.proofs.turn.unpin.Goals as goal
 
 pub store-requires : goal.store-requires

@@ -1,62 +1,12 @@
-use Rattle.std.proofs.Common.{◌<◌, ◌≤◌, if◌then◌else◌, Some, None, length, drop, sym, ap, ◌∙◌, arith}
-use Rattle.std.proofs.lemmas.List.{length-map}
-use Rattle.semantics.specs.Patterns.{Pattern, bind, take_all}
-use Rattle.key_pattern.specs.Plain.{plain_segment, plain_segments}
-use Rattle.key_pattern.specs.Pieces.{segments_left}
-use Rattle.key_pattern.proofs.WalkLemmas.{seen_at, segment_at, walk_short, walk_stop, walk_more, walk_long}
+use Rattle.std.proofs.Common.{ap, ◌∙◌}
+use Rattle.semantics.specs.Patterns.{is_pattern, bind}
 use Rattle.key_pattern.proofs.pattern.Pattern.matches.Goals as goal
 
-pub returns-in_err-left-clause-binds : goal.returns-in_err-left-clause-binds
-returns-in_err-left-clause-binds c =
-    let items = c.deref-segment-items.result.now in
-    let p : Pattern = plain_segments items in
-    let i = c.loop-segment.segment-index in
-    let within : i < length p = omega (arith, c.loop-segment-test.true, length-map items plain_segment) in
-    c.from_residual.ensures ∙ sym (
-    ap (λ q. bind q c.args.key.now c.args.given.now) (sym (ap plain_segments c.deref-segment-items.ensures.value ∙ c.self.view_is))
-    ∙ sym c.loop-segment.invariant
-    ∙ ap (λ l. take_all (drop i p) (segments_left l) c.loop-segment.found) c.in_err-left.was
-    ∙ walk_short p i c.loop-segment.found within)
+pub bind_text-requires : goal.bind_text-requires
+bind_text-requires c = ap is_pattern c.segments.ensures.segments ∙ c.segments.ensures.is_pattern
 
-pub take-requires-clause-segment : goal.take-requires-clause-segment
-take-requires-clause-segment c =
-    segment_at c.deref-segment-items.result.now (plain_segments c.self.inside.segments.items) c.loop-segment.segment-index c.segment-item.result
-    (ap plain_segments c.deref-segment-items.ensures.value) c.self.invariant c.loop-segment-test.true c.segment-item.is
-
-pub returns-then-not-take-clause-binds : goal.returns-then-not-take-clause-binds
-returns-then-not-take-clause-binds c =
-    let items = c.deref-segment-items.result.now in
-    let p : Pattern = plain_segments items in
-    let i = c.loop-segment.segment-index in
-    let within : i < length p = omega (arith, c.loop-segment-test.true, length-map items plain_segment) in
-    sym (
-    ap (λ q. bind q c.args.key.now c.args.given.now) (sym (ap plain_segments c.deref-segment-items.ensures.value ∙ c.self.view_is))
-    ∙ sym c.loop-segment.invariant
-    ∙ walk_stop p i (plain_segment c.segment-item.result) c.first_segment.result.0.now (segments_left c.first_segment.result.1) (segments_left c.loop-segment.left) c.loop-segment.found
-    within (seen_at plain_segment items i c.segment-item.result c.loop-segment-test.true c.segment-item.is)
-    (ap segments_left c.in_ok-left.was ∙ c.first_segment.ensures.parts)
-    (sym c.take.ensures ∙ ap (λ took. if took then Some c.take.new.slots else None) c.if-not-take.true))
-
-pub loop-segment-preserved : goal.loop-segment-preserved
-loop-segment-preserved c =
-    let items = c.deref-segment-items.result.now in
-    let p : Pattern = plain_segments items in
-    let i = c.loop-segment.segment-index in
-    let within : i < length p = omega (arith, c.loop-segment-test.true, length-map items plain_segment) in
-    walk_more p i (plain_segment c.segment-item.result) c.first_segment.result.0.now (segments_left c.first_segment.result.1) (segments_left c.loop-segment.left) c.loop-segment.found c.take.new.slots
-    within (seen_at plain_segment items i c.segment-item.result c.loop-segment-test.true c.segment-item.is)
-    (ap segments_left c.in_ok-left.was ∙ c.first_segment.ensures.parts)
-    (sym c.take.ensures ∙ ap (λ took. if took then Some c.take.new.slots else None) c.if-not-take.false)
-    ∙ c.loop-segment.invariant
-
-pub returns-in-Some-clause-binds : goal.returns-in-Some-clause-binds
-returns-in-Some-clause-binds c =
-    let items = c.deref-segment-items.result.now in
-    let p : Pattern = plain_segments items in
-    let i = c.loop-segment.segment-index in
-    let end : length p ≤ i = omega (arith, c.loop-segment-test.false, length-map items plain_segment) in
-    sym (
-    ap (λ q. bind q c.args.key.now c.args.given.now) (sym (ap plain_segments c.deref-segment-items.ensures.value ∙ c.self.view_is))
-    ∙ sym c.loop-segment.invariant
-    ∙ ap (λ l. take_all (drop i p) (segments_left l) c.loop-segment.found) c.in-Some.is
-    ∙ walk_long p i c.in-Some.field-0.now c.loop-segment.found end)
+pub returns-clause-binds : goal.returns-clause-binds
+returns-clause-binds c =
+    c.bind_text.ensures.binds
+    ∙ ap (λ p. bind p c.text.result.now c.args.given.now) c.segments.ensures.segments
+    ∙ ap (λ t. bind c.args.self.now t c.args.given.now) c.text.ensures.text

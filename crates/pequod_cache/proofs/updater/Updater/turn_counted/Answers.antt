@@ -1,6 +1,8 @@
-use Rattle.std.proofs.Common.{◌≡◌, Option, Some, sym, ap, ◌∙◌, subst, arith}
+use Rattle.std.proofs.Common.{◌≡◌, take, Option, Some, sym, ap, ◌∙◌, subst, arith}
 use Rattle.std.proofs.lemmas.List.{take_all}
 use Rattle.join_set.specs.Sets.{AreJoins}
+use Rattle.join_set.proofs.BareLemmas.{AreJoins-higher}
+use Rattle.write_history.specs.Marks.{reach}
 use Rattle.write_history.specs.Passes.{PassView, GoesOn, own}
 use Rattle.pequod_cache.specs.Clients.{IsUpdater, pass_of}
 use Rattle.pequod_cache.proofs.ClientLemmas.{pinned_goes_on, updater_is_free, updater_reads_on, updater_stays}
@@ -15,7 +17,8 @@ invariant_of-self g c =
 pub turn-turned-requires-clause-joins : goal.turn-turned-requires-clause-joins
 turn-turned-requires-clause-joins g c =
     let all = c.in-Ok.ensures.length in
-    subst (AreJoins 0 c.look-looked.new.joins) (sym (take_all c.in-Ok.position c.look-looked.new.pass.view (omega (arith, all)))) c.in-Ok.ensures.brought
+    AreJoins-higher 0 (reach c.look-looked.new.pass.mark) c.look-looked.new.joins (take c.in-Ok.position c.look-looked.new.pass.view) (omega arith)
+    (subst (AreJoins 0 c.look-looked.new.joins) (sym (take_all c.in-Ok.position c.look-looked.new.pass.view (omega (arith, all)))) c.in-Ok.ensures.brought)
 
 pub invariant_of-self-2 : goal.invariant_of-self-2
 invariant_of-self-2 g c =

@@ -5,9 +5,8 @@ use Rattle.join_eval.proofs.MovesLemmas.{moves_trans}
 use Rattle.rank_layers.proofs.PartLemmas.{right_after}
 use Rattle.write_history.specs.Passes.{PassView}
 use Rattle.kept_ranges.specs.Sound.{KeptRange}
-use Rattle.range_serving.specs.Serving.{StandsFrom}
 use Rattle.cell_slots.specs.Slots.{IsRankAt}
-use Rattle.shared_cells.specs.Bringing.{BringsTo}
+use Rattle.shared_cells.specs.Bringing.{IsBroughtFrom}
 use Rattle.shared_cells.proofs.CellLemmas.{brings, brings_nothing, rank_of_kept, right_here}
 use Rattle.shared_cells.proofs.cell.Cell.bring.Goals as goal
 
@@ -19,45 +18,42 @@ returns-then-not-is_for-clause-brings g c = record {
 
 pub returns-in_default-clause-brings : goal.returns-in_default-clause-brings
 returns-in_default-clause-brings g c = record {
-  brought = λ same.
-      subst (λ (n : ℕ). BringsTo n c.args.p c.args.self.now.held c.take_from.new.self.held) (c.least_position.ensures ∙ c.meet.ensures.moves.same_floor)
-      (brings_nothing c.least_position.result c.args.p c.args.self.now.held c.take_from.result c.take_from.new.self.held
-      (subst (λ (o : Option KeptRange). IfSome o (StandsFrom c.least_position.result) → c.take_from.result ≡ o) c.meet.ensures.held c.take_from.ensures.taken) c.in_default.is c.take_from.ensures.left);
+  brought = λ same. brings_nothing (g.R.Reader.floor c.args.reader.now) c.args.p c.args.self.now.held c.take_held.new.self.held (sym c.meet.ensures.held ∙ sym c.take_held.ensures.taken ∙ c.in_default.is) c.take_held.ensures.left;
   left = λ other. absurd (other (c.if-not-is_for.ensures.yes refl ∙ ap (λ (n : ℕ). Some n) c.meet.ensures.same_place.rank));
 }
 
-pub catch_up-advanced-requires-clause-from : goal.catch_up-advanced-requires-clause-from
-catch_up-advanced-requires-clause-from g c = subst (λ (n : ℕ). StandsFrom n c.in-Some.state) c.least_position.ensures c.in-Some.ensures.from
+pub bring-brought-requires-clause-above : goal.bring-brought-requires-clause-above
+bring-brought-requires-clause-above g c = subst (λ (n : ℕ). n ≤ c.args.p) (sym c.meet.ensures.moves.same_floor) c.requires.above
 
-pub catch_up-advanced-requires-clause-stands : goal.catch_up-advanced-requires-clause-stands
-catch_up-advanced-requires-clause-stands g c =
+pub bring-brought-requires-clause-stands : goal.bring-brought-requires-clause-stands
+bring-brought-requires-clause-stands g c =
     let list = g.R.Reader.list in
-    let place = c.take_from.ensures.same_place.at ∙ c.meet.ensures.same_place.at in
-    rank_of_kept c.take_from.new.self (list c.args.reader.now) (list c.meet.new.reader) c.args.p c.args.rank c.in-Some.state c.requires.within c.meet.ensures.moves.kept
-    (ap (λ (p : PassView). p.view) c.take_from.ensures.pass ∙ c.meet.ensures.met) (c.if-not-is_for.ensures.yes refl ∙ ap (λ (n : ℕ). Some n) (sym c.take_from.ensures.same_place.rank))
+    let place = c.take_held.ensures.same_place.at ∙ c.meet.ensures.same_place.at in
+    rank_of_kept c.take_held.new.self (list c.args.reader.now) (list c.meet.new.reader) c.args.p c.args.rank c.in-Some.state c.requires.within c.meet.ensures.moves.kept
+    (ap (λ (p : PassView). p.view) c.take_held.ensures.pass ∙ c.meet.ensures.met) (c.if-not-is_for.ensures.yes refl ∙ ap (λ (n : ℕ). Some n) (sym c.take_held.ensures.same_place.rank))
     (subst (λ (n : ℕ). IsRankAt (list c.args.reader.now) c.args.p n c.args.rank) (sym place) c.requires.rank) c.in-Some.ensures.right
 
-pub catch_up-advanced-requires-clause-ranked : goal.catch_up-advanced-requires-clause-ranked
-catch_up-advanced-requires-clause-ranked g c =
-    subst (λ (n : ℕ). n ≤ g.R.Reader.top) (sym (c.in-Some.ensures.right.ranked ∙ c.take_from.ensures.same_place.rank))
+pub bring-brought-requires-clause-ranked : goal.bring-brought-requires-clause-ranked
+bring-brought-requires-clause-ranked g c =
+    subst (λ (n : ℕ). n ≤ g.R.Reader.top) (sym (c.in-Some.ensures.right.ranked ∙ c.take_held.ensures.same_place.rank))
     (subst (λ (o : Option ℕ). IfSome o (λ r. r ≤ g.R.Reader.top)) (c.if-not-is_for.ensures.yes refl) c.requires.ranked)
 
 pub give_back-requires-clause-right : goal.give_back-requires-clause-right
 give_back-requires-clause-right g c =
     let list = g.R.Reader.list in
-    let met = ap (λ (p : PassView). p.view) c.take_from.ensures.pass ∙ c.meet.ensures.met in
-    right_after (list c.meet.new.reader) (list c.catch_up-advanced.new.reader) c.take_from.new.self.at c.in-Some.state c.catch_up-advanced.new.state c.catch_up-advanced.ensures.moves.kept
-    (right_here c.take_from.new.self (list c.meet.new.reader) c.take_from.new.self.at c.in-Some.state met refl c.in-Some.ensures.right)
-    c.catch_up-advanced.ensures.same c.catch_up-advanced.ensures.sound
+    let met = ap (λ (p : PassView). p.view) c.take_held.ensures.pass ∙ c.meet.ensures.met in
+    right_after (list c.meet.new.reader) (list c.bring-brought.new.reader) c.take_held.new.self.at c.in-Some.state c.bring-brought.new.state c.bring-brought.ensures.moves.kept
+    (right_here c.take_held.new.self (list c.meet.new.reader) c.take_held.new.self.at c.in-Some.state met refl c.in-Some.ensures.right)
+    c.bring-brought.ensures.same c.bring-brought.ensures.sound
 
 pub returns-clause-brings : goal.returns-clause-brings
 returns-clause-brings g c =
-    let advanced = c.catch_up-advanced in
-    let floor = g.R.Reader.floor c.args.reader.now in
-    let from = subst (λ (n : ℕ). StandsFrom n c.in-Some.state) (c.least_position.ensures ∙ c.meet.ensures.moves.same_floor) c.in-Some.ensures.from in
+    let brought = c.bring-brought in
+    let floor = g.R.Reader.floor in
     record {
-      brought = λ same. on_ok_weaker advanced.result (λ brought.
-          brings floor c.args.p c.args.self.now.held c.give_back.new.self.held c.in-Some.state advanced.new.state (sym c.meet.ensures.held ∙ c.in-Some.ensures.some) c.give_back.ensures.held from brought) advanced.ensures.brought;
+      brought = λ same. on_ok_weaker brought.result (λ from.
+          brings (floor c.args.reader.now) c.args.p c.args.self.now.held c.give_back.new.self.held c.in-Some.state brought.new.state (sym c.meet.ensures.held ∙ sym c.take_held.ensures.taken ∙ c.in-Some.is) c.give_back.ensures.held
+          (subst (λ (n : ℕ). IsBroughtFrom n c.args.p c.in-Some.state brought.new.state) c.meet.ensures.moves.same_floor from)) brought.ensures.brought;
       left = λ other. absurd (other (c.if-not-is_for.ensures.yes refl ∙ ap (λ (n : ℕ). Some n) c.meet.ensures.same_place.rank));
     }
 
@@ -68,5 +64,5 @@ pub returns-clause-moves : goal.returns-clause-moves
 returns-clause-moves g c =
     let list = g.R.Reader.list in let floor = g.R.Reader.floor in let went = g.R.Reader.went in
     moves_trans list floor went c.args.reader.now c.meet.new.reader c.give_back.new.reader (g.met.R.Reader.went_trans c.args.reader.now c.meet.new.reader c.give_back.new.reader) c.meet.ensures.moves
-    (moves_trans list floor went c.meet.new.reader c.catch_up-advanced.new.reader c.give_back.new.reader (g.met.R.Reader.went_trans c.meet.new.reader c.catch_up-advanced.new.reader c.give_back.new.reader)
-    c.catch_up-advanced.ensures.moves c.give_back.ensures.moves)
+    (moves_trans list floor went c.meet.new.reader c.bring-brought.new.reader c.give_back.new.reader (g.met.R.Reader.went_trans c.meet.new.reader c.bring-brought.new.reader c.give_back.new.reader)
+    c.bring-brought.ensures.moves c.give_back.ensures.moves)

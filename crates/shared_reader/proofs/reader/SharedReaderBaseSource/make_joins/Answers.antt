@@ -1,11 +1,14 @@
-use Rattle.std.proofs.Common.{take, IfOk, subst}
-use Rattle.join_set.specs.Sets.{AreJoins}
-use Rattle.write_history.specs.Passes.{PassView}
-use Rattle.shared_reader.proofs.GivenLemmas.{stays_moves}
+use Rattle.std.proofs.lemmas.Result.{IfOk-weaker}
+use Rattle.shared_reader.proofs.GivenLemmas.{asked_joins, asks_from, stays_moves}
 use Rattle.shared_reader.proofs.reader.SharedReaderBaseSource.make_joins.Goals as goal
 
+pub joins_at-requires-clause-kept : goal.joins_at-requires-clause-kept
+joins_at-requires-clause-kept g c = asks_from c.self.inside.pass c.args.self.now c.self.invariant.0.pinned.pin c.args.p c.self.invariant.0.pinned.pinned c.self.view_is c.requires.above
+
 pub returns-clause-joins : goal.returns-clause-joins
-returns-clause-joins g c = subst (λ (v : PassView). IfOk c.joins_at.result (λ joins. AreJoins 0 joins (take c.args.p v.view))) c.self.view_is c.joins_at.ensures.joins
+returns-clause-joins g c =
+    IfOk-weaker c.joins_at.result _ _
+    (λ joins each. asked_joins c.self.inside.pass c.args.self.now c.self.invariant.0.pinned.pin c.args.p joins c.self.invariant.0.pinned.pinned c.self.view_is each) c.joins_at.ensures.joins
 
 pub returns-clause-moves : goal.returns-clause-moves
 returns-clause-moves g c = stays_moves c.self.inside.pass c.args.self.now c.joins_at.new.pass c.self.invariant.0.recorded c.self.view_is c.joins_at.ensures.unchanged

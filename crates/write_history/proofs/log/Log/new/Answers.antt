@@ -8,4 +8,5 @@ invariant_of-result c =
     let none = c.in_ok-entries.ensures.none in (
       omega (arith, c.new-3.ensures.same_length, c.in_ok-entries.ensures.lacks, ap length none),
       numbered_none list.lacks list.entries c.in_ok-numbers.numbers none c.in_ok-numbers.ensures,
+      omega (arith, c.new-3.ensures.within, c.in_ok-entries.ensures.lacks),
     )

@@ -24,4 +24,5 @@ invariant_of-self-2 c =
     let same_lacks : list.lacks ≡ lacks = c.push-2.ensures.lacks ∙ c.in_ok-reserve.ensures.lacks in (
       omega (arith, longer, c.self.invariant.0, same_lacks, ap length entries ∙ length-append es (e ∷ [])),
       numbered_as lacks list.lacks (es ++ e ∷ []) list.entries c.push.new.self c.push.new.self same_lacks entries (numbered_more lacks count es e room c.push.new.self position same adds) (λ part. refl),
+      omega (arith, ap (λ (s : Summary). s.floor) c.in_ok-enter.ensures.exact, c.self.invariant.2, same_lacks),
     )

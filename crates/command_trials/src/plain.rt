@@ -1,0 +1,43 @@
+// Lines answered by plain evaluation.
+use out_of_memory::OutOfMemory;
+use plain_history::PlainHistory;
+use request_codec::{LineFault, Reply, Request, read, write};
+use std::alloc::Global;
+
+/// Returns the reply to a line.
+fn answer_line(
+    alloc: Global,
+    history: &mut PlainHistory,
+    line: &str,
+) -> Result<Reply, OutOfMemory> {
+    match read(alloc, line.as_bytes()) {
+        Ok(Request::Quit) => Ok(Reply::Bye),
+        Ok(request) => history.answer(request),
+        Err(fault) => Ok(Reply::Unread(fault)),
+    }
+}
+
+/// Returns the line of a reply.
+fn line_of(alloc: Global, reply: &Reply) -> Result<Vec<u8>, OutOfMemory> {
+    match reply {
+        Reply::Unread(fault) => match fault {
+            LineFault::OutOfMemory => Err(OutOfMemory),
+            _ => write(alloc, reply),
+        },
+        reply => write(alloc, reply),
+    }
+}
+
+/// Returns the replies to the lines of a text, up to one that ends the session. Each read evaluates all joins.
+pub fn answer_lines(alloc: Global, text: &str) -> Result<Vec<u8>, OutOfMemory> {
+    let mut history = PlainHistory::new(alloc);
+    let mut replies = Vec::new(alloc);
+    for line in text.lines() {
+        let reply = answer_line(alloc, &mut history, line)?;
+        replies.extend_from_slice(line_of(alloc, &reply)?.as_slice())?;
+        if matches!(reply, Reply::Bye) {
+            break;
+        }
+    }
+    Ok(replies)
+}

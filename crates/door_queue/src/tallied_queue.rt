@@ -1,0 +1,126 @@
+// Queues between threads that tell what became of each item.
+ghost use Rattle.std.specs.Prelude.{◌≡◌, ◌≢◌, ◌<◌, ◌≤◌, ◌-◌, [], IfOk, MatchOption};
+ghost use Rattle.door_queue.specs.Tallies.{EachOnce, all_parts, joined, parted, put_in, taken_out, tally_of};
+
+use crate::tally::{Both, Fair, Hand, Part, Puts, Takes, Tally};
+use crossbeam_queue::RuledArrayQueue;
+use out_of_memory::OutOfMemory;
+use std::alloc::Global;
+use std::marker::Model;
+use std::sync::{Condvar, Mutex, Wait};
+
+/// A queue as `DoorQueue`, whose callers each have a tally of what they put and took. Contracts see which queue it is.
+#[derive(Drop)]
+pub struct TalliedQueue<T> {
+    items: RuledArrayQueue<T, Hand<T>, Fair>,
+    /// Whether all items are put.
+    closed: Mutex<bool>,
+    /// An item was taken: there is room for one.
+    has_room: Condvar,
+    /// An item was kept.
+    has_item: Condvar,
+}
+
+impl<T> Model for TalliedQueue<T> {
+    ghost use Rattle.atomic_table.specs.Seated.{TableId};
+
+    ghost Value = { TableId };
+
+    ghost view = { λ q. q.items.table.shared.table_id };
+}
+
+impl<T> TalliedQueue<T> {
+    /// No items, and room for so many, which is reserved; and the whole tally.
+    pub fn new(alloc: Global, most: usize) -> Result<(TalliedQueue<T>, Tally<T>), OutOfMemory>
+        requires { 1 ≤ most }
+        ensures { IfOk result (λ made. made.1 ≡ tally_of made.0 all_parts) }
+    {
+        let (items, pass) = RuledArrayQueue::ruled(alloc, most)?;
+        let queue = TalliedQueue {
+            items,
+            closed: Mutex::new(false),
+            has_room: Condvar::new(),
+            has_item: Condvar::new(),
+        };
+        Ok((queue, Tally { pass }))
+    }
+
+    /// Splits off a tally for another caller, with which nothing was put or taken.
+    pub fn split(&self, tally: &mut Tally<T>) -> Tally<T>
+        requires queue { tally.old.queue ≡ self.now }
+        requires parts { 1 < tally.old.parts }
+        ensures left { tally.new ≡ parted tally.old }
+        ensures right { result ≡ tally_of self.now 1 }
+    {
+        let pass = self.items.another::<Part>(&mut tally.pass);
+        Tally { pass }
+    }
+
+    /// Adds to a tally what was put and taken with another.
+    pub fn join(&self, tally: &mut Tally<T>, other: Tally<T>)
+        requires queue { tally.old.queue ≡ self.now }
+        requires other { other.queue ≡ self.now }
+        requires parts { 0 < tally.old.parts }
+        ensures { tally.new ≡ joined tally.old other }
+    {
+        self.items.absorb::<Both>(&mut tally.pass, other.pass)
+    }
+
+    /// Puts an item in, and waits while there is no room, also where the queue is closed: who puts items closes it when all are put.
+    /// It takes no memory.
+    pub fn put<R: Wait>(&self, rt: &R, tally: &mut Tally<T>, item: T)
+        requires queue { tally.old.queue ≡ self.now }
+        requires parts { 0 < tally.old.parts }
+        ensures { tally.new ≡ put_in tally.old item }
+    {
+        let mut closed = self.closed.lock(rt);
+        let mut item = item;
+        for _ in rt.forever() {
+            match self.items.try_push_as::<Puts>(&mut tally.pass, item) {
+                Ok(()) => {
+                    self.has_item.notify_one();
+                    return;
+                }
+                Err(back) => item = back,
+            }
+            closed = self.has_room.wait(rt, closed);
+        }
+        unreachable!()
+    }
+
+    /// Takes out the item that was kept first, and waits while there is none. None where the queue is closed, and empty then.
+    pub fn take<R: Wait>(&self, rt: &R, tally: &mut Tally<T>) -> Option<T>
+        requires queue { tally.old.queue ≡ self.now }
+        requires parts { 0 < tally.old.parts }
+        ensures { MatchOption result (tally.new ≡ tally.old) (λ item. tally.new ≡ taken_out tally.old item) }
+    {
+        let mut closed = self.closed.lock(rt);
+        for _ in rt.forever() {
+            if let Some(item) = self.items.try_pop_as::<Takes>(&mut tally.pass) {
+                self.has_room.notify_one();
+                return Some(item);
+            }
+            if *closed {
+                return None;
+            }
+            closed = self.has_item.wait(rt, closed);
+        }
+        unreachable!()
+    }
+
+    /// Takes out the item that was kept first of those that are left when all tallies are joined to one. None where none is left:
+    /// each item that was put was taken once.
+    pub fn take_left<R: Wait>(&self, rt: &R, tally: &mut Tally<T>) -> Option<T>
+        requires queue { tally.old.queue ≡ self.now }
+        requires whole { tally.old.parts ≡ all_parts }
+        ensures { MatchOption result ((tally.new ≡ tally.old) × EachOnce tally.old.put tally.old.taken) (λ item. tally.new ≡ taken_out tally.old item) }
+    {
+        self.items.pop_as::<Takes, R>(rt, &mut tally.pass)
+    }
+
+    /// Tells that all items are put. All who wait to take one go on, and find what is left.
+    pub fn close<R: Wait>(&self, rt: &R) {
+        *self.closed.lock(rt) = true;
+        self.has_item.notify_all();
+    }
+}

@@ -1,0 +1,104 @@
+use Rattle.std.proofs.Common.{◌≡◌, ◌+◌, ◌≤◌, length, take, IfOk, None, refl, sym, subst, arith}
+use Rattle.protocol.specs.Requests.{changes_since}
+use Rattle.protocol.specs.Earlier.{earlier_reply}
+use Rattle.join_set.specs.Sets.{AreJoins}
+use Rattle.write_history.specs.Entries.{IsRecorded}
+use Rattle.write_history.specs.Marks.{reach}
+use Rattle.write_history.specs.Passes.{PassView}
+use Rattle.base_shards.specs.Reading.{ReachesBack, ReadsOn}
+use Rattle.base_shards.proofs.ReadingLemmas.{reads_on-refl}
+use Rattle.request_codec.specs.Plain.{plain_reply}
+use Rattle.request_codec.specs.declared.reply.Reply.{Reply}
+use Rattle.pequod_cache.proofs.EarlierLemmas.{in_reach, joins_back, joins_now, may_ask_back, asked_back}
+use Rattle.pequod_cache.proofs.cache.Cache.tell_changes.Goals as goal
+
+-- out of reach
+
+pub returns-in-Some-clause-replied : goal.returns-in-Some-clause-replied
+returns-in-Some-clause-replied g c = c.in-Some.ensures (changes_since c.args.range.now c.args.from) c.args.pass.view refl (sym c.requires.whole)
+
+pub returns-in-Some-clause-reads_on : goal.returns-in-Some-clause-reads_on
+returns-in-Some-clause-reads_on g c = reads_on-refl c.args.pass
+
+-- the joins after all are those there
+
+pub changes_with-requires-clause-order : goal.changes_with-requires-clause-order
+changes_with-requires-clause-order g c =
+    let none : c.out_of_reach.result ≡ None = cc in
+    let near = in_reach c.args.from c.args.position c.out_of_reach.result c.out_of_reach.ensures none in
+    near.0
+
+pub changes_with-requires-clause-near : goal.changes_with-requires-clause-near
+changes_with-requires-clause-near g c =
+    let none : c.out_of_reach.result ≡ None = cc in
+    let near = in_reach c.args.from c.args.position c.out_of_reach.result c.out_of_reach.ensures none in
+    omega (arith, near.1, c.requires.whole)
+
+pub changes_with-requires-clause-pinned : goal.changes_with-requires-clause-pinned
+changes_with-requires-clause-pinned g c =
+    let none : c.out_of_reach.result ≡ None = cc in
+    let near = in_reach c.args.from c.args.position c.out_of_reach.result c.out_of_reach.ensures none in
+    record { pin = c.args.position; pinned = c.requires.pinned; near = near.1 }
+
+pub changes_with-requires-clause-old_joins : goal.changes_with-requires-clause-old_joins
+changes_with-requires-clause-old_joins g c = joins_back c.args.pass c.args.from c.args.joins.now (omega (arith, c.changed_at.ensures.changed)) c.requires.joins
+
+pub changes_with-requires-clause-new_joins : goal.changes_with-requires-clause-new_joins
+changes_with-requires-clause-new_joins g c = joins_now c.args.pass c.args.position c.args.joins.now c.requires.whole c.requires.joins
+
+-- they are made anew
+
+pub joins_at-requires-clause-within : goal.joins_at-requires-clause-within
+joins_at-requires-clause-within g c =
+    let none : c.out_of_reach.result ≡ None = cc in
+    let near = in_reach c.args.from c.args.position c.out_of_reach.result c.out_of_reach.ensures none in
+    omega (arith, near.0, c.requires.whole)
+
+pub joins_at-requires-clause-kept : goal.joins_at-requires-clause-kept
+joins_at-requires-clause-kept g c =
+    let none : c.out_of_reach.result ≡ None = cc in
+    let near = in_reach c.args.from c.args.position c.out_of_reach.result c.out_of_reach.ensures none in
+    may_ask_back c.args.pass c.args.position c.args.from c.requires.pinned near.1
+
+pub changes_with-requires-in-Ok-clause-order : goal.changes_with-requires-in-Ok-clause-order
+changes_with-requires-in-Ok-clause-order g c =
+    let none : c.out_of_reach.result ≡ None = cc in
+    let near = in_reach c.args.from c.args.position c.out_of_reach.result c.out_of_reach.ensures none in
+    near.0
+
+pub changes_with-requires-in-Ok-clause-recorded : goal.changes_with-requires-in-Ok-clause-recorded
+changes_with-requires-in-Ok-clause-recorded g c = subst (λ (p : PassView). IsRecorded p.writers p.view) (sym c.joins_at.ensures.unchanged) c.requires.recorded
+
+pub changes_with-requires-in-Ok-clause-whole : goal.changes_with-requires-in-Ok-clause-whole
+changes_with-requires-in-Ok-clause-whole g c = subst (λ (p : PassView). c.args.position ≡ length p.view) (sym c.joins_at.ensures.unchanged) c.requires.whole
+
+pub changes_with-requires-in-Ok-clause-pinned : goal.changes_with-requires-in-Ok-clause-pinned
+changes_with-requires-in-Ok-clause-pinned g c =
+    let none : c.out_of_reach.result ≡ None = cc in
+    let near = in_reach c.args.from c.args.position c.out_of_reach.result c.out_of_reach.ensures none in
+    subst (λ (p : PassView). ReachesBack p c.args.from) (sym c.joins_at.ensures.unchanged) (record { pin = c.args.position; pinned = c.requires.pinned; near = near.1 })
+
+pub changes_with-requires-in-Ok-clause-old_joins : goal.changes_with-requires-in-Ok-clause-old_joins
+changes_with-requires-in-Ok-clause-old_joins g c =
+    subst (λ (p : PassView). AreJoins (reach p.mark) c.in-Ok.old (take c.args.from p.view)) (sym c.joins_at.ensures.unchanged)
+    (asked_back c.args.pass c.args.position c.args.from c.in-Ok.old c.requires.pinned c.in-Ok.ensures.joins)
+
+pub changes_with-requires-in-Ok-clause-new_joins : goal.changes_with-requires-in-Ok-clause-new_joins
+changes_with-requires-in-Ok-clause-new_joins g c =
+    subst (λ (p : PassView). AreJoins (reach p.mark) c.args.joins.now (take c.args.position p.view)) (sym c.joins_at.ensures.unchanged) (joins_now c.args.pass c.args.position c.args.joins.now c.requires.whole c.requires.joins)
+
+pub changes_with-requires-in-Ok-clause-near : goal.changes_with-requires-in-Ok-clause-near
+changes_with-requires-in-Ok-clause-near g c =
+    let none : c.out_of_reach.result ≡ None = cc in
+    let near = in_reach c.args.from c.args.position c.out_of_reach.result c.out_of_reach.ensures none in
+    subst (λ (p : PassView). length p.view ≤ c.args.from + 65536) (sym c.joins_at.ensures.unchanged) (omega (arith, near.1, c.requires.whole))
+
+pub returns-in-Ok-clause-replied : goal.returns-in-Ok-clause-replied
+returns-in-Ok-clause-replied g c =
+    subst (λ (p : PassView). IfOk c.changes_with-in-Ok.result.reply (λ (r : Reply). plain_reply r ≡ earlier_reply (changes_since c.args.range.now c.args.from) p.view)) c.joins_at.ensures.unchanged c.changes_with-in-Ok.ensures.replied
+
+pub returns-in-Ok-clause-reads_on : goal.returns-in-Ok-clause-reads_on
+returns-in-Ok-clause-reads_on g c = subst (λ (p : PassView). ReadsOn p c.changes_with-in-Ok.result.pass) c.joins_at.ensures.unchanged c.changes_with-in-Ok.ensures.reads_on
+
+pub returns-in-Err-clause-reads_on : goal.returns-in-Err-clause-reads_on
+returns-in-Err-clause-reads_on g c = subst (λ (p : PassView). ReadsOn c.args.pass p) (sym c.joins_at.ensures.unchanged) (reads_on-refl c.args.pass)

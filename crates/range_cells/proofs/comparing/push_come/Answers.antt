@@ -1,0 +1,8 @@
+use Rattle.range_cells.specs.Comparing.{new_pair}
+use Rattle.range_cells.proofs.ComparingLemmas.{mapped_push}
+use Rattle.range_cells.proofs.comparing.push_come.Goals as goal
+
+pub loop-pair-preserved : goal.loop-pair-preserved
+loop-pair-preserved c =
+    mapped_push new_pair c.args.changes.now.items c.loop-pair.changes.items _ c.args.pairs.now c.loop-pair.pair-index _ _ c.loop-pair-test.true c.pair-item.is c.loop-pair.invariant c.in_ok-come.ensures
+    c.in_ok-push.ensures.items

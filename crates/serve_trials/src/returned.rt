@@ -1,0 +1,63 @@
+// The receipts of links, which go back to the doors that gave them.
+use pequod_commands::{Status, pequod};
+use pq_io::{MemDoors, MemLink, MemShelf, MemSink, MemSource, OpenGate};
+use std::alloc::Global;
+use std::test::Fail;
+
+/// The words of one worker, without a joins file.
+const ALONE: [&str; 4] = ["serve", "127.0.0.1:7000", "--workers", "1"];
+
+/// The lines of links, one after another, and what each is answered.
+const LINKS: [(&str, &str); 3] = [
+    ("[\"put\",\"a|1\",\"Hi\"]\n", "[\"ok\",1]\n"),
+    ("", ""),
+    (
+        "[\"get\",\"a|1\"]\n[\"quit\"]\n",
+        "[\"value\",1,\"Hi\"]\n[\"bye\"]\n",
+    ),
+];
+
+/// Makes a source of the text.
+fn source_of(alloc: Global, text: &str) -> Result<MemSource, Fail> {
+    let bytes = text.as_bytes().to_vec(alloc)?;
+    Ok(MemSource::new(bytes, Vec::new(alloc), Vec::new(alloc)))
+}
+
+/// Makes a link over each of the lines.
+fn make_links(alloc: Global) -> Result<Vec<MemLink>, Fail> {
+    let mut links = Vec::new(alloc);
+    for (lines, _) in LINKS {
+        let sink = MemSink::new(alloc, Vec::new(alloc));
+        links.push(MemLink::new(source_of(alloc, lines)?, sink))?;
+    }
+    Ok(links)
+}
+
+#[test]
+fn links_come_back_with_what_they_took(rt: HostRuntime) -> Result<(), Fail> {
+    let alloc: Global = rt.alloc();
+    let mut words = Vec::new(alloc);
+    for word in ALONE {
+        words.push(String::from_str(alloc, word)?)?;
+    }
+    let mut doors = MemDoors::new(make_links(alloc)?, Vec::new(alloc));
+    let mut shelf = MemShelf::new(Vec::new(alloc), Vec::new(alloc));
+    let mut source = source_of(alloc, "")?;
+    let mut sink = MemSink::new(alloc, Vec::new(alloc));
+    let status = pequod(
+        &rt,
+        alloc,
+        words.as_slice(),
+        &mut source,
+        &mut sink,
+        &mut shelf,
+        &mut doors,
+        &OpenGate,
+    );
+    let lists = doors.returned();
+    assert!(rt; status == Status::DONE && lists.len() == 1 && lists[0].len() == LINKS.len());
+    for ((_, answers), link) in LINKS.iter().zip(lists[0].as_slice()) {
+        assert!(rt; link.bytes() == answers.as_bytes());
+    }
+    Ok(())
+}

@@ -1,0 +1,8 @@
+-- the receipts have stayed
+use Rattle.std.proofs.Common.{◌≡◌}
+use Rattle.server.proofs.working.reserve_one.Given as goal
+
+abbrev pub invariant-loop : goal.invariant-loop
+invariant-loop g l =
+    ((goal.iterator-loop g).can_next l.iterator') × ((goal.iterator-loop g).is_finite l.iterator')
+    × (l.receipts.items ≡ l.fn.receipts.items)

@@ -1,0 +1,120 @@
+-- Links that were served, and the receipts of them.
+use Rattle.std.specs.Prelude.{◌≡◌, ℕ, ◌+◌, ◌≤◌, List, [], ◌∷◌, ◌++◌, fold, map, slice_get, Option, Some, IfSome, option_map}
+use Rattle.semantics.specs.Texts.{Text}
+use Rattle.semantics.specs.Joins.{Join}
+use Rattle.semantics.specs.Histories.{History, IsPrefix}
+use Rattle.protocol.specs.Session.{Ending, Served, read_fault, write_fault}
+use Rattle.pq_io.specs.Faults.{Rose}
+use Rattle.pq_io.specs.Links.{LinkTold}
+use Rattle.pq_io.specs.Streams.{Gave, Took}
+use Rattle.std.specs.List.{AllByRecursion, AllZip}
+use Rattle.atomic_table.specs.Seated.{TableId}
+use Rattle.door_queue.specs.Tallies.{Tallied, EachOnce, joined, tally_of}
+use Rattle.write_history.specs.Passes.{PassView}
+use Rattle.server.specs.Staffs.{declared}
+
+-- a count of faults rose where that side's fault ended the serving, and only there
+pub record CountsFault (faulted : Type 0) (before now : ℕ) : Type 0 where
+  pub later : before ≤ now
+  pub kept : (faulted → ⊥) → now ≡ before
+  pub failed : faulted → Rose before now
+
+-- a client served a link from one view to another: what the link told at first, and what it told in the end
+pub record WasServed (client : ℕ) (before after : History) (old new : LinkTold) : Type 0 where
+  pub ending : Ending
+  pub bytes : Text
+  pub written : Text
+  pub gave : Gave old.left new.left bytes
+  pub took : Took old.taken new.taken written
+  pub served : Served ending (record { before = before; after = after; client = client; bytes = bytes; written = written; left = new.left })
+  pub reads : CountsFault (ending ≡ read_fault) old.read_faults new.read_faults
+  pub writes : CountsFault (ending ≡ write_fault) old.write_faults new.write_faults
+
+-- the elements of all lists, in order
+abbrev pub all_of : {A : Type 0} → List (List A) → List A
+all_of [] = []
+all_of (list ∷ lists) = list ++ all_of lists
+
+-- the links that one client served, what it had seen before and after, and the receipts, in order
+pub record Shift (K R : Type 0) : Type 0 where
+  pub before : History
+  pub after : History
+  pub links : List K
+  pub receipts : List R
+
+-- what a worker has
+pub record WorkerView (K R : Type 0) : Type 0 where
+  pub client : PassView
+  pub tally : Tallied K
+  pub receipts : List R
+
+module _ {K R : Type 0} (told : K → LinkTold) (tells : R → LinkTold) where
+  -- a client served the links one after another, from one view to another, each as its receipt tells
+  abbrev pub ServedInTurn : ℕ → History → History → List K → List R → Type 0
+  ServedInTurn client before after [] [] = after ≡ before
+  ServedInTurn client before after [] (receipt ∷ receipts) = ⊥
+  ServedInTurn client before after (link ∷ links) [] = ⊥
+  ServedInTurn client before after (link ∷ links) (receipt ∷ receipts) =
+      (between : History) × WasServed client before between (told link) (tells receipt) × ServedInTurn client between after links receipts
+
+  -- a client with a number served the links of a shift in turn; the joins were declared before, and the history begins with all that it had seen
+  pub record IsShift (joins : List Join) (history : History) (client : ℕ) (shift : Shift K R) : Type 0 where
+    pub begins : IsPrefix (declared joins) shift.before
+    pub in_turn : ServedInTurn client shift.before shift.after shift.links shift.receipts
+    pub within : IsPrefix shift.after history
+
+  -- each link that was given was served once, over one history that begins with the declared joins, by clients with the numbers from 1 up; and these are their receipts
+  pub record CameBack (joins : List Join) (given : List K) (returned : List (List R)) : Type 0 where
+    pub history : History
+    pub shifts : List (Shift K R)
+    pub once : EachOnce given (all_of (map (λ s. s.links) shifts))
+    pub receipts : returned ≡ map (λ s. s.receipts) shifts
+    pub each : (i : ℕ) (shift : Shift K R) → slice_get shifts i ≡ Some shift → IsShift joins history (i + 1) shift
+
+  -- so did the links that doors gave, where they tell what they held and what came back
+  pub record LinksCameBack (joins : List Join) (held held_now : Option (List K)) (returned : Option (List (List R))) : Type 0 where
+    pub given : List K
+    pub receipts : List (List R)
+    pub gave : held ≡ option_map (λ links. given ++ links) held_now
+    pub returns : IfSome returned (λ lists. lists ≡ receipts)
+    pub back : CameBack joins given receipts
+
+  -- more links were taken and served in turn: what stands in the tally, and behind the receipts
+  pub record HasServed (client : ℕ) (before after : History) (old new : Tallied K) (receipts receipts_now : List R) : Type 0 where
+    pub links : List K
+    pub more : List R
+    pub tally : new ≡ record old { taken = old.taken ++ links }
+    pub returned : receipts_now ≡ receipts ++ more
+    pub in_turn : ServedInTurn client before after links more
+
+  -- a worker has served links, with the number that it had
+  pub record HasWorked (old new : WorkerView K R) : Type 0 where
+    pub same_number : new.client.number ≡ old.client.number
+    pub served : HasServed old.client.number old.client.view new.client.view old.tally new.tally old.receipts new.receipts
+
+  -- each of the workers has
+  abbrev pub HaveWorked : List (WorkerView K R) → List (WorkerView K R) → Type 0
+  HaveWorked before after = AllZip HasWorked before after
+
+  -- where workers have ended and their tallies are joined, the last of them has served the links that were left, and its client has met the others: what it has seen in the end, and the history that begins with what each has seen
+  pub record ServedTheRest (last : WorkerView K R) (others : List PassView) (old new : Tallied K) (receipts_now : List R) : Type 0 where
+    pub seen : History
+    pub history : History
+    pub served : HasServed last.client.number last.client.view seen (joined old last.tally) new last.receipts receipts_now
+    pub once : EachOnce new.put new.taken
+    pub within : IsPrefix seen history
+    pub others_within : AllByRecursion (λ c. IsPrefix c.view history) others
+
+-- a tally to which others are joined, in order
+abbrev pub joined_all : {K : Type 0} → Tallied K → List (Tallied K) → Tallied K
+joined_all tally tallies = fold joined tally tallies
+
+-- workers that have served nothing, with these clients
+abbrev pub hired : {K R : Type 0} → TableId → List PassView → List (WorkerView K R)
+hired queue clients = map (λ c. record { client = c; tally = tally_of queue 1; receipts = [] }) clients
+
+-- the doors gave links, which were put
+pub record HasAccepted {K : Type 0} (held held_now : Option (List K)) (old new : Tallied K) : Type 0 where
+  pub given : List K
+  pub gave : held ≡ option_map (λ links. given ++ links) held_now
+  pub tally : new ≡ record old { put = old.put ++ given }

@@ -1,0 +1,2 @@
+pub mod StateChanges
+pub mod ChangeLaws

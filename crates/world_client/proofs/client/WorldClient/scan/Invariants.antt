@@ -1,4 +1,0 @@
-use Rattle.world_client.proofs.client.WorldClient.scan.Given as goal
-
-abbrev pub ghosts-read : goal.ghosts-read
-ghosts-read a = record { name = a.blank.name; parts = a.blank.parts }

@@ -1,5 +1,7 @@
 """What recipes of docs/COOKBOOK.md ask of an application, in functions to copy. `client` is one of `clients/python`."""
 
+import pequod
+
 
 def move_score(client, game, player, score):
     """Makes this the only score of a player. Whoever calls it holds a lock for the player from the change in the truth until this
@@ -30,15 +32,34 @@ def stock(client, shop):
     return int(count.result().value or 0) if ready.result() else None
 
 
-def next_page(client, shop, after, size):
+def next_page(client, shop, after, size, at=None):
     """Returns the pairs whose numbers are the next `size` behind that of the key `after`: the greatest key of the page before,
     or `item|SHOP|` for the first page. Where none stands there it looks further, and the page behind the last one is empty.
-    The least text above a key is the key and a character 0."""
+    With `at`, the position of the first page, they are the pairs that stood then. The least text above a key is the key and a
+    character 0."""
     is_first = after.endswith("|")
     first, number = (after, 0) if is_first else (after + "\0", int(after.split("|")[2]))
     while True:
         is_last = number + size >= 9999
-        page = client.scan(first, f"item|{shop}}}" if is_last else f"item|{shop}|{number + size + 1:04}")
+        page = client.scan(first, f"item|{shop}}}" if is_last else f"item|{shop}|{number + size + 1:04}", at)
         if page or is_last:
             return page
         size *= 2
+
+
+def refresh(client, first, last, shown, since):
+    """Brings the pairs of a range that a page shows, a dictionary, from a position to now, and returns the position that they
+    have then. Where that position cannot be asked for any more, the range is scanned anew."""
+    try:
+        changes = client.changes(first, last, since)
+    except (pequod.Gone, pequod.Ahead):
+        pairs = client.scan(first, last)
+        shown.clear()
+        shown.update(pairs)
+        return pairs.position
+    for key, value in changes:
+        if value is None:
+            shown.pop(key, None)
+        else:
+            shown[key] = value
+    return changes.position

@@ -186,6 +186,29 @@ class LongList(Case):
         second = recipes.next_page(self.client, "sea", first.pairs[-1][0], 3)
         self.assertEqual([key[-4:] for key, _ in (*first, *second)], ["0001", "0002", "0004", "0005"])
         self.assertEqual((first.position, second.position), (4, 7))
+        then = recipes.next_page(self.client, "sea", first.pairs[-1][0], 3, first.position)
+        self.assertEqual([key[-4:] for key, _ in then], ["0003", "0004"])
+
+
+class Fresh(Case):
+    joins = joins_of("fresh")
+
+    def test_what_is_shown_follows(self):
+        self.client.put("follow|ann|bob", "1")
+        first, last = "feed|ann|", "feed|ann}"
+        pairs = self.client.scan(first, last)
+        shown, position = dict(pairs), pairs.position
+        steps = [("put", "post|bob|100", "Hi"), ("put", "post|cat|110", "Hello"), ("put", "post|bob|100", "Ho"), ("put", "follow|ann|cat", "1"), ("remove", "post|bob|100")]
+        for word, *texts in steps:
+            getattr(self.client, word)(*texts)
+            position = recipes.refresh(self.client, first, last, shown, position)
+            self.assertEqual((shown, position), (dict(self.client.scan(first, last)), self.client.position))
+
+    def test_a_position_that_never_was(self):
+        self.client.put("follow|ann|bob", "1")
+        shown = {"feed|ann|1|bob": "stale"}
+        self.assertEqual(recipes.refresh(self.client, "feed|ann|", "feed|ann}", shown, 1000), self.client.position)
+        self.assertEqual(shown, {})
 
 
 if __name__ == "__main__":

@@ -9,6 +9,7 @@ listens on loopback alone.
 
 import argparse
 import http.server
+import json
 import pathlib
 import re
 import sqlite3
@@ -17,10 +18,12 @@ import time
 import urllib.parse
 
 import pages
-from cache import Cache, Gone
+from cache import SENTINEL, Cache, Gone, pequod
 from truth import Truth
 
 FOLDER = pathlib.Path(__file__).resolve().parent
+KINDS = {"style.css": "text/css", "live.js": "text/javascript"}
+POLICY = "default-src 'none'; style-src 'self'; script-src 'self'; connect-src 'self'; form-action 'self'"
 NAME = re.compile(r"[a-z][a-z0-9_]{0,19}")
 MOMENT = re.compile(r"[0-9]{16}")
 
@@ -49,25 +52,55 @@ def people_page(client, first):
 
 
 def user_page(client, user, before, hours):
-    """A user's timeline of some hours with the own posts, whom the user follows, and who is new. Other clients may have put keys
-    with other times, which are not shown."""
-    total = int(client.get("users|all").value or 0)
+    """A user's timeline of some hours with the own posts, whom the user follows, and who is new: all of it at one position, so that
+    the parts agree. The page of the newest posts is one that goes on."""
+    with client.pipeline() as pipeline:
+        run, total = pipeline.get(SENTINEL), pipeline.get("users|all")
+    position, total = total.result().position, int(total.result().value or 0)
     since = f"{max((before or now()) - hours * HOUR, 0):016}"
     until = f"|{before:016}" if before else "}"
     with client.pipeline() as pipeline:
-        read = pipeline.scan(f"t|{user}|{since}", f"t|{user}{until}")
-        own = pipeline.scan(f"p|{user}|{since}", f"p|{user}{until}")
-        follows = pipeline.scan_prefix(f"s|{user}|")
-        newest = pipeline.scan(f"user|{max(total - NEWEST + 1, 1):08}", "user}")
-    posts = [(key.split("|")[3], key.split("|")[2], text) for key, text in read.result()]
-    posts += [(user, key.split("|")[2], text) for key, text in own.result()]
-    posts = [(poster, int(moment), text) for poster, moment, text in posts if MOMENT.fullmatch(moment)]
+        read = pipeline.scan(f"t|{user}|{since}", f"t|{user}{until}", at=position)
+        own = pipeline.scan(f"p|{user}|{since}", f"p|{user}{until}", at=position)
+        follows = pipeline.scan_prefix(f"s|{user}|", at=position)
+        newest = pipeline.scan(f"user|{max(total - NEWEST + 1, 1):08}", "user}", at=position)
+    posts = posts_of(user, [*read.result(), *own.result()])
     posts.sort(key=lambda post: post[1], reverse=True)
     followed = [key.split("|")[2] for key, _ in follows.result()]
     names = [key.rpartition("|")[2] for key, _ in reversed(newest.result().pairs)]
     others = [name for name in names if name not in (user, *followed)]
     older = older_words(int(since), hours, len(posts))
-    return pages.timeline(user, posts, older, followed, others, client.position)
+    live = None if before else (run.result().value or "", position, since)
+    return pages.timeline(user, posts, older, followed, others, position, live)
+
+
+def posts_of(user, pairs):
+    """The posts in a user's timeline and among the own ones, as `(poster, moment, text)`. Other clients may have put keys with other
+    times, which are not shown."""
+    posts = []
+    for key, text in pairs:
+        table, _, third, *fourth = key.split("|")
+        poster, moment = (fourth[0], third) if table == "t" else (user, third)
+        if MOMENT.fullmatch(moment):
+            posts.append((poster, int(moment), text))
+    return posts
+
+
+def user_changes(client, user, run, position, since):
+    """What is new on a user's page since a position of a run of the cache, of posts since a moment, and the position to ask from
+    next. None where the page has to be loaded again."""
+    try:
+        with client.pipeline() as pipeline:
+            ready = pipeline.get(SENTINEL)
+            read = pipeline.changes(f"t|{user}|", f"t|{user}}}", since=position)
+            own = pipeline.changes(f"p|{user}|", f"p|{user}}}", since=position)
+    except (pequod.Gone, pequod.Ahead):
+        return None
+    if ready.result().value != run:
+        return None
+    posts = posts_of(user, [*read.result(), *own.result()])
+    # The second may have seen more, and then its changes are told once more, which makes no difference.
+    return pages.changes([post for post in posts if post[2] is None or post[1] >= since], read.result().position)
 
 
 def older_words(since, hours, shown):
@@ -94,8 +127,11 @@ class Pages(http.server.BaseHTTPRequestHandler):
     def do_GET(self):
         where = urllib.parse.urlsplit(self.path)
         user, words = where.path[1:], urllib.parse.parse_qs(where.query)
-        if user == "style.css":
-            self.answer((FOLDER / "style.css").read_text(encoding="utf-8"), kind="text/css")
+        name, _, rest = user.partition("/")
+        if user in KINDS:
+            self.answer((FOLDER / user).read_text(encoding="utf-8"), kind=KINDS[user])
+        elif rest == "changes" and NAME.fullmatch(name):
+            self.tell_changes(name, words)
         elif user == "":
             first = number(words, "from", "[0-9]{1,7}", 1)
             self.show(lambda: self.cache.read(people_page, first), pages.people_without_cache)
@@ -108,6 +144,18 @@ class Pages(http.server.BaseHTTPRequestHandler):
             )
         else:
             self.answer(pages.not_here(), 404)
+
+    def tell_changes(self, user, words):
+        """What is new on a page that is open, as JSON. The page asks again where there is no cache now."""
+        run = words.get("run", [""])[0]
+        position, since = number(words, "position", "[0-9]{1,14}", 0), number(words, "since", "[0-9]{1,16}", 0)
+        try:
+            told = self.cache.read(user_changes, user, run, position, since)
+        except (*Gone, sqlite3.Error) as error:
+            print(f"{type(error).__name__}: {error}", file=sys.stderr)
+            self.answer("{}", 503, "application/json")
+            return
+        self.answer(json.dumps(told), kind="application/json")
 
     def do_POST(self):
         length = self.headers.get("Content-Length", "")
@@ -153,7 +201,7 @@ class Pages(http.server.BaseHTTPRequestHandler):
         self.send_response(status)
         self.send_header("Content-Type", f"{kind}; charset=utf-8")
         self.send_header("Content-Length", str(len(body)))
-        self.send_header("Content-Security-Policy", "default-src 'none'; style-src 'self'; form-action 'self'")
+        self.send_header("Content-Security-Policy", POLICY)
         self.end_headers()
         self.wfile.write(body)
 

@@ -7,11 +7,13 @@ not take a change, the truth has it all the same, and the cache is filled again 
 **Reads.** A page asks for the sentinel first, on its own connection, and fills the cache where it is missing. Positions of a
 connection never fall, so behind a sentinel that stands each answer has seen all that was put before it. The pool sees a restart
 by itself, from a position that fell. The sentinel tells what positions do not: that another process fills the cache just now, or
-that others wrote to it past the position where it was before.
+that others wrote to it past the position where it was before. Its value is drawn at each fill of an empty cache, so that who notes
+a position with it knows later whether that is one of the same run.
 """
 
 import contextlib
 import pathlib
+import secrets
 import sys
 
 sys.path.insert(0, str(pathlib.Path(__file__).resolve().parent.parent.parent / "clients" / "python"))
@@ -75,7 +77,7 @@ class Cache:
             changes += [(key, value) for key, value in wanted.items() if stands.get(key) != value]
             put_all(client, changes)
             if not is_ready:
-                client.put(SENTINEL, "1")
+                client.put(SENTINEL, secrets.token_hex(8))
             self._is_behind = False
 
     def close(self):

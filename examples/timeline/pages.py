@@ -8,7 +8,7 @@ MAX_POST = 500
 
 FRAME = """<!doctype html>
 <html lang="en"><head><meta charset="utf-8"><meta name="viewport" content="width=device-width, initial-scale=1">
-<title>{title}</title><link rel="stylesheet" href="/style.css"></head><body>
+<title>{title}</title><link rel="stylesheet" href="/style.css"><script src="/live.js" defer></script></head><body>
 <header><a href="/">Pequod timeline</a></header><main>
 {body}</main></body></html>
 """
@@ -41,10 +41,24 @@ def post_form(user, typed=""):
     )
 
 
+def name_of(poster, moment):
+    """What a post is called on a page."""
+    return f"post {poster} {moment}".replace(" ", "-")
+
+
+def changes(posts, position):
+    """What changed on a page: each post with its text, or with none where it has gone, and the position to ask from next."""
+    told = [
+        {"name": name_of(poster, moment), "text": None if text is None else post_text(poster, moment, text)}
+        for poster, moment, text in posts
+    ]
+    return {"position": position, "posts": told}
+
+
 def post_text(poster, moment, text):
     when = datetime.datetime.fromtimestamp(moment / 1e6)
     return (
-        f'<article><p class="who">{link(poster)} <time>{when:%d %B %Y %H:%M}</time></p>'
+        f'<article id="{html.escape(name_of(poster, moment))}" data-moment="{moment}"><p class="who">{link(poster)} <time>{when:%d %B %Y %H:%M}</time></p>'
         f'<p class="text">{html.escape(text)}</p></article>'
     )
 
@@ -64,15 +78,19 @@ def people_without_cache():
     return frame("No cache", ENTER + NO_CACHE.format(what="list of users", more=""))
 
 
-def timeline(user, posts, older, followed, others, position):
-    """A user's page. `older` is what the link to older posts asks for, if there is one."""
-    shown = "".join(post_text(*post) for post in posts) or "<p>Nothing here.</p>"
+def timeline(user, posts, older, followed, others, position, live=None):
+    """A user's page. `older` is what the link to older posts asks for, if there is one. A page that goes on has, in `live`, the run
+    of the cache, the position and the moment from which it asks for what is new."""
+    shown = "".join(post_text(*post) for post in posts) or '<p class="nothing">Nothing here.</p>'
+    goes_on = "" if live is None else ' id="live" data-user="{}" data-run="{}" data-position="{}" data-since="{}"'.format(
+        user, html.escape(live[0]), live[1], live[2]
+    )
     older = f'<p><a href="/{user}?{html.escape(older)}">Older posts</a></p>' if older else ""
     left = "".join(f"<li>{link(name)}{button(user, 'unfollow', 'Unfollow', name)}</li>" for name in followed)
     more = "".join(f"<li>{link(name)}{button(user, 'follow', 'Follow', name)}</li>" for name in others)
     return frame(
         f"{user} - Pequod timeline",
-        f'<h1>{user}</h1>{post_form(user)}<div class="columns"><section><h2>Timeline</h2>{shown}{older}</section>'
+        f'<h1>{user}</h1>{post_form(user)}<div class="columns"><section><h2>Timeline</h2><div{goes_on}>{shown}</div>{older}</section>'
         f'<aside><h2>You follow</h2><ul>{left or "<li>Nobody yet.</li>"}</ul>'
         f'<h2>New here</h2><ul>{more or "<li>Nobody.</li>"}</ul>'
         f'<p class="position">at position {position}</p></aside></div>',

@@ -1,5 +1,6 @@
 """Tries the pages over a server that it starts: PEQUOD=/path/of/pequod python3 -m unittest test_app, in this folder."""
 
+import json
 import pathlib
 import re
 import sqlite3
@@ -154,9 +155,79 @@ class Shown(Pages):
         words = ("--pequod", self.where, "--data", self.data)
         subprocess.run([sys.executable, str(FOLDER / "sample.py"), *words], stdout=subprocess.DEVNULL, check=True)
         text = self.ask("ann")[1]
-        self.assertEqual(text.count("<article>"), 25)
+        self.assertEqual(text.count("<article "), 25)
         self.assertNotIn("<b>", text)
         self.assertEqual(self.ask("")[1].count("<td>5</td><td>4</td>"), 8)
+
+
+class Live(Pages):
+    """What an open page asks for."""
+
+    def setUp(self):
+        super().setUp()
+        self.ask("bob/post", text="Hello there")
+        self.ask("ann/follow", poster="bob")
+
+    def open_page(self, user):
+        found = re.search(r'id="live" data-user="(\w+)" data-run="(\w+)" data-position="(\d+)" data-since="(\d+)"', self.ask(user)[1])
+        return dict(zip(("user", "run", "position", "since"), found.groups()))
+
+    def changes(self, page):
+        """What the script of the page is told, and notes for the next time."""
+        words = urllib.parse.urlencode({name: page[name] for name in ("run", "position", "since")})
+        status, text = self.ask(f"{page['user']}/changes?{words}")
+        self.assertEqual(status, 200)
+        told = json.loads(text)
+        if told is not None:
+            page["position"] = told["position"]
+        return told
+
+    def test_an_open_page_is_told_what_is_new(self):
+        page = self.open_page("ann")
+        self.assertEqual(self.changes(page)["posts"], [])
+        self.ask("bob/post", text=NASTY)
+        self.ask("cleo/post", text="Not for ann")
+        (post,) = self.changes(page)["posts"]
+        self.assertIn("&lt;script&gt;", post["text"])
+        self.assertIn(f'id="{post["name"]}"', self.ask("ann")[1])
+        self.assertEqual(self.changes(page)["posts"], [])
+        self.ask("ann/post", text="My own")
+        (post,) = self.changes(page)["posts"]
+        self.assertIn("My own", post["text"])
+        self.ask("ann/unfollow", poster="bob")
+        self.assertEqual([post["text"] for post in self.changes(page)["posts"]], [None, None])
+
+    def test_posts_that_are_older_than_the_page_are_not_told(self):
+        truth, now = Truth(self.data), time.time_ns() // 1_000
+        truth.post("dora", now - 8 * 24 * 3_600_000_000, "Old")
+        truth.post("dora", now, "New")
+        self.server.restart()
+        page = self.open_page("ann")
+        self.ask("ann/follow", poster="dora")
+        (post,) = self.changes(page)["posts"]
+        self.assertIn("New", post["text"])
+
+    def test_a_page_of_another_run_is_loaded_again(self):
+        page = self.open_page("ann")
+        self.server.restart()
+        for number in range(20):
+            self.ask("bob/post", text=f"post {number}")
+        self.assertIsNone(self.changes(page))
+        page = {**self.open_page("ann"), "position": "1000000"}
+        self.assertIsNone(self.changes(page))
+
+    def test_what_no_page_asks(self):
+        for words in "", "?run=x&position=y", "?position=999999999999999", "?run=&position=-1&since=z":
+            status, text = self.ask(f"ann/changes{words}")
+            self.assertEqual((status, json.loads(text)), (200, None))
+        self.assertEqual(self.ask("Ann|x/changes")[0], 404)
+        self.server.end()
+        self.assertEqual(self.ask("ann/changes")[0], 503)
+        self.server.start()
+
+    def test_older_pages_do_not_go_on(self):
+        self.assertNotIn("data-position", self.ask("ann?before=1764288000000000")[1])
+        self.assertIn("fetch(", self.ask("live.js")[1])
 
 
 class Ends(Pages):
@@ -201,7 +272,7 @@ class Ends(Pages):
         self.assertEqual(self.ask("ann/unfollow", poster="bob")[0], 503)
         self.ask("cleo/follow", poster="bob")
         self.server.start()
-        self.assertEqual(self.ask("ann")[1].count("<article>"), 0)
+        self.assertEqual(self.ask("ann")[1].count("<article "), 0)
         status, text = self.ask("cleo")
         self.assertEqual((status, text.count("&lt;script&gt;"), text.count("Hello there")), (200, 1, 1))
 
@@ -216,7 +287,7 @@ class Ends(Pages):
         self.assertIn("not saved", text)
         self.assertRegex(text, r"<textarea[^>]*>\n&lt;script&gt;alert")
         self.assertEqual(self.pairs(), before)
-        self.assertEqual(self.ask("bob")[1].count("<article>"), 1)
+        self.assertEqual(self.ask("bob")[1].count("<article "), 1)
 
     def test_pages_that_start_again_write_what_differs(self):
         before = self.position()

@@ -17,15 +17,15 @@ worker of the server, also while it asks nothing; the server's `--workers` says 
 for asyncio. `python3 -m pequod HOST:PORT` is a prompt, and `python3 -m pequod check FILE` looks at a file of joins.
 """
 
-from .answers import Absent, Done, Found, Pairs
+from .answers import Absent, Changes, Done, Found, Pairs
 from .client import Client, Pipeline, connect
-from .errors import BadReply, LinkLost, NotServed, OutOfMemory, PequodError, Refused, Restarted
+from .errors import Ahead, BadReply, Gone, LinkLost, NotServed, OutOfMemory, PequodError, Refused, Restarted
 from .exchange import Pending
 from .pool import Pool
 
 __version__ = "1.0.0"
 
 __all__ = [
-    "Absent", "BadReply", "Client", "Done", "Found", "LinkLost", "NotServed", "OutOfMemory", "Pairs", "Pending",
-    "PequodError", "Pipeline", "Pool", "Refused", "Restarted", "connect",
+    "Absent", "Ahead", "BadReply", "Changes", "Client", "Done", "Found", "Gone", "LinkLost", "NotServed", "OutOfMemory", "Pairs",
+    "Pending", "PequodError", "Pipeline", "Pool", "Refused", "Restarted", "connect",
 ]

@@ -17,13 +17,17 @@ from __future__ import annotations
 import asyncio
 import contextlib
 import selectors
+import time
 from typing import Any, AsyncIterator, Awaitable, Callable, Optional, Sequence, TypeVar
 
-from .answers import Done, Pairs, Value
-from .errors import LinkLost, Restarted
+from .answers import Changes, Done, Pairs, Value
+from .errors import Ahead, Gone, LinkLost, Restarted
 from .exchange import Batch, Exchange, Lines, Pending
 from .runs import PROBE_KEY, Run
-from .wire import Request, drop_request, get_request, join_request, prefix_bounds, put_request, remove_request, scan_request
+from .watching import Watch
+from .wire import (
+    Request, changes_request, drop_request, get_request, join_request, prefix_bounds, put_request, remove_request, scan_request,
+)
 
 __all__ = ["Client", "Pipeline", "Pool", "connect"]
 
@@ -96,6 +100,7 @@ class Client:
         self._where = (host, port)
         self._timeout = timeout
         self._lines = Lines()
+        self._links = 0
         self._turn = asyncio.Lock()
         self._link: Optional[_Link] = None
 
@@ -120,13 +125,36 @@ class Client:
         """The value of a key: `Found`, or `Absent`, which is false. Both have `value`, which is None where there is none."""
         return await self._ask(get_request(key))
 
-    async def scan(self, first: str, last: str) -> Pairs:
-        """All pairs with first <= key < last, in the byte order of their keys, within one table."""
-        return await self._ask(scan_request(first, last))
+    async def scan(self, first: str, last: str, at: Optional[int] = None) -> Pairs:
+        """All pairs with first <= key < last, in the byte order of their keys, within one table.
 
-    async def scan_prefix(self, prefix: str) -> Pairs:
+        With `at` they are those after the first so many entries, as any answer's position names them: `Gone` where more than
+        65,536 entries came since, and `Ahead` where there are not so many. Scans at one position agree with one another."""
+        return await self._ask(scan_request(first, last, at))
+
+    async def scan_prefix(self, prefix: str, at: Optional[int] = None) -> Pairs:
         """All pairs whose keys begin with a text that ends with `|`, as `t|ann|`."""
-        return await self.scan(*prefix_bounds(prefix))
+        return await self.scan(*prefix_bounds(prefix), at)
+
+    async def changes(self, first: str, last: str, since: int) -> Changes:
+        """What changed in the range since a position, up to now. `Gone` and `Ahead` as of `scan`."""
+        return await self._ask(changes_request(first, last, since))
+
+    async def watch(self, first: str, last: str, every: float = 1.0) -> AsyncIterator[tuple[str, Optional[str]]]:
+        """Yields each key of a range with its value, and then each that changes, as that of `pequod.Client` does."""
+        watch = Watch(first, last)
+        while True:
+            try:
+                changed = watch.take(await self._ask(watch.request(self._links)))
+            except (Gone, Ahead):
+                watch.begin_anew()
+                continue
+            except LinkLost:
+                await self._reconnect_while(every)
+                continue
+            for each in changed:
+                yield each
+            await asyncio.sleep(every)
 
     def pipeline(self, check: bool = True) -> Pipeline:
         """A pipeline over this connection, which sends its requests together at the end of its `async with`."""
@@ -142,6 +170,19 @@ class Client:
         self.close()
         await self._connect()
         await self._look_for_restart()
+
+    async def _reconnect_while(self, every: float) -> None:
+        """Connects anew, and tries so again and again for as long as the timeout says. A restart is no error."""
+        end = None if self._timeout is None else time.monotonic() + self._timeout
+        while True:
+            try:
+                return await self.reconnect()
+            except Restarted:
+                return
+            except OSError:
+                if end is not None and time.monotonic() > end:
+                    raise
+            await asyncio.sleep(every)
 
     def close(self) -> None:
         """Closes the connection. A client that is closed already stays as it is."""
@@ -162,6 +203,7 @@ class Client:
             _, self._link = await asyncio.wait_for(making, self._timeout)
         except asyncio.TimeoutError:
             raise TimeoutError("timed out") from None
+        self._links += 1
 
     async def _look_for_restart(self) -> None:
         """Raises `Restarted` where the server's history is shorter than what was told of its run."""

@@ -3,7 +3,7 @@
 from __future__ import annotations
 
 from dataclasses import dataclass
-from typing import Iterator, Literal, Union
+from typing import Iterator, Literal, Optional, Union
 
 
 @dataclass(frozen=True)
@@ -49,5 +49,21 @@ class Pairs:
         return len(self.pairs)
 
 
+@dataclass(frozen=True)
+class Changes:
+    """What changed in a range from the position `since` to the position of the answer: each key whose pair is another one, in
+    the byte order of keys, with its value now, or None where it has gone. It can be looped over and has a length."""
+
+    since: int
+    position: int
+    changes: tuple[tuple[str, Optional[str]], ...]
+
+    def __iter__(self) -> Iterator[tuple[str, Optional[str]]]:
+        return iter(self.changes)
+
+    def __len__(self) -> int:
+        return len(self.changes)
+
+
 Value = Union[Found, Absent]
-Answer = Union[Done, Found, Absent, Pairs]
+Answer = Union[Done, Found, Absent, Pairs, Changes]

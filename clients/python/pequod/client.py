@@ -4,13 +4,17 @@ from __future__ import annotations
 
 import selectors
 import socket
-from typing import Any, Optional, Sequence, TypeVar
+import time
+from typing import Any, Iterator, Optional, Sequence, TypeVar
 
-from .answers import Done, Pairs, Value
-from .errors import LinkLost, Restarted
+from .answers import Changes, Done, Pairs, Value
+from .errors import Ahead, Gone, LinkLost, Restarted
 from .exchange import PIECE_BYTES, Batch, Exchange, Lines, Pending
 from .runs import PROBE_KEY, Run
-from .wire import Request, drop_request, get_request, join_request, prefix_bounds, put_request, remove_request, scan_request
+from .watching import Watch
+from .wire import (
+    Request, changes_request, drop_request, get_request, join_request, prefix_bounds, put_request, remove_request, scan_request,
+)
 
 T = TypeVar("T")
 
@@ -28,6 +32,7 @@ class Client:
         self._where = (host, port)
         self._timeout = timeout
         self._lines = Lines()
+        self._links = 0
         self._socket: Optional[socket.socket] = None
         self._connect()
 
@@ -52,13 +57,40 @@ class Client:
         """The value of a key: `Found`, or `Absent`, which is false. Both have `value`, which is None where there is none."""
         return self._ask(get_request(key))
 
-    def scan(self, first: str, last: str) -> Pairs:
-        """All pairs with first <= key < last, in the byte order of their keys, within one table."""
-        return self._ask(scan_request(first, last))
+    def scan(self, first: str, last: str, at: Optional[int] = None) -> Pairs:
+        """All pairs with first <= key < last, in the byte order of their keys, within one table.
 
-    def scan_prefix(self, prefix: str) -> Pairs:
+        With `at` they are those after the first so many entries, as any answer's position names them: `Gone` where more than
+        65,536 entries came since, and `Ahead` where there are not so many. Scans at one position agree with one another."""
+        return self._ask(scan_request(first, last, at))
+
+    def scan_prefix(self, prefix: str, at: Optional[int] = None) -> Pairs:
         """All pairs whose keys begin with a text that ends with `|`, as `t|ann|`."""
-        return self.scan(*prefix_bounds(prefix))
+        return self.scan(*prefix_bounds(prefix), at)
+
+    def changes(self, first: str, last: str, since: int) -> Changes:
+        """What changed in the range since a position, up to now. `Gone` and `Ahead` as of `scan`."""
+        return self._ask(changes_request(first, last, since))
+
+    def watch(self, first: str, last: str, every: float = 1.0) -> Iterator[tuple[str, Optional[str]]]:
+        """Yields each key of a range with its value, and then, `every` so many seconds, each key that changed with its new
+        value, or None where it has gone.
+
+        Where the position that it last saw is gone, or the link was lost, it scans the whole range anew, and yields what is
+        another pair than it yielded before. It connects anew by itself, for as long as the client's timeout says, and then
+        raises what was in the way. The client can be used for other requests between two pairs."""
+        watch = Watch(first, last)
+        while True:
+            try:
+                changed = watch.take(self._ask(watch.request(self._links)))
+            except (Gone, Ahead):
+                watch.begin_anew()
+                continue
+            except LinkLost:
+                self._reconnect_while(every)
+                continue
+            yield from changed
+            time.sleep(every)
 
     def pipeline(self, check: bool = True) -> Pipeline:
         """A pipeline over this connection, which sends its requests together at the end of its `with`."""
@@ -80,6 +112,19 @@ class Client:
         self._connect()
         self._look_for_restart()
 
+    def _reconnect_while(self, every: float) -> None:
+        """Connects anew, and tries so again and again for as long as the timeout says. A restart is no error."""
+        end = None if self._timeout is None else time.monotonic() + self._timeout
+        while True:
+            try:
+                return self.reconnect()
+            except Restarted:
+                return
+            except OSError:
+                if end is not None and time.monotonic() > end:
+                    raise
+            time.sleep(every)
+
     def close(self) -> None:
         """Closes the connection. A client that is closed already stays as it is."""
         if self._socket is not None:
@@ -95,6 +140,7 @@ class Client:
     def _connect(self) -> None:
         self._lines = Lines()
         self._socket = socket.create_connection(self._where, self._timeout)
+        self._links += 1
         self._socket.setsockopt(socket.IPPROTO_TCP, socket.TCP_NODELAY, 1)
 
     def _look_for_restart(self) -> None:

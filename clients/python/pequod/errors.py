@@ -55,6 +55,14 @@ class Refused(NotServed):
         return f"refused: {self.name}{at}{', ' if self.details else ''}{', '.join(map(str, self.details))}"
 
 
+class Gone(Refused):
+    """A question about an earlier position that lies more than 65,536 entries back: scan anew, without a position."""
+
+
+class Ahead(Refused):
+    """A question about a position that the history has not come to, as after a restart of the server."""
+
+
 class OutOfMemory(NotServed):
     """The server found no memory for a request, and did nothing. The link stands, and the request may be made again."""
 

@@ -4,10 +4,11 @@ from __future__ import annotations
 
 from typing import Any, Generic, Optional, Sequence, TypeVar, Union
 
-from .answers import Answer, Done, Pairs, Value
+from .answers import Answer, Changes, Done, Pairs, Value
 from .errors import BadReply, LinkLost, NotServed, OutOfMemory, PequodError
 from .wire import (
-    Request, drop_request, get_request, join_request, prefix_bounds, put_request, read_reply, remove_request, scan_request,
+    Request, changes_request, drop_request, get_request, join_request, prefix_bounds, put_request, read_reply, remove_request,
+    scan_request,
 )
 
 PIECE_BYTES = 65_536
@@ -37,14 +38,18 @@ class Pending(Generic[T]):
         return self._answer if isinstance(self._answer, PequodError) else None
 
     def _take(self, line: bytes) -> Optional[int]:
-        """Takes the reply, and gives its position."""
+        """Takes the reply, and gives its position, where it is that of the history."""
         answer = read_reply(line)
+        earlier = self._request.earlier
         if not isinstance(answer, (*self._request.answers, NotServed)):
             raise BadReply(f"another reply than was asked for: {line[:80]!r}")
+        is_back = isinstance(answer, Pairs) and earlier is not None
+        if is_back and answer.position != earlier or isinstance(answer, Changes) and answer.since != earlier:
+            raise BadReply(f"a reply about another position than was asked for: {line[:80]!r}")
         if isinstance(answer, NotServed):
             answer._of(self._request.kind, self._request.key, self._number)
         self._answer = answer
-        return None if isinstance(answer, OutOfMemory) else answer.position
+        return None if isinstance(answer, OutOfMemory) or is_back else answer.position
 
 
 
@@ -134,13 +139,17 @@ class Batch:
         """As that of `Client`."""
         return self._add(get_request(key))
 
-    def scan(self, first: str, last: str) -> Pending[Pairs]:
+    def scan(self, first: str, last: str, at: Optional[int] = None) -> Pending[Pairs]:
         """As that of `Client`."""
-        return self._add(scan_request(first, last))
+        return self._add(scan_request(first, last, at))
 
-    def scan_prefix(self, prefix: str) -> Pending[Pairs]:
+    def scan_prefix(self, prefix: str, at: Optional[int] = None) -> Pending[Pairs]:
         """As that of `Client`."""
-        return self.scan(*prefix_bounds(prefix))
+        return self.scan(*prefix_bounds(prefix), at)
+
+    def changes(self, first: str, last: str, since: int) -> Pending[Changes]:
+        """As that of `Client`."""
+        return self._add(changes_request(first, last, since))
 
     def _add(self, request: Request[T]) -> Pending[T]:
         pending = Pending(request, self._count)

@@ -10,10 +10,11 @@ import shutil
 import sys
 from typing import Optional, Union
 
-from .answers import Absent, Answer, Done, Found, Pairs
+from .answers import Absent, Answer, Changes, Done, Found, Pairs
 from .client import Client, connect
 from .errors import OutOfMemory, PequodError, Refused, Restarted
 from .reasons import place, reason, width
+from .wire import prefix_bounds
 
 HELP = """\
 get KEY              the value of a key, as: get k|a
@@ -21,12 +22,15 @@ put KEY TEXT         sets it, as: put k|a some text
 remove KEY           removes the pair
 scan PREFIX          the pairs whose keys begin with a text that ends with |, as: scan k|
 scan FIRST LAST      the pairs with FIRST <= key < LAST, as: scan k|a k}
+scan ... POSITION    these pairs after the first so many entries, as: scan k| 3
+changes ... POSITION what changed in such a range since then, as: changes k| 3
 join TEXT            declares a join, as: join b|<x> = copy a|<x>
 drop POSITION        drops the join that was declared at a position, as: drop 3
 help, quit
 A key or text in double quotes is read as JSON reads it, as: put "k|a b" "two\\nlines"
 """
-COMMANDS = ("get", "put", "remove", "scan", "join", "drop", "help", "quit")
+COMMANDS = ("get", "put", "remove", "scan", "changes", "join", "drop", "help", "quit")
+POSITION = re.compile("[0-9]{1,15}")
 WORD = re.compile(r'\s*(?:("(?:[^"\\]|\\.)*")(?=\s|$)|(\S+))')
 MARGIN = 2
 
@@ -81,14 +85,22 @@ class Prompt:
             return client.join(_whole_text(rest, "join takes the text of a join"))
         if command == "drop":
             words = _all_words(rest)
-            if len(words) != 1 or re.fullmatch("[0-9]{1,15}", words[0]) is None:
+            if len(words) != 1 or POSITION.fullmatch(words[0]) is None:
                 raise Unclear("drop takes the position of a join's declaration")
             return client.drop(int(words[0]))
-        if command == "scan":
+        if command in ("scan", "changes"):
             bounds = _all_words(rest)
+            position = int(bounds.pop()) if bounds and POSITION.fullmatch(bounds[-1]) else None
+            wanted = f"{command} takes a prefix that ends with |, or two bounds{', and a position' if command == 'changes' else ''}"
             if len(bounds) == 1 and bounds[0].endswith("|"):
-                return client.scan_prefix(bounds[0])
-            return client.scan(*self._keys(bounds, 2, "scan takes a prefix that ends with |, or two bounds"))
+                first, last = prefix_bounds(bounds[0])
+            else:
+                first, last = self._keys(bounds, 2, wanted)
+            if command == "scan":
+                return client.scan(first, last, position)
+            if position is None:
+                raise Unclear(wanted)
+            return client.changes(first, last, position)
         raise Unclear(f"{command!r} is no command")
 
     def _keys(self, words: list[str], count: int, wanted: str) -> list[str]:
@@ -107,6 +119,10 @@ class Prompt:
         if isinstance(answer, Pairs):
             self.keys.update(key for key, _ in answer.pairs[:1_000])
             for line in _table(answer):
+                print(line)
+        elif isinstance(answer, Changes):
+            self.keys.update(key for key, _ in answer.changes[:1_000])
+            for line in _feed(answer):
                 print(line)
         elif isinstance(answer, Found):
             print(f"{_cell(answer.value)}\n(at position {answer.position})")
@@ -166,13 +182,24 @@ def _cell(text: str) -> str:
 
 
 def _table(answer: Pairs) -> list[str]:
-    """The pairs in two columns. Values that go beyond the terminal are cut."""
-    rows = [(_cell(key), _cell(value)) for key, value in answer]
+    """The pairs in two columns."""
+    lines = _columns([(_cell(key), _cell(value)) for key, value in answer])
+    count = f"{len(answer)} pair" if len(answer) == 1 else f"{len(answer)} pairs"
+    return [*lines, f"({count}, at position {answer.position})"]
+
+
+def _feed(answer: Changes) -> list[str]:
+    """The changes in two columns: a key that has gone stands alone."""
+    lines = _columns([(_cell(key), "" if value is None else _cell(value)) for key, value in answer])
+    count = f"{len(answer)} change" if len(answer) == 1 else f"{len(answer)} changes"
+    return [*lines, f"({count} from position {answer.since} to {answer.position})"]
+
+
+def _columns(rows: list[tuple[str, str]]) -> list[str]:
+    """Two columns. What goes beyond the terminal in the second is cut."""
     left = max((width(key) for key, _ in rows), default=0)
     room = max(shutil.get_terminal_size().columns - left - MARGIN, 20) if sys.stdout.isatty() else None
-    lines = [f"{key}{' ' * (left - width(key) + MARGIN)}{_cut(value, room)}" for key, value in rows]
-    count = f"{len(rows)} pair" if len(rows) == 1 else f"{len(rows)} pairs"
-    return [*lines, f"({count}, at position {answer.position})"]
+    return [f"{key}{' ' * (left - width(key) + MARGIN)}{_cut(value, room)}".rstrip() for key, value in rows]
 
 
 def _cut(text: str, room: Optional[int]) -> str:

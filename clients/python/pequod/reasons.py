@@ -23,6 +23,8 @@ REASONS = {
     "cycle": "the joins would read one another in a circle",
     "deep": "a join would stand on more than 7 others, one above another",
     "many": "64 joins stand, and no more may",
+    "gone": "the position is more than 65,536 entries back",
+    "ahead": "the history has not come to the position yet",
 }
 
 

@@ -4,10 +4,10 @@ from __future__ import annotations
 
 import json
 from dataclasses import dataclass
-from typing import Any, Generic, TypeVar, Union
+from typing import Any, Generic, Optional, TypeVar, Union
 
-from .answers import Absent, Answer, Done, Found, Pairs, Value
-from .errors import BadReply, OutOfMemory, Refused
+from .answers import Absent, Answer, Changes, Done, Found, Pairs, Value
+from .errors import Ahead, BadReply, Gone, OutOfMemory, Refused
 
 MAX_LINE_BYTES = 1_048_576
 
@@ -25,6 +25,8 @@ class Request(Generic[T]):
     key: str
     line: bytes
     answers: tuple[type, ...]
+    earlier: Optional[int] = None
+    """The earlier position that it asks about, if it asks about one."""
 
     @property
     def is_write(self) -> bool:
@@ -44,9 +46,7 @@ def join_request(text: str) -> Request[Done]:
 
 
 def drop_request(position: int) -> Request[Done]:
-    # To Python a bool is an int, and to the server it is no position.
-    if not isinstance(position, int) or isinstance(position, bool):
-        raise TypeError(f"the position of a drop has to be an int, and {position!r} is of type {type(position).__name__}")
+    _want_position("drop", position)
     return Request("drop", str(position), b'["drop",%d]\n' % position, (Done,))
 
 
@@ -54,8 +54,14 @@ def get_request(key: str) -> Request[Value]:
     return Request("get", key, _line("get", ("key", key)), (Found, Absent))
 
 
-def scan_request(first: str, last: str) -> Request[Pairs]:
-    return Request("scan", first, _line("scan", ("first bound", first), ("last bound", last)), (Pairs,))
+def scan_request(first: str, last: str, at: Optional[int] = None) -> Request[Pairs]:
+    return Request("scan", first, _line("scan", ("first bound", first), ("last bound", last), position=at), (Pairs,), at)
+
+
+def changes_request(first: str, last: str, since: int) -> Request[Changes]:
+    _want_position("changes", since)
+    line = _line("changes", ("first bound", first), ("last bound", last), position=since)
+    return Request("changes", first, line, (Changes,), since)
 
 
 def prefix_bounds(prefix: str) -> tuple[str, str]:
@@ -66,17 +72,27 @@ def prefix_bounds(prefix: str) -> tuple[str, str]:
     return prefix, prefix[:-1] + "}"
 
 
-def _line(kind: str, *items: tuple[str, str]) -> bytes:
+def _line(kind: str, *items: tuple[str, str], position: Optional[int] = None) -> bytes:
     for name, text in items:
         _want_text(kind, name, text)
     texts = [text for _, text in items]
-    line = json.dumps([kind, *texts], ensure_ascii=False, separators=(",", ":")).encode()
+    last: list[int] = []
+    if position is not None:
+        _want_position(kind, position)
+        last = [position]
+    line = json.dumps([kind, *texts, *last], ensure_ascii=False, separators=(",", ":")).encode()
     if len(line) > MAX_LINE_BYTES:
         # The server would answer this and end the link, so it is not sent.
         refused = Refused("long")
         refused._of(kind, texts[0], None)
         raise refused
     return line + b"\n"
+
+
+def _want_position(kind: str, given: object) -> None:
+    # To Python a bool is an int, and to the server it is no position.
+    if not isinstance(given, int) or isinstance(given, bool):
+        raise TypeError(f"the position of a {kind} has to be an int, and {given!r} is of type {type(given).__name__}")
 
 
 def _want_text(kind: str, name: str, given: object) -> None:
@@ -102,11 +118,17 @@ def read_reply(line: bytes) -> Union[Answer, Refused, OutOfMemory]:
             return Absent(int(reply[1]))
         if word == "pairs":
             return Pairs(int(reply[1]), tuple((key, value) for key, value in reply[2]))
+        if word == "changes":
+            return Changes(int(reply[1]), int(reply[2]), tuple(_read_change(*item) for item in reply[3]))
         if word == "error":
             return _read_refusal(reply[1], reply[2:])
     except (ValueError, TypeError, LookupError):
         pass
     raise BadReply(f"no reply: {line[:80]!r}")
+
+
+def _read_change(key: str, value: Optional[str] = None) -> tuple[str, Optional[str]]:
+    return key, value
 
 
 def _read_refusal(name: str, numbers: list[Any]) -> Union[Refused, OutOfMemory]:
@@ -116,4 +138,5 @@ def _read_refusal(name: str, numbers: list[Any]) -> Union[Refused, OutOfMemory]:
         return Refused(name, None, tuple(numbers))
     if name == "cycle":
         return Refused(name, numbers[0], tuple(numbers[1]))
-    return Refused(name, numbers[0] if numbers else None, tuple(numbers[1:]))
+    kind = {"gone": Gone, "ahead": Ahead}.get(name, Refused)
+    return kind(name, numbers[0] if numbers else None, tuple(numbers[1:]))

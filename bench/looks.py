@@ -109,4 +109,5 @@ def main():
     print(f"after a put that it reads {many[1] / many[0]:.2f} times, and after another {many[2] / many[0]:.2f} times (at most 2 are wanted)")
 
 
-main()
+if __name__ == "__main__":
+    main()

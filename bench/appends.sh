@@ -3,7 +3,8 @@
 # whole test of 200,000 puts: each thread makes its puts and appends them by a pass of its own, and then a pass that only reads
 # meets the others, takes a copy of all entries and compares their order. Then how long a look takes that nobody contends, which
 # takes the turn, reads the number of entries and frees the turn, as an append does beside its verdict and its entry.
-# Usage: bench/appends.sh TESTS, the test program of history_trials, which `rt test` leaves as crates/history_trials/out/history_trials_tests
+# Usage: bench/appends.sh TESTS, the test program of history_trials, which `rt test` leaves as
+# crates/history_trials/out/history_trials_tests
 set -euo pipefail
 tests=${1:-}
 if [ ! -f "$tests" ] || [ ! -x "$tests" ]; then

@@ -172,7 +172,8 @@ def leavers(count):
 
 
 def covered(count, posts):
-    """One table of timelines that is read whole, with so many followers, then as many more and some posts before one key is read."""
+    """One table of timelines that is read whole, with so many followers, then as many more and some posts before one key is
+    read."""
     stored, first, more = followers(count)
     more = [*more[:-1], *(put(f"p|bob|{number:06}") for number in range(2, 2 + posts))]
     return stored, first, [*more, get("t|u00001|000001|bob")]

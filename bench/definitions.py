@@ -1,6 +1,6 @@
 #!/usr/bin/env python3
-"""Prints where a word of the contracts is defined, and the sentence that stands above its definition: the definitions of each crate's
-specs/, and the laws, which are the public functions with an empty body, by the sentence above them.
+"""Prints where a word of the contracts is defined, and the sentence that stands above its definition: the definitions of each
+crate's specs/, and the laws, which are the public functions with an empty body, by the sentence above them.
 
 Usage: bench/definitions.py [WORD..]
 For each word it prints what has just this name, or else each name that contains it, in capitals or not. Without words it prints all

@@ -1,8 +1,8 @@
 #!/usr/bin/env bash
 # Runs the built program on what stands under examples/: requests with their replies, files of joins with what is written about
 # them, and scripts of events with what is printed about them; the requests through a connection to its server besides. Then on
-# lines that are too long to stand there, on loads, and to each end that can be had here. It compares what is written, the status,
-# and the line on standard error.
+# lines that are too long to stand there, on loads, on more puts than a question reaches back, and to each end that can be had
+# here. It compares what is written, the status, and the line on standard error.
 # Usage: bench/examples.sh PROGRAM
 set -u
 program=${1:-}
@@ -80,6 +80,14 @@ attempt "a load of 2,000 acts by 4 workers with one row kept" 0 "$folder/wanted"
 attempt "a load of 2,000 acts by 64 workers" 0 "$folder/wanted" load --number 7 --steps 2000 --workers 64
 "$program" load --steps 100000 --users 1000 > "$folder/wanted" 2> /dev/null
 attempt "a load of 100,000 acts by 4 workers as by one" 0 "$folder/wanted" load --steps 100000 --users 1000 --workers 4
+
+# Questions about positions that lie 65,537 and 65,536 entries back.
+seq 65540 | awk '{ printf "[\"put\",\"k|a\",\"%d\"]\n", $1 } END { for (at = 3; at <= 4; at++) {
+  printf "[\"scan\",\"k|\",\"k}\",%d]\n[\"changes\",\"k|\",\"k}\",%d]\n", at, at } }' > "$folder/puts"
+printf '%s\n' '["error","gone",65540]' '["error","gone",65540]' '["pairs",4,[["k|a","4"]]]' \
+  '["changes",4,65540,[["k|a","65540"]]]' > "$folder/wanted"
+"$program" run < "$folder/puts" 2> "$folder/message" | tail -n 4 > "$folder/written"
+judge "positions too far back, and just not" 0 "${PIPESTATUS[0]}" "$folder/wanted"
 
 # A million puts of a thousand keys, in less room than all entries or all versions would take: what is old goes.
 seq 1000000 | awk '{ printf "[\"put\",\"k|%d\",\"%d\"]\n", $1 % 1000, $1 } END { print "[\"get\",\"k|1\"]" }' > "$folder/puts"

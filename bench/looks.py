@@ -104,9 +104,11 @@ def main():
         sys.exit(__doc__)
     few, many = (measure(sys.argv[1], count) for count in (1_000, 1_000_000))
     for count, (still, read, unread) in ((1_000, few), (1_000_000, many)):
-        print(f"{count} pairs: {still:.1f} us a read, {read:.1f} after a put that it reads, {unread:.1f} after one that it does not")
+        after = f"{read:.1f} after a put that it reads, {unread:.1f} after one that it does not"
+        print(f"{count} pairs: {still:.1f} us a read, {after}")
     print(f"among 1,000,000 pairs a read costs {many[0] / few[0]:.2f} times one among 1,000 (at most 1.5 is wanted)")
-    print(f"after a put that it reads {many[1] / many[0]:.2f} times, and after another {many[2] / many[0]:.2f} times (at most 2 are wanted)")
+    read, unread = (many[place] / many[0] for place in (1, 2))
+    print(f"after a put that it reads {read:.2f} times, and after another {unread:.2f} times (at most 2 are wanted)")
 
 
 if __name__ == "__main__":

@@ -155,12 +155,17 @@ def measure_sources(path):
 def measure_ranges(path):
     with Server(path, "--cells", "65536", "--rows", "1000000000") as server, server.connect() as client:
         client.join(JOIN)
-        ranges = do_all(client, lambda to, number: to.put(f"s|{number % READERS:04}|{number // READERS:04}", "1"), READERS * POSTERS)
+
+        def follow(to, number):
+            to.put(f"s|{number % READERS:04}|{number // READERS:04}", "1")
+
+        ranges = do_all(client, follow, READERS * POSTERS)
         before = server.kilobytes()
         for reader in range(READERS):
             client.scan_prefix(f"t|{reader:04}|")
         each = (server.kilobytes() - before) * 1024 / ranges
-        print(f"a range that a kept range was made of, that of a followed poster with no posts: {each:.0f} bytes, over {ranges} ranges")
+        what = "a range that a kept range was made of, that of a followed poster with no posts"
+        print(f"{what}: {each:.0f} bytes, over {ranges} ranges")
 
 
 MEASURES = (

@@ -1,7 +1,7 @@
 #!/usr/bin/env python3
-"""Prints, ten times while a connection overwrites 1,000 keys at a steady rate, how many overwrites there were and the resident memory
-of the built program as a server; and how long a put of another connection took meanwhile, of which there are a hundred each second.
-Nothing that the last writes do not need is to stay, so the memory is to be flat after the first tenth.
+"""Prints, ten times while a connection overwrites 1,000 keys at a steady rate, how many overwrites there were and the resident
+memory of the built program as a server; and how long a put of another connection took meanwhile, of which there are a hundred each
+second. Nothing that the last writes do not need is to stay, so the memory is to be flat after the first tenth.
 
 Usage: bench/overwrites.py PROGRAM [--seconds 600] [--rate 10000]
 It wants Linux, whose /proc tells the memory of a process. It writes with the client of clients/python.

@@ -3,7 +3,8 @@
 # how many times one thread's that is. Each thread has a client of its own and puts into a table of its own, one of ten keys at a
 # time, and after each put reads the output of a join over that table, which is kept. The time is that of a whole test of 40,000
 # puts and as many reads.
-# Usage: bench/threads.sh TESTS, the test program of cache_trials, which `rt test` leaves as crates/cache_trials/out/cache_trials_tests
+# Usage: bench/threads.sh TESTS, the test program of cache_trials, which `rt test` leaves as
+# crates/cache_trials/out/cache_trials_tests
 set -euo pipefail
 tests=${1:-}
 if [ ! -f "$tests" ] || [ ! -x "$tests" ]; then

@@ -8,17 +8,25 @@ import contextlib
 import io
 import itertools
 import json
+import logging
 import socket
 import socketserver
 import threading
+import time
 import unittest
+import unittest.mock
 
 import pequod
+from awaited import Awaited
 from pequod import aio
 from pequod.prompt import Prompt
 from serving import HOST
 
 REACH = 65_536
+PROMPTS = (
+    "scan k| 1", "scan k| k} 2", "scan k|", "changes k| 0", "changes k| k} 1", "changes k| 3",
+    "changes k| 4", "changes k|", "scan 3", "changes",
+)
 PROMPTED = """\
 k|a  1
 (1 pair, at position 1)
@@ -38,6 +46,11 @@ changes takes a prefix that ends with |, or two bounds, and a position; `help` s
 scan takes a prefix that ends with |, or two bounds; `help` says what there is
 changes takes a prefix that ends with |, or two bounds, and a position; `help` says what there is
 """
+
+
+def setUpModule():
+    # The loop of these tests would tell of each step that a busy machine made slow.
+    logging.getLogger("asyncio").setLevel(logging.ERROR)
 
 
 class Toy:
@@ -84,11 +97,16 @@ class Toy:
 
 class Handler(socketserver.StreamRequestHandler):
     def handle(self):
-        self.server.links.append(self.connection)
+        server = self.server
         with contextlib.suppress(ConnectionError):
             for line in self.rfile:
-                reply = self.server.told or self.server.toy.answer(json.loads(line))
-                self.wfile.write(json.dumps(reply).encode() + b"\n")
+                request = json.loads(line)
+                server.asked.append(request)
+                server.answers.wait()
+                if server.drops and request[0] in ("scan", "changes"):
+                    server.drops -= 1
+                    return
+                self.wfile.write(json.dumps(server.told or server.toy.answer(request)).encode() + b"\n")
 
 
 class Server(socketserver.ThreadingTCPServer):
@@ -98,8 +116,23 @@ class Server(socketserver.ThreadingTCPServer):
 
     def __init__(self, port=0):
         super().__init__((HOST, port), Handler)
-        self.toy, self.links, self.told = Toy(), [], None
+        self.toy, self.links, self.asked = Toy(), set(), []
+        self.told = None
+        """What is answered to all requests, if it is anything."""
+        self.drops = 0
+        """How many scans and questions for changes are answered by the end of their link."""
+        self.answers = threading.Event()
+        """Whether it answers now, or lets all requests wait."""
+        self.answers.set()
         threading.Thread(target=self.serve_forever, args=(0.01,)).start()
+
+    def process_request(self, request, client_address):
+        self.links.add(request)
+        super().process_request(request, client_address)
+
+    def shutdown_request(self, request):
+        self.links.discard(request)
+        super().shutdown_request(request)
 
     @property
     def port(self):
@@ -107,25 +140,74 @@ class Server(socketserver.ThreadingTCPServer):
 
     def cut(self):
         """Ends all links."""
-        links, self.links = self.links, []
-        for link in links:
+        for link in list(self.links):
             with contextlib.suppress(OSError):
                 link.shutdown(socket.SHUT_RDWR)
+
+    def count_links(self, wanted):
+        """How many links are open. It waits until that is what is wanted, but not for ever."""
+        end = time.monotonic() + 10
+        while len(self.links) != wanted and time.monotonic() < end:
+            time.sleep(0.01)
+        return len(self.links)
 
     def end(self):
         self.shutdown()
         self.server_close()
         self.cut()
+        self.answers.set()
 
 
-class Earlier(unittest.TestCase):
+class Clock:
+    """A clock that goes on by what is slept, at once."""
+
+    def __init__(self):
+        self.now = 0.0
+        self.slept = []
+
+    def monotonic(self):
+        return self.now
+
+    def sleep(self, seconds):
+        self.slept.append(seconds)
+        self.now += seconds
+
+    async def doze(self, seconds):
+        self.sleep(seconds)
+
+    @contextlib.contextmanager
+    def runs(self):
+        """It is the clock of both clients for the length of a `with`."""
+        patch = unittest.mock.patch
+        with patch("pequod.client.time", self), patch("pequod.aio.time", self), patch("asyncio.sleep", self.doze):
+            yield
+
+
+class Case(unittest.TestCase):
+    """A test with a server and a client for threads."""
+
     def setUp(self):
         self.server = Server()
-        self.addCleanup(self.server.end)
-        self.toy = self.server.toy
-        self.client = pequod.connect(HOST, self.server.port, 5)
+        self.addCleanup(lambda: self.server.end())
+        self.connect()
+
+    def connect(self):
+        self.client = pequod.connect(HOST, self.server.port, 20)
         self.addCleanup(self.client.close)
 
+    def put(self, key, value):
+        self.server.toy.answer(["put", key, value] if value is not None else ["remove", key])
+
+
+class Tasks:
+    """What a test has instead that tries the client for asyncio."""
+
+    def connect(self):
+        self.client = Awaited(HOST, self.server.port, 20)
+        self.addCleanup(self.client.end)
+
+
+class Earlier(Case):
     def test_scans_at_a_position(self):
         client = self.client
         client.put("k|a", "1")
@@ -155,7 +237,10 @@ class Earlier(unittest.TestCase):
         client = self.client
         acts = [("a", "1"), ("b", "1"), ("a", None), ("c", "1"), ("b", "2"), ("a", "3"), ("c", None), ("b", "1")]
         for key, value in acts:
-            client.remove(f"k|{key}") if value is None else client.put(f"k|{key}", value)
+            if value is None:
+                client.remove(f"k|{key}")
+            else:
+                client.put(f"k|{key}", value)
         now = dict(client.scan("k|", "k}"))
         for since in range(len(acts) + 1):
             pairs = dict(client.scan("k|", "k}", at=since))
@@ -167,7 +252,7 @@ class Earlier(unittest.TestCase):
 
     def test_positions_that_are_out_of_reach(self):
         client = self.client
-        self.toy.before = 5 + REACH
+        self.server.toy.before = 5 + REACH
         for call in client.scan, client.changes:
             with self.assertRaises(pequod.Gone) as caught:
                 call("k|", "k}", 4)
@@ -200,24 +285,18 @@ class Earlier(unittest.TestCase):
             self.client.changes("k|", "k}", 1)
 
 
-class Watched(unittest.TestCase):
-    def setUp(self):
-        self.server = Server()
-        self.client = pequod.connect(HOST, self.server.port, 5)
-        self.addCleanup(self.end)
-        self.addCleanup(self.client.close)
+class EarlierOfTasks(Tasks, Earlier):
+    pass
 
-    def end(self):
-        self.server.end()
 
-    def put(self, key, value):
-        self.server.toy.answer(["put", key, value] if value is not None else ["remove", key])
-
-    def start(self):
+class Watched(Case):
+    def start(self, every=0):
+        """A watch of two pairs, which were told."""
         self.put("k|a", "1")
         self.put("k|b", "1")
-        watch = self.client.watch("k|", "k}", every=0)
+        watch = self.client.watch("k|", "k}", every=every)
         self.assertEqual([next(watch), next(watch)], [("k|a", "1"), ("k|b", "1")])
+        self.server.asked.clear()
         return watch
 
     def test_changes_come_in_order(self):
@@ -232,25 +311,24 @@ class Watched(unittest.TestCase):
         watch = self.start()
         self.put("k|b", None)
         self.put("k|c", "1")
-        for _ in range(REACH):
-            self.server.toy.entries.append(("z|", "1"))
+        self.server.toy.before += REACH
         self.assertEqual([next(watch), next(watch)], [("k|b", None), ("k|c", "1")])
         self.put("k|a", "2")
         self.assertEqual(next(watch), ("k|a", "2"))
 
-    def test_it_goes_on_over_another_link(self):
+    def test_it_goes_on_over_other_links(self):
         watch = self.start()
-        self.server.cut()
-        self.put("k|b", "2")
-        self.assertEqual(next(watch), ("k|b", "2"))
+        for value in "234":
+            self.server.cut()
+            self.put("k|b", value)
+            self.assertEqual(next(watch), ("k|b", value))
+            self.assertEqual(self.server.count_links(1), 1)
 
     def test_it_goes_on_after_a_restart(self):
         for entries in 1, 5:
             with self.subTest(entries):
                 watch = self.start()
-                port = self.server.port
-                self.server.end()
-                self.server = Server(port)
+                self.restart()
                 for number in range(entries):
                     self.put("k|b", f"new {number}")
                 self.put("k|c", "1")
@@ -258,17 +336,60 @@ class Watched(unittest.TestCase):
                 self.assertEqual(told, {"k|a": None, "k|b": f"new {entries - 1}", "k|c": "1"})
                 self.put("k|c", None)
                 self.assertEqual(next(watch), ("k|c", None))
-                watch.close()
-                self.client.close()
-                self.server.end()
-                self.setUp()
+                self.restart()
+                self.connect()
 
-    def test_a_server_that_does_not_come_back(self):
-        self.client._timeout = 0.05
-        watch = self.start()
+    def restart(self):
         self.server.end()
-        with self.assertRaises(OSError):
+        self.server = Server(self.server.port)
+
+    def test_a_question_is_asked_twice_and_not_for_ever(self):
+        watch = self.start()
+        self.put("k|b", "2")
+        self.server.drops = 1
+        self.assertEqual(next(watch), ("k|b", "2"))
+        self.server.asked.clear()
+        self.server.drops = 2
+        with self.assertRaises(pequod.LinkLost):
             next(watch)
+        self.assertEqual([kind for kind, *_ in self.server.asked], ["changes", "get", "scan"])
+
+    def test_a_link_that_another_request_lost_does_not_count(self):
+        watch = self.start()
+        self.server.cut()
+        with self.assertRaises(pequod.LinkLost):
+            self.client.get("k|a")
+        self.put("k|b", "2")
+        self.server.drops = 1
+        self.assertEqual(next(watch), ("k|b", "2"))
+
+    def test_a_closed_client_ends_it(self):
+        watch = self.start()
+        self.client.close()
+        with self.assertRaisesRegex(pequod.LinkLost, "the client was closed"):
+            next(watch)
+        self.assertEqual((self.client.is_open, self.server.asked), (False, []))
+        self.client.reconnect()
+        self.assertEqual(next(self.client.watch("k|", "k}")), ("k|a", "1"))
+
+    def test_it_tries_to_connect_at_a_pace_of_its_own(self):
+        for every in 0, 60:
+            with self.subTest(every):
+                watch, clock = self.start(every), Clock()
+                port = self.server.port
+                self.server.end()
+                with clock.runs(), self.assertRaises(ConnectionRefusedError):
+                    next(watch)
+                first, *pauses = clock.slept
+                self.assertEqual((first, set(pauses)), (every, {0.2}))
+                # The client's timeout is 20 seconds.
+                self.assertIn(len(pauses), range(99, 103))
+                self.server = Server(port)
+                self.connect()
+
+
+class WatchedByTasks(Tasks, Watched):
+    pass
 
 
 class Prompted(unittest.TestCase):
@@ -279,32 +400,131 @@ class Prompted(unittest.TestCase):
             server.toy.answer(request)
         with pequod.connect(HOST, server.port, 5) as client, contextlib.redirect_stdout(io.StringIO()) as printed:
             prompt = Prompt(client)
-            done = [prompt.do(line) for line in (
-                "scan k| 1", "scan k| k} 2", "scan k|", "changes k| 0", "changes k| k} 1", "changes k| 3", "changes k| 4", "changes k|", "scan 3", "changes",
-            )]
+            done = [prompt.do(line) for line in PROMPTS]
         self.assertEqual(done, [True] * 6 + [False] * 4)
         self.assertEqual(printed.getvalue(), PROMPTED)
         self.assertEqual(prompt.keys, {"k|", "k}", "k|a", "k|bb"})
 
 
-class Asynchronous(unittest.IsolatedAsyncioTestCase):
-    async def test_each_call(self):
-        server = Server()
-        self.addCleanup(server.end)
-        async with await aio.connect(HOST, server.port, 5) as client:
-            await client.put("k|a", "1")
-            watch = client.watch("k|", "k}", every=0)
-            self.assertEqual(await watch.__anext__(), ("k|a", "1"))
-            await client.put("k|a", "2")
-            self.assertEqual(await watch.__anext__(), ("k|a", "2"))
-            self.assertEqual(await client.scan("k|", "k}", at=1), pequod.Pairs(1, (("k|a", "1"),)))
-            self.assertEqual(await client.scan_prefix("k|", at=0), pequod.Pairs(0, ()))
-            self.assertEqual(await client.changes("k|", "k}", since=1), pequod.Changes(1, 2, (("k|a", "2"),)))
-            server.cut()
-            await asyncio.sleep(0)
-            server.toy.answer(["remove", "k|a"])
-            self.assertEqual(await watch.__anext__(), ("k|a", None))
-            await watch.aclose()
+class Shared(unittest.IsolatedAsyncioTestCase):
+    """Tasks that share one client."""
+
+    def setUp(self):
+        self.server = Server()
+        self.addCleanup(lambda: self.server.end())
+
+    async def asyncSetUp(self):
+        self.client = await aio.connect(HOST, self.server.port, 20)
+        self.addCleanup(self.client.close)
+
+    async def start(self):
+        """Two watches of one pair each, which was told."""
+        self.put("1")
+        watches = [self.client.watch(f"{table}|", f"{table}}}", every=0) for table in "km"]
+        self.assertEqual(await self.told(*watches), [("k|a", "1"), ("m|a", "1")])
+        return watches
+
+    def put(self, value):
+        for table in "km":
+            self.server.toy.answer(["put", f"{table}|a", value])
+
+    async def told(self, *watches):
+        """The next change of each."""
+        return await asyncio.wait_for(asyncio.gather(*(watch.__anext__() for watch in watches)), 60)
+
+    async def count_links(self, wanted):
+        return await asyncio.to_thread(self.server.count_links, wanted)
+
+    async def test_two_watches_go_on_over_one_other_link(self):
+        watches = await self.start()
+        for value in "234":
+            self.server.cut()
+            self.put(value)
+            self.assertEqual(await self.told(*watches), [("k|a", value), ("m|a", value)])
+            self.assertEqual(await self.count_links(1), 1)
+
+    async def under_way(self, asking):
+        """A task that asks this, and whose question the server has and does not answer."""
+        self.server.asked.clear()
+        self.server.answers.clear()
+        task = asyncio.ensure_future(asking)
+        while not self.server.asked:
+            await asyncio.sleep(0.01)
+        return task
+
+    async def test_what_waits_for_its_turn_is_sent_over_no_later_link(self):
+        one, other = await self.start()
+        first = await self.under_way(one.__anext__())
+        gets = asyncio.gather(*(self.client.get("k|a") for _ in range(100)), return_exceptions=True)
+        last = asyncio.ensure_future(other.__anext__())
+        await asyncio.sleep(0.05)
+        self.server.end()
+        self.server = Server(self.server.port)
+        # Since the position that the watches have, nothing changed here.
+        self.put("2")
+        self.server.toy.entries += [("z|", "1")] * 5
+        # While the requests fail one by one, the first watch connects anew, and the other one stands behind them.
+        told = await asyncio.wait_for(asyncio.gather(first, last), 60)
+        self.assertEqual(told, [("k|a", "2"), ("m|a", "2")])
+        self.assertEqual({type(error) for error in await gets}, {pequod.LinkLost})
+        self.assertNotIn(["get", "k|a"], self.server.asked)
+
+    async def test_a_new_link_outlives_a_request_over_the_one_before(self):
+        await self.client.put("k|a", "1")
+        asked = await self.under_way(self.client.get("k|a"))
+        loop = asyncio.get_running_loop()
+        made = await loop.create_connection(aio._Link, HOST, self.server.port)
+
+        async def connect_at_once(*_):
+            return made
+
+        with unittest.mock.patch.object(loop, "create_connection", connect_at_once):
+            connecting = asyncio.ensure_future(self.client.reconnect())
+            await asyncio.sleep(0.05)
+            self.server.answers.set()
+            await connecting
+        with self.assertRaises(pequod.LinkLost):
+            await asked
+        self.assertEqual(await self.client.get("k|a"), pequod.Found(1, "1"))
+        self.assertEqual(await self.count_links(1), 1)
+
+    async def test_tasks_that_reconnect_at_once_make_one_link(self):
+        await self.client.put("k|a", "1")
+        self.server.cut()
+        self.server.asked.clear()
+        await asyncio.gather(*(self.client.reconnect() for _ in range(5)))
+        self.assertEqual(await self.client.get("k|a"), pequod.Found(1, "1"))
+        self.assertEqual(self.server.asked, [["get", "pequod|"], ["get", "k|a"]])
+        self.assertEqual(await self.count_links(1), 1)
+
+    async def test_a_client_that_is_closed_while_a_watch_tries_to_connect(self):
+        watch, _ = await self.start()
+        self.server.end()
+        told = asyncio.ensure_future(self.told(watch))
+        while self.client.is_open:
+            await asyncio.sleep(0.01)
+        self.client.close()
+        self.server = Server(self.server.port)
+        with self.assertRaisesRegex(pequod.LinkLost, "the client was closed"):
+            await told
+        self.assertEqual((self.client.is_open, self.server.links), (False, set()))
+
+    async def test_a_client_that_is_closed_while_it_connects(self):
+        watches = await self.start()
+        loop = asyncio.get_running_loop()
+        connect = loop.create_connection
+
+        async def connect_and_close(*words):
+            made = await connect(*words)
+            self.client.close()
+            return made
+
+        self.server.cut()
+        with unittest.mock.patch.object(loop, "create_connection", connect_and_close):
+            told = await asyncio.gather(*(watch.__anext__() for watch in watches), return_exceptions=True)
+        self.assertEqual([(type(error), str(error)) for error in told], [(pequod.LinkLost, "the client was closed")] * 2)
+        self.assertFalse(self.client.is_open)
+        self.assertEqual(await self.count_links(0), 0)
 
 
 if __name__ == "__main__":

@@ -49,7 +49,10 @@ def next_page(client, shop, after, size, at=None):
 
 def refresh(client, first, last, shown, since):
     """Brings the pairs of a range that a page shows, a dictionary, from a position to now, and returns the position that they
-    have then. Where that position cannot be asked for any more, the range is scanned anew."""
+    have then. Where that position cannot be asked for any more, the range is scanned anew.
+
+    `client` is over the link that told the position. Over another one scan anew: the server may have been started anew, and its
+    history may have passed the position by now, so that it answers, and what is shown is wrong."""
     try:
         changes = client.changes(first, last, since)
     except (pequod.Gone, pequod.Ahead):

@@ -198,7 +198,13 @@ class Fresh(Case):
         first, last = "feed|ann|", "feed|ann}"
         pairs = self.client.scan(first, last)
         shown, position = dict(pairs), pairs.position
-        steps = [("put", "post|bob|100", "Hi"), ("put", "post|cat|110", "Hello"), ("put", "post|bob|100", "Ho"), ("put", "follow|ann|cat", "1"), ("remove", "post|bob|100")]
+        steps = [
+            ("put", "post|bob|100", "Hi"),
+            ("put", "post|cat|110", "Hello"),
+            ("put", "post|bob|100", "Ho"),
+            ("put", "follow|ann|cat", "1"),
+            ("remove", "post|bob|100"),
+        ]
         for word, *texts in steps:
             getattr(self.client, word)(*texts)
             position = recipes.refresh(self.client, first, last, shown, position)

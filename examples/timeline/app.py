@@ -18,7 +18,7 @@ import time
 import urllib.parse
 
 import pages
-from cache import SENTINEL, Cache, Gone, pequod
+from cache import SENTINEL, Cache, Unavailable, pequod
 from truth import Truth
 
 FOLDER = pathlib.Path(__file__).resolve().parent
@@ -52,8 +52,8 @@ def people_page(client, first):
 
 
 def user_page(client, user, before, hours):
-    """A user's timeline of some hours with the own posts, whom the user follows, and who is new: all of it at one position, so that
-    the parts agree. The page of the newest posts is one that goes on."""
+    """A user's timeline of some hours with the own posts, whom the user follows, and who is new: all of it at one position, so
+    that the parts agree. The page of the newest posts is one that goes on."""
     with client.pipeline() as pipeline:
         run, total = pipeline.get(SENTINEL), pipeline.get("users|all")
     position, total = total.result().position, int(total.result().value or 0)
@@ -75,8 +75,8 @@ def user_page(client, user, before, hours):
 
 
 def posts_of(user, pairs):
-    """The posts in a user's timeline and among the own ones, as `(poster, moment, text)`. Other clients may have put keys with other
-    times, which are not shown."""
+    """The posts in a user's timeline and among the own ones, as `(poster, moment, text)`. Other clients may have put keys with
+    other times, which are not shown."""
     posts = []
     for key, text in pairs:
         table, _, third, *fourth = key.split("|")
@@ -99,7 +99,9 @@ def user_changes(client, user, run, position, since):
     if ready.result().value != run:
         return None
     posts = posts_of(user, [*read.result(), *own.result()])
-    # The second may have seen more, and then its changes are told once more, which makes no difference.
+    # The second may have seen more than the first, and then the next answer lists that once more, which makes no difference. A
+    # pair that only the second has seen, and that goes before the next question, would stay on the page, since no answer lists it
+    # as gone. That does no harm here: own posts never go.
     return pages.changes([post for post in posts if post[2] is None or post[1] >= since], read.result().position)
 
 
@@ -151,7 +153,7 @@ class Pages(http.server.BaseHTTPRequestHandler):
         position, since = number(words, "position", "[0-9]{1,14}", 0), number(words, "since", "[0-9]{1,16}", 0)
         try:
             told = self.cache.read(user_changes, user, run, position, since)
-        except (*Gone, sqlite3.Error) as error:
+        except (*Unavailable, sqlite3.Error) as error:
             print(f"{type(error).__name__}: {error}", file=sys.stderr)
             self.answer("{}", 503, "application/json")
             return
@@ -191,7 +193,7 @@ class Pages(http.server.BaseHTTPRequestHandler):
             try:
                 page = make_page()
                 break
-            except (*Gone, sqlite3.Error) as error:
+            except (*Unavailable, sqlite3.Error) as error:
                 print(f"{type(error).__name__}: {error}", file=sys.stderr)
                 page = pages.nothing_answers()
         self.answer(page, status)
@@ -238,7 +240,7 @@ def main():
     try:
         # The first read fills the cache.
         Pages.cache.read(lambda client: None)
-    except Gone as error:
+    except Unavailable as error:
         print(f"No cache yet: {error}", file=sys.stderr)
     with http.server.ThreadingHTTPServer(("127.0.0.1", given.port), Pages) as server:
         print(f"http://127.0.0.1:{server.server_port}/", flush=True)

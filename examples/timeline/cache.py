@@ -22,7 +22,7 @@ import pequod  # noqa: E402
 SENTINEL = "ready|timeline"
 TABLES = ("user", "s", "p")
 # What a request can end with where there is no cache.
-Gone = (pequod.PequodError, OSError)
+Unavailable = (pequod.PequodError, OSError)
 
 
 class Cache:
@@ -42,7 +42,7 @@ class Cache:
         with contextlib.ExitStack() as held:
             try:
                 client = held.enter_context(self._pool.client())
-            except Gone:
+            except Unavailable:
                 client = None
             held.enter_context(self._truth.lock())
             pairs = change(*words)
@@ -51,7 +51,7 @@ class Cache:
 
     def read(self, make, *words):
         """Returns what `make` makes with a client of the filled cache. When the link is lost it tries once more, since a cache
-        that was restarted answers by then. It raises one of `Gone` where there is none."""
+        that was restarted answers by then. It raises one of `Unavailable` where there is none."""
         for is_last in (False, True):
             try:
                 with self._pool.client() as client:
@@ -87,7 +87,7 @@ class Cache:
     def _send(self, client, pairs):
         try:
             put_all(client, pairs)
-        except Gone:
+        except Unavailable:
             return False
         return True
 

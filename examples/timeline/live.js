@@ -13,7 +13,6 @@ function show(post) {
   const article = made.content.firstElementChild;
   const moment = Number(article.dataset.moment);
   const older = [...live.querySelectorAll("article")].find((other) => Number(other.dataset.moment) < moment);
-  live.querySelector(".nothing")?.remove();
   live.insertBefore(article, older ?? null);
 }
 
@@ -23,26 +22,35 @@ function loadAgain() {
   if (!typed) location.reload();
 }
 
-async function look() {
+/** What is new, or null where the page has to be loaded again, or nothing where nobody answers now. */
+async function ask() {
   const {user, run, position, since} = live.dataset;
   try {
     const answer = await fetch(`/${user}/changes?${new URLSearchParams({run, position, since})}`);
-    const told = answer.ok ? await answer.json() : undefined;
-    if (told === null) {
-      loadAgain();
-    } else if (told !== undefined) {
-      told.posts.forEach(show);
-      live.dataset.position = told.position;
-      document.querySelector(".position").textContent = `at position ${told.position}`;
-    }
+    return answer.ok ? await answer.json() : undefined;
   } catch {
-    // Nobody answers now. It asks again.
+    return undefined;
+  }
+}
+
+async function look() {
+  const told = await ask();
+  if (told === null) {
+    loadAgain();
+  } else if (told !== undefined) {
+    told.posts.forEach(show);
+    document.getElementById("nothing").hidden = live.querySelector("article") !== null;
+    live.dataset.position = told.position;
+    document.querySelector(".position").textContent = `at position ${told.position}`;
   }
 }
 
 async function lookOn() {
-  if (!document.hidden) await look();
-  setTimeout(lookOn, PAUSE);
+  try {
+    if (!document.hidden) await look();
+  } finally {
+    setTimeout(lookOn, PAUSE);
+  }
 }
 
 if (live !== null) lookOn();

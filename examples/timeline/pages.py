@@ -58,7 +58,8 @@ def changes(posts, position):
 def post_text(poster, moment, text):
     when = datetime.datetime.fromtimestamp(moment / 1e6)
     return (
-        f'<article id="{html.escape(name_of(poster, moment))}" data-moment="{moment}"><p class="who">{link(poster)} <time>{when:%d %B %Y %H:%M}</time></p>'
+        f'<article id="{html.escape(name_of(poster, moment))}" data-moment="{moment}">'
+        f'<p class="who">{link(poster)} <time>{when:%d %B %Y %H:%M}</time></p>'
         f'<p class="text">{html.escape(text)}</p></article>'
     )
 
@@ -81,7 +82,8 @@ def people_without_cache():
 def timeline(user, posts, older, followed, others, position, live=None):
     """A user's page. `older` is what the link to older posts asks for, if there is one. A page that goes on has, in `live`, the run
     of the cache, the position and the moment from which it asks for what is new."""
-    shown = "".join(post_text(*post) for post in posts) or '<p class="nothing">Nothing here.</p>'
+    # The script of the page shows this line and hides it as posts come and go.
+    shown = "".join([f'<p id="nothing"{" hidden" if posts else ""}>Nothing here.</p>', *(post_text(*post) for post in posts)])
     goes_on = "" if live is None else ' id="live" data-user="{}" data-run="{}" data-position="{}" data-since="{}"'.format(
         user, html.escape(live[0]), live[1], live[2]
     )
@@ -90,7 +92,8 @@ def timeline(user, posts, older, followed, others, position, live=None):
     more = "".join(f"<li>{link(name)}{button(user, 'follow', 'Follow', name)}</li>" for name in others)
     return frame(
         f"{user} - Pequod timeline",
-        f'<h1>{user}</h1>{post_form(user)}<div class="columns"><section><h2>Timeline</h2><div{goes_on}>{shown}</div>{older}</section>'
+        f'<h1>{user}</h1>{post_form(user)}<div class="columns">'
+        f'<section><h2>Timeline</h2><div{goes_on}>{shown}</div>{older}</section>'
         f'<aside><h2>You follow</h2><ul>{left or "<li>Nobody yet.</li>"}</ul>'
         f'<h2>New here</h2><ul>{more or "<li>Nobody.</li>"}</ul>'
         f'<p class="position">at position {position}</p></aside></div>',

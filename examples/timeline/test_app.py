@@ -76,13 +76,14 @@ class Pages(Case):
 class Shown(Pages):
     def test_posts_and_follows(self):
         self.assertIn("Nobody yet", self.ask("")[1])
-        self.assertIn("Nothing here", self.ask("ann")[1])
+        self.assertIn('<p id="nothing">Nothing here', self.ask("ann")[1])
         self.assertIn("Hello there", self.ask("bob/post", text="Hello there")[1])
         self.assertIn('value="bob"><button>Follow', self.ask("ann")[1])
         self.assertIn("Hello there", self.ask("ann/follow", poster="bob")[1])
         self.assertIn("Again", self.ask("bob/post", text="Again")[1])
         text = self.ask("ann")[1]
         self.assertLess(text.index("Again"), text.index("Hello there"))
+        self.assertIn('<p id="nothing" hidden>Nothing here', text)
         text = self.ask("")[1]
         self.assertIn('bob</a></td><td>2</td><td>0</td>', text)
         self.assertIn('ann</a></td><td>0</td><td>1</td>', text)
@@ -169,8 +170,9 @@ class Live(Pages):
         self.ask("ann/follow", poster="bob")
 
     def open_page(self, user):
-        found = re.search(r'id="live" data-user="(\w+)" data-run="(\w+)" data-position="(\d+)" data-since="(\d+)"', self.ask(user)[1])
-        return dict(zip(("user", "run", "position", "since"), found.groups()))
+        text = self.ask(user)[1]
+        names = "user", "run", "position", "since"
+        return {name: re.search(rf'<div id="live"[^>]* data-{name}="(\w+)"', text)[1] for name in names}
 
     def changes(self, page):
         """What the script of the page is told, and notes for the next time."""

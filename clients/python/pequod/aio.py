@@ -9,7 +9,8 @@
         print([answer.result().value for answer in answers])
 
 Answers and errors are those of `pequod`. A `Client` takes one request or pipeline after another: tasks that share one wait for
-their turn. A request that is cancelled while it is under way closes the link, since its reply may still come.
+their turn. Where the link is lost or replaced by then, the request is not sent over another one, and raises `LinkLost`. A request
+that is cancelled while it is under way closes the link, since its reply may still come.
 """
 
 from __future__ import annotations
@@ -24,7 +25,7 @@ from .answers import Changes, Done, Pairs, Value
 from .errors import Ahead, Gone, LinkLost, Restarted
 from .exchange import Batch, Exchange, Lines, Pending
 from .runs import PROBE_KEY, Run
-from .watching import Watch
+from .watching import RECONNECT_PAUSE, Watch
 from .wire import (
     Request, changes_request, drop_request, get_request, join_request, prefix_bounds, put_request, remove_request, scan_request,
 )
@@ -38,6 +39,7 @@ class _Link(asyncio.Protocol):
     """One connection: what came of it and was not read yet, and whether it has ended."""
 
     def __init__(self) -> None:
+        self._lines = Lines()
         self._pieces: list[bytes] = []
         self._end: Optional[Exception] = None
         self._came = asyncio.Event()
@@ -68,8 +70,8 @@ class _Link(asyncio.Protocol):
         if self._transport is not None:
             self._transport.write(data)
 
-    async def receive(self, timeout: Optional[float]) -> bytes:
-        """Waits for bytes, and gives all that came."""
+    async def receive(self, timeout: Optional[float]) -> list[bytes]:
+        """Waits for bytes, and gives the lines that end in all that came."""
         if self._end is None and not self._pieces:
             self._came.clear()
             try:
@@ -80,7 +82,7 @@ class _Link(asyncio.Protocol):
             raise self._end
         piece = b"".join(self._pieces)
         self._pieces.clear()
-        return piece
+        return self._lines.take(piece)
 
     def close(self) -> None:
         if self._transport is not None:
@@ -91,17 +93,18 @@ class Client:
     """A connection to a server. `connect` makes one."""
 
     position: int
-    """The last position that was seen in a reply, and 0 before the first. It goes back where a restart is seen, and only
-    there."""
+    """The last position that was told of the whole history, and 0 before the first: that of a scan at an earlier position is
+    left out. It goes back where a restart is seen, and only there."""
 
     def __init__(self, host: str, port: int, timeout: Optional[float]) -> None:
         self.position = 0
         self._run = Run()
         self._where = (host, port)
         self._timeout = timeout
-        self._lines = Lines()
         self._links = 0
+        self._is_closed = False
         self._turn = asyncio.Lock()
+        self._connecting = asyncio.Lock()
         self._link: Optional[_Link] = None
 
     async def put(self, key: str, value: str) -> Done:
@@ -141,7 +144,8 @@ class Client:
         return await self._ask(changes_request(first, last, since))
 
     async def watch(self, first: str, last: str, every: float = 1.0) -> AsyncIterator[tuple[str, Optional[str]]]:
-        """Yields each key of a range with its value, and then each that changes, as that of `pequod.Client` does."""
+        """Yields each key of a range with its value, and then each that changes, as that of `pequod.Client` does. Several tasks
+        may watch over one client."""
         watch = Watch(first, last)
         while True:
             try:
@@ -149,8 +153,9 @@ class Client:
             except (Gone, Ahead):
                 watch.begin_anew()
                 continue
-            except LinkLost:
-                await self._reconnect_while(every)
+            except LinkLost as error:
+                watch.lose(error)
+                await self._regain_link()
                 continue
             for each in changed:
                 yield each
@@ -166,29 +171,15 @@ class Client:
         return self._link is not None
 
     async def reconnect(self) -> None:
-        """Connects anew to the same server, as that of `pequod.Client` does."""
-        self.close()
-        await self._connect()
-        await self._look_for_restart()
-
-    async def _reconnect_while(self, every: float) -> None:
-        """Connects anew, and tries so again and again for as long as the timeout says. A restart is no error."""
-        end = None if self._timeout is None else time.monotonic() + self._timeout
-        while True:
-            try:
-                return await self.reconnect()
-            except Restarted:
-                return
-            except OSError:
-                if end is not None and time.monotonic() > end:
-                    raise
-            await asyncio.sleep(every)
+        """Connects anew to the same server, as that of `pequod.Client` does. Where tasks ask for it at once, one of them connects
+        for all, and is alone told of a restart."""
+        self._is_closed = False
+        await self._replace_link(self._link)
 
     def close(self) -> None:
-        """Closes the connection. A client that is closed already stays as it is."""
-        if self._link is not None:
-            self._link.close()
-            self._link = None
+        """Closes the connection. A client that is closed already stays as it is, and only `reconnect` opens it again."""
+        self._is_closed = True
+        self._drop_link()
 
     async def __aenter__(self) -> Client:
         return self
@@ -196,13 +187,44 @@ class Client:
     async def __aexit__(self, *_: object) -> None:
         self.close()
 
+    async def _regain_link(self) -> None:
+        """Connects anew, and tries so again and again for as long as the timeout says. A restart is no error."""
+        end = None if self._timeout is None else time.monotonic() + self._timeout
+        while not self._is_closed:
+            try:
+                return await self._replace_link(None)
+            except Restarted:
+                return
+            except OSError:
+                if end is not None and time.monotonic() > end:
+                    raise
+            await asyncio.sleep(RECONNECT_PAUSE)
+        raise LinkLost("the client was closed")
+
+    async def _replace_link(self, old: Optional[_Link]) -> None:
+        """Makes a new link in place of the old one, or of one that was lost, unless another task has done so by then."""
+        async with self._connecting:
+            if self._link is None or self._link is old:
+                self._drop_link()
+                await self._connect()
+                await self._look_for_restart()
+
+    def _drop_link(self) -> None:
+        if self._link is not None:
+            self._link.close()
+            self._link = None
+
     async def _connect(self) -> None:
-        self._lines = Lines()
         making = asyncio.get_running_loop().create_connection(_Link, *self._where)
         try:
-            _, self._link = await asyncio.wait_for(making, self._timeout)
+            _, link = await asyncio.wait_for(making, self._timeout)
         except asyncio.TimeoutError:
             raise TimeoutError("timed out") from None
+        if self._is_closed:
+            # By another task, meanwhile.
+            link.close()
+            raise LinkLost("the client was closed")
+        self._link = link
         self._links += 1
 
     async def _look_for_restart(self) -> None:
@@ -222,17 +244,23 @@ class Client:
 
     async def _exchange(self, asked: Sequence[Pending[Any]]) -> None:
         """Sends all requests and takes their replies. Where that ends early, replies may be on their way that nobody could
-        tell from those of later requests, so the link is closed, and all that is not answered yet is answered by `LinkLost`."""
+        tell from those of later requests, so the link is closed, and all that is not answered yet is answered by `LinkLost`.
+
+        What is asked may name a position, and over another link that may be one of another run. So it goes over the link that
+        stood when it was asked, or over none."""
+        link = self._link
         async with self._turn:
-            if self._link is None:
+            if link is None or link is not self._link:
                 raise LinkLost("the link is closed, and nothing was sent")
             exchange = Exchange(asked)
             try:
-                self._link.send(exchange.sent())
+                link.send(exchange.sent())
                 while not exchange.is_answered:
-                    exchange.take(self._lines.take(await self._link.receive(self._timeout)))
+                    exchange.take(await link.receive(self._timeout))
             except BaseException as error:
-                self.close()
+                # Another task may have replaced it meanwhile.
+                if link is self._link:
+                    self._drop_link()
                 lost = exchange.lose(error)
                 if isinstance(error, OSError):
                     raise lost from error

@@ -11,7 +11,7 @@ from .answers import Changes, Done, Pairs, Value
 from .errors import Ahead, Gone, LinkLost, Restarted
 from .exchange import PIECE_BYTES, Batch, Exchange, Lines, Pending
 from .runs import PROBE_KEY, Run
-from .watching import Watch
+from .watching import RECONNECT_PAUSE, Watch
 from .wire import (
     Request, changes_request, drop_request, get_request, join_request, prefix_bounds, put_request, remove_request, scan_request,
 )
@@ -23,8 +23,8 @@ class Client:
     """A connection to a server. `connect` makes one. It is for one thread at a time."""
 
     position: int
-    """The last position that was seen in a reply, and 0 before the first. It goes back where a restart is seen, and only
-    there."""
+    """The last position that was told of the whole history, and 0 before the first: that of a scan at an earlier position is
+    left out. It goes back where a restart is seen, and only there."""
 
     def __init__(self, host: str = "127.0.0.1", port: int = 7000, timeout: Optional[float] = 10.0) -> None:
         self.position = 0
@@ -33,6 +33,7 @@ class Client:
         self._timeout = timeout
         self._lines = Lines()
         self._links = 0
+        self._is_closed = False
         self._socket: Optional[socket.socket] = None
         self._connect()
 
@@ -78,7 +79,12 @@ class Client:
 
         Where the position that it last saw is gone, or the link was lost, it scans the whole range anew, and yields what is
         another pair than it yielded before. It connects anew by itself, for as long as the client's timeout says, and then
-        raises what was in the way. The client can be used for other requests between two pairs."""
+        raises what was in the way. Where the link is lost twice with no answer between, as by a scan that takes longer than the
+        timeout, it raises `LinkLost` rather than ask again and again. It does so too where the client was closed. `OutOfMemory`
+        and other refusals end it as well.
+
+        The client can be used for other requests between two pairs. But give a watch a client of its own, and none of a pool: a
+        restart is no error to it, so `on_restart` is not called, and no other request over the client is told."""
         watch = Watch(first, last)
         while True:
             try:
@@ -86,8 +92,9 @@ class Client:
             except (Gone, Ahead):
                 watch.begin_anew()
                 continue
-            except LinkLost:
-                self._reconnect_while(every)
+            except LinkLost as error:
+                watch.lose(error)
+                self._regain_link()
                 continue
             yield from changed
             time.sleep(every)
@@ -108,14 +115,26 @@ class Client:
         before that position. The client is open then too. It raises an OSError where no connection can be made. A client of
         a pool is rather given back, and the pool connects anew.
         """
-        self.close()
+        self._is_closed = False
+        self._drop_link()
         self._connect()
         self._look_for_restart()
 
-    def _reconnect_while(self, every: float) -> None:
+    def close(self) -> None:
+        """Closes the connection. A client that is closed already stays as it is, and only `reconnect` opens it again."""
+        self._is_closed = True
+        self._drop_link()
+
+    def __enter__(self) -> Client:
+        return self
+
+    def __exit__(self, *_: object) -> None:
+        self.close()
+
+    def _regain_link(self) -> None:
         """Connects anew, and tries so again and again for as long as the timeout says. A restart is no error."""
         end = None if self._timeout is None else time.monotonic() + self._timeout
-        while True:
+        while not self._is_closed:
             try:
                 return self.reconnect()
             except Restarted:
@@ -123,19 +142,13 @@ class Client:
             except OSError:
                 if end is not None and time.monotonic() > end:
                     raise
-            time.sleep(every)
+            time.sleep(RECONNECT_PAUSE)
+        raise LinkLost("the client was closed")
 
-    def close(self) -> None:
-        """Closes the connection. A client that is closed already stays as it is."""
+    def _drop_link(self) -> None:
         if self._socket is not None:
             self._socket.close()
             self._socket = None
-
-    def __enter__(self) -> Client:
-        return self
-
-    def __exit__(self, *_: object) -> None:
-        self.close()
 
     def _connect(self) -> None:
         self._lines = Lines()
@@ -170,7 +183,7 @@ class Client:
             else:
                 self._do_many(self._socket, exchange)
         except BaseException as error:
-            self.close()
+            self._drop_link()
             lost = exchange.lose(error)
             if isinstance(error, OSError):
                 raise lost from error

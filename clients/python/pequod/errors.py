@@ -12,8 +12,9 @@ class PequodError(Exception):
 class NotServed(PequodError):
     """A request that the server did not serve: it did nothing.
 
-    `kind` is the request, as `put`. `key` is the key that it named, of a scan its first bound, of a join its text. `number` is
-    its place among the requests of its pipeline, counted from 0, and None where it stood in none.
+    `kind` is the request, as `put`. `key` is the key that it named, of a scan or of `changes` its first bound, of a join its
+    text, of a drop its position. `number` is its place among the requests of its pipeline, counted from 0, and None where it
+    stood in none.
     """
 
     kind: str = ""

@@ -38,7 +38,7 @@ class Pending(Generic[T]):
         return self._answer if isinstance(self._answer, PequodError) else None
 
     def _take(self, line: bytes) -> Optional[int]:
-        """Takes the reply, and gives its position, where it is that of the history."""
+        """Takes the reply, and gives its position where that is one of the whole history."""
         answer = read_reply(line)
         earlier = self._request.earlier
         if not isinstance(answer, (*self._request.answers, NotServed)):
@@ -50,7 +50,6 @@ class Pending(Generic[T]):
             answer._of(self._request.kind, self._request.key, self._number)
         self._answer = answer
         return None if isinstance(answer, OutOfMemory) or is_back else answer.position
-
 
 
 class Lines:
@@ -78,7 +77,8 @@ class Exchange:
         self._asked = asked
         self._answered = 0
         self.position: Optional[int] = None
-        """The position of the last reply that had one."""
+        """The last position that a reply told of the whole history, and None where none did: that of a scan at an earlier
+        position is left out."""
 
     def sent(self) -> bytes:
         """What is to be sent."""

@@ -5,7 +5,6 @@ from __future__ import annotations
 import threading
 
 
-
 class Run:
     """What was told of one run of a server: the greatest position in its replies. The clients of a pool share it.
 

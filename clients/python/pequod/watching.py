@@ -5,7 +5,11 @@ from __future__ import annotations
 from typing import Optional, Union
 
 from .answers import Changes, Pairs
+from .errors import LinkLost
 from .wire import Request, changes_request, scan_request
+
+RECONNECT_PAUSE = 0.2
+"""How many seconds a watch waits between two attempts to connect."""
 
 
 class Watch:
@@ -16,8 +20,9 @@ class Watch:
         self._pairs: dict[str, str] = {}
         self._since: Optional[int] = None
         self._link = 0
+        self._was_lost = False
 
-    def request(self, link: int) -> Union[Request[Pairs], Request[Changes]]:
+    def request(self, link: int) -> Request[Union[Pairs, Changes]]:
         """What to ask over the link with this number: what changed, or all pairs. On another link than before there may be
         another run of the server, with positions of its own."""
         if link != self._link:
@@ -36,11 +41,21 @@ class Watch:
             else:
                 self._pairs[key] = value
         self._since = answer.position
+        self._was_lost = False
         return changed
 
     def begin_anew(self) -> None:
         """All pairs are asked for next."""
         self._since = None
+
+    def lose(self, error: LinkLost) -> None:
+        """Notes that the link was lost before the answer came. It raises the error where that is the second time since the last
+        answer: a scan that takes longer than the timeout would be asked without an end, each time at the server's cost. Where
+        nothing was sent, another request has lost the link, which does not count."""
+        if error.unanswered:
+            if self._was_lost:
+                raise error
+            self._was_lost = True
 
     def _compared(self, pairs: dict[str, str]) -> list[tuple[str, Optional[str]]]:
         """Each key that has another pair here than was told, in byte order."""

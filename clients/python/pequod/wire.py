@@ -11,14 +11,14 @@ from .errors import Ahead, BadReply, Gone, OutOfMemory, Refused
 
 MAX_LINE_BYTES = 1_048_576
 
-T = TypeVar("T")
+T_co = TypeVar("T_co", covariant=True)
 
 
 # Requests.
 
 
 @dataclass(frozen=True)
-class Request(Generic[T]):
+class Request(Generic[T_co]):
     """A line to send, and which answers it may have."""
 
     kind: str

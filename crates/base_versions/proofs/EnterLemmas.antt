@@ -1,23 +1,24 @@
 -- What is kept of a history, through one entry more.
-use Rattle.std.proofs.Common.{◌≡◌, ℕ, ◌+◌, List, [], ◌∷◌, ◌++◌, length, length-append, Bool, true, false, cond, ◌==◌, Option, Some, refl, sym, ap, ◌∙◌, subst, Result, Ok, Err, OnOk, OnErr, IfOk, is_eq}
+use Rattle.std.proofs.Common.{◌≡◌, ℕ, ◌+◌, List, [], ◌∷◌, ◌++◌, length, length-append, Bool, true, false, cond, ◌==◌, Option, refl, sym, ap, ◌∙◌, subst, Result, Ok, Err, OnOk, OnErr, IfOk}
 use Rattle.std.specs.Bool.{MatchBool}
 use Rattle.std.specs.Map.{lookup}
 use Rattle.std.specs.Option.{unwrap_or}
-use Rattle.std.specs.BTreeMap.{BTreeMap, is_at, get_by_text, UpdatesBy}
+use Rattle.std.specs.BTreeMap.{is_at}
 use Rattle.std.specs.Cmp.Lexicographic.{slice_cmp}
 use Rattle.std.specs.Ordering.{nat_cmp}
-use Rattle.std.specs.String.{string_bytes, string_cmp}
+use Rattle.std.specs.String.{string_bytes}
 use Rattle.std.specs.declared.string.String.{String}
 use Rattle.std.proofs.lemmas.Bool.{false≢true, false_from_ne_true}
 use Rattle.std.proofs.lemmas.List.{append-nil}
-use Rattle.std.proofs.lemmas.Map.Text.{btree_map_updates_text}
-use Rattle.semantics.specs.Texts.{Text, same, text_cmp, table_of}
+use Rattle.semantics.specs.Texts.{Text, same, table_of}
 use Rattle.semantics.specs.Histories.{Write, Entry, History}
 use Rattle.semantics.proofs.PieceLemmas.{equal_by_same, same_by_equal}
 use Rattle.base_versions.specs.declared.versions.Version.{Version}
+use Rattle.base_versions.specs.Named.{named}
 use Rattle.base_versions.specs.Versions.{version_by, versions_at, versions_of, SayFrom, AddsVersion, KeepsVersions}
 use Rattle.base_versions.specs.Changes.{change_by, changes_of}
-use Rattle.base_versions.specs.Kept.{TableKept, Tables, Kept, empty_table, named, table_among, table_in, shard_of, has_table, IsEntered, IsKept, IsChanged, StandsFor}
+use Rattle.base_versions.specs.Kept.{TableKept, Tables, Kept, empty_table, table_among, table_in, shard_of, has_table, IsEntered, IsKept, IsChanged, StandsFor}
+use Rattle.base_versions.proofs.NamedLemmas.{IsSetAt, among_found, here, elsewhere}
 use Rattle.base_versions.proofs.VersionLemmas.{versions_of-push, say_from_all, say_from-append}
 use Rattle.base_versions.proofs.ChangeLemmas.{changes_of-push}
 use Rattle.base_versions.proofs.PositionLemmas.{kept_since_all, kept_since-append}
@@ -26,53 +27,22 @@ use Rattle.base_versions.specs.declared.changes.Change.{Change}
 
 -- ---- tables in a map
 
--- a look-up by text finds the table of the name
-pub lookup_named : {A : Type 0} (q : Text) (es : List (String A × TableKept)) → lookup (is_at (text_cmp q)) (named es) ≡ lookup (is_at (λ k. slice_cmp nat_cmp q (string_bytes k))) es
-lookup_named q [] = refl
-lookup_named q (e ∷ es) = ap (cond (is_eq (slice_cmp nat_cmp q (string_bytes e.0))) (Some e.1)) (lookup_named q es)
-
--- what a look-up finds is the table of the name, or there is none
-pub among_found : {A : Type 0} (name table : Text) (es : List (String A × TableKept)) (o : Option TableKept) → name ≡ table →
-    o ≡ lookup (is_at (λ k. slice_cmp nat_cmp name (string_bytes k))) es → table_among table (named es) ≡ unwrap_or o empty_table
-among_found name table es o same_name e = ap (λ x. table_among x (named es)) (sym same_name) ∙ ap (λ x. unwrap_or x empty_table) (lookup_named name es ∙ sym e)
-
 -- what a look-up finds is what is kept of the table, or nothing is
 pub table_found : {A : Type 0} (kept : Kept) (view : Kept) (name table : Text) (es : List (String A × TableKept)) (o : Option TableKept) → view ≡ kept → view.tables ≡ named es → name ≡ table →
     o ≡ lookup (is_at (λ k. slice_cmp nat_cmp name (string_bytes k))) es → table_in table kept ≡ unwrap_or o empty_table
 table_found kept view name table es o is all same_name e =
-    ap (λ k. table_in table k) (sym is) ∙ ap (table_among table) all ∙ among_found name table es o same_name e
-
--- the new tables have this one at the name, and at every other name what was there
-abbrev pub IsSetTable : Text → TableKept → Tables → Tables → Type 0
-IsSetTable name table old new = (q : Text) → table_among q new ≡ cond (same name q) table (table_among q old)
-
-found_either : (b : Bool) (table : TableKept) (o : Option TableKept) → unwrap_or (cond b (Some table) o) empty_table ≡ cond b table (unwrap_or o empty_table)
-found_either true table o = refl
-found_either false table o = refl
-
--- a map that is changed at one name
-pub set-from_updates : {A : Type 0} (name : Text) (table : TableKept) (m n : BTreeMap (String A) TableKept) → UpdatesBy string_cmp (λ k. slice_cmp nat_cmp name (string_bytes k)) m n (Some table) → IsSetTable name table (named m.entries) (named n.entries)
-set-from_updates name table m n u = λ q.
-    ap (λ x. unwrap_or x empty_table) (lookup_named q n.entries ∙ btree_map_updates_text name m n (Some table) u q)
-    ∙ found_either (same name q) table (get_by_text m q)
-    ∙ ap (λ x. cond (same name q) table (unwrap_or x empty_table)) (sym (lookup_named q m.entries))
-
-pub here : (name : Text) (table : TableKept) (old new : Tables) → IsSetTable name table old new → table_among name new ≡ table
-here name table old new set = set name ∙ ap (λ b. cond b table (table_among name old)) (same_by_equal name name refl)
-
-elsewhere : (name q : Text) (table : TableKept) (old new : Tables) → IsSetTable name table old new → same name q ≡ false → table_among q new ≡ table_among q old
-elsewhere name q table old new set e = set q ∙ ap (λ b. cond b table (table_among q old)) e
+    ap (λ k. table_in table k) (sym is) ∙ ap (table_among table) all ∙ among_found empty_table name table es o same_name e
 
 -- the key's table has one version and one change more
-pub entered-from_set : (position : ℕ) (key : Text) (value : Option Text) (before table : TableKept) (old new : Tables) → IsSetTable (table_of key) table old new → before ≡ table_among (table_of key) old →
+pub entered-from_set : (position : ℕ) (key : Text) (value : Option Text) (before table : TableKept) (old new : Tables) → IsSetAt empty_table (table_of key) table old new → before ≡ table_among (table_of key) old →
     AddsVersion key (record { position = position; value = value }) before.tracks table.tracks → table.changes ≡ before.changes ++ record { position = position; key = key } ∷ [] → IsEntered position key value old new
 entered-from_set position key value before table old new set was versions changes =
-    let is = sym (here (table_of key) table old new set) in
+    let is = sym (here empty_table (table_of key) table old new set) in
     record {
       versions = subst (λ (t : TableKept). AddsVersion key (record { position = position; value = value }) t.tracks (table_among (table_of key) new).tracks) was
           (subst (λ (t : TableKept). AddsVersion key (record { position = position; value = value }) before.tracks t.tracks) is versions);
       changes = ap (λ (t : TableKept). t.changes) (sym is) ∙ changes ∙ ap (λ (t : TableKept). t.changes ++ record { position = position; key = key } ∷ []) was;
-      others = λ q e. elsewhere (table_of key) q table old new set e;
+      others = λ q e. elsewhere empty_table (table_of key) q table old new set e;
     }
 
 kept_by : (name q : Text) (before table : TableKept) (old : Tables) (b : Bool) → same name q ≡ b → before ≡ table_among name old → KeepsVersions before.tracks table.tracks → table.changes ≡ before.changes →
@@ -83,7 +53,7 @@ kept_by name q before table old true e was versions changes =
 kept_by name q before table old false e was versions changes = ((λ k. refl), refl)
 
 -- each table has the same versions and changes
-pub kept-from_set : (name : Text) (before table : TableKept) (old new : Tables) → IsSetTable name table old new → before ≡ table_among name old → KeepsVersions before.tracks table.tracks → table.changes ≡ before.changes → IsKept old new
+pub kept-from_set : (name : Text) (before table : TableKept) (old new : Tables) → IsSetAt empty_table name table old new → before ≡ table_among name old → KeepsVersions before.tracks table.tracks → table.changes ≡ before.changes → IsKept old new
 kept-from_set name before table old new set was versions changes =
     record {
       versions = λ q. subst (λ (t : TableKept). KeepsVersions (table_among q old).tracks t.tracks) (sym (set q)) (kept_by name q before table old (same name q) refl was versions changes).0;

@@ -4,9 +4,12 @@ pub mod TrimLemmas
 pub mod ChangeLemmas
 pub mod OrderLemmas
 pub mod MapLemmas
+pub mod NamedLemmas
 pub mod StandsLemmas
 pub mod EnterLemmas
 pub mod TableTrims
 pub mod OwnLemmas
 pub mod ChangedLemmas
 pub mod NewestLemmas
+pub mod GroupLemmas
+pub mod GroupedLemmas

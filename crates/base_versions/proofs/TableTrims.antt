@@ -1,13 +1,8 @@
 -- Tables without what nobody asks for who asks from a position on.
-use Rattle.std.proofs.Common.{◌≡◌, ℕ, ◌≤◌, List, [], ◌∷◌, length, Bool, true, false, cond, Option, None, Some, refl, sym, ap, ◌∙◌, subst, is_eq, arith}
+use Rattle.std.proofs.Common.{◌≡◌, ℕ, ◌≤◌, List, [], ◌∷◌, length, Bool, true, false, cond, None, refl, sym, ap, ◌∙◌, subst, arith}
 use Rattle.std.specs.Map.{lookup, remove_entry}
 use Rattle.std.specs.Option.{unwrap_or}
-use Rattle.std.specs.BTreeMap.{BTreeMap, is_at, get_by_text, UpdatesBy}
-use Rattle.std.specs.Cmp.Lexicographic.{slice_cmp}
-use Rattle.std.specs.Ordering.{nat_cmp}
-use Rattle.std.specs.String.{string_bytes, string_cmp}
-use Rattle.std.specs.declared.string.String.{String}
-use Rattle.std.proofs.lemmas.Map.Text.{btree_map_updates_text}
+use Rattle.std.specs.BTreeMap.{is_at}
 use Rattle.semantics.specs.Texts.{Text, same, text_cmp, table_of}
 use Rattle.semantics.specs.Histories.{History}
 use Rattle.semantics.proofs.PieceLemmas.{equal_by_same, same_itself}
@@ -17,11 +12,12 @@ use Rattle.base_versions.specs.declared.changes.Change.{Change}
 use Rattle.base_versions.specs.Positions.{IsKeptSince, KeepsTo}
 use Rattle.base_versions.specs.Versions.{AscendFrom, Tracks, SayFrom, versions_at, versions_of, KeepsVersions, TrimsTo, TrimsTracks}
 use Rattle.base_versions.specs.Changes.{changes_of}
-use Rattle.base_versions.specs.Kept.{TableKept, Tables, Kept, empty_table, named, table_among, table_in, has_table, IsTrimmedTo, StandsFor}
+use Rattle.base_versions.specs.Kept.{TableKept, Tables, Kept, empty_table, table_among, table_in, has_table, IsTrimmedTo, StandsFor}
 use Rattle.base_versions.proofs.MapLemmas.{AreKeys, IsSet, set_by}
 use Rattle.base_versions.proofs.VersionLemmas.{ascend-say_from}
 use Rattle.base_versions.proofs.TrimLemmas.{trims-same, trims-both, trims-ascend, keeps-same}
-use Rattle.base_versions.proofs.EnterLemmas.{lookup_named, IsSetTable, same_shard}
+use Rattle.base_versions.proofs.NamedLemmas.{IsSetAt}
+use Rattle.base_versions.proofs.EnterLemmas.{same_shard}
 
 -- ---- the keys of one table
 
@@ -84,7 +80,7 @@ trimmed_by to name q before table old false e was versions changes =
     (trims-tracks_same to (table_among q old).tracks, keeps-same of_change to (table_among q old).changes)
 
 -- one table says the same from a later position on, and the others what they said
-pub trimmed-from_set : (to : ℕ) (name : Text) (before table : TableKept) (old new : Tables) → IsSetTable name table old new → before ≡ table_among name old → TrimsTracks to before.tracks table.tracks → KeepsTo of_change to before.changes table.changes →
+pub trimmed-from_set : (to : ℕ) (name : Text) (before table : TableKept) (old new : Tables) → IsSetAt empty_table name table old new → before ≡ table_among name old → TrimsTracks to before.tracks table.tracks → KeepsTo of_change to before.changes table.changes →
     IsTrimmedTo to old new
 trimmed-from_set to name before table old new set was versions changes =
     record {
@@ -115,23 +111,6 @@ trimmed-kept to old mid new trims same_tables = record {
   versions = λ q. subst (λ (t : TableKept). TrimsTracks to (table_among q old).tracks t.tracks) (sym (same_tables q)) (trims.versions q);
   changes = λ q. subst (λ (t : TableKept). KeepsTo of_change to (table_among q old).changes t.changes) (sym (same_tables q)) (trims.changes q);
 }
-
-gone_either : (b : Bool) (o : Option TableKept) → unwrap_or (cond b None o) empty_table ≡ cond b empty_table (unwrap_or o empty_table)
-gone_either true o = refl
-gone_either false o = refl
-
-empty_by : (name q : Text) (old : Tables) (b : Bool) → same name q ≡ b → table_among name old ≡ empty_table → cond b empty_table (table_among q old) ≡ table_among q old
-empty_by name q old true e empty = sym empty ∙ ap (λ n. table_among n old) (equal_by_same name q e)
-empty_by name q old false e empty = refl
-
--- an empty table is taken out
-pub same-from_taken : {A : Type 0} (name : Text) (m n : BTreeMap (String A) TableKept) → UpdatesBy string_cmp (λ k. slice_cmp nat_cmp name (string_bytes k)) m n None → table_among name (named m.entries) ≡ empty_table →
-    (q : Text) → table_among q (named n.entries) ≡ table_among q (named m.entries)
-same-from_taken name m n u empty q =
-    ap (λ x. unwrap_or x empty_table) (lookup_named q n.entries ∙ btree_map_updates_text name m n None u q)
-    ∙ gone_either (same name q) (get_by_text m q)
-    ∙ ap (λ x. cond (same name q) empty_table (unwrap_or x empty_table)) (sym (lookup_named q m.entries))
-    ∙ empty_by name q (named m.entries) (same name q) refl empty
 
 -- ---- what is kept of a history
 

@@ -1,14 +1,13 @@
 -- What is kept of a history, and which histories it stands for.
-use Rattle.std.specs.Prelude.{◌≡◌, ◌⊎◌, filter, ℕ, ◌+◌, ◌<◌, ◌%◌, ◌==◌, List, [], ◌∷◌, ◌++◌, length, map, sum, take, string_bytes, Bool, true, false, Option}
-use Rattle.std.specs.declared.string.String.{String}
+use Rattle.std.specs.Prelude.{◌≡◌, ◌⊎◌, filter, ℕ, ◌+◌, ◌<◌, ◌%◌, ◌==◌, List, [], ◌∷◌, ◌++◌, length, sum, take, Bool, true, false, Option}
 use Rattle.std.specs.Bool.{MatchBool}
-use Rattle.std.specs.BTreeMap.{is_at}
-use Rattle.std.specs.Map.{lookup}
-use Rattle.std.specs.Option.{unwrap_or}
+use Rattle.std.specs.List.Sorted.{IsStrictlySortedBy}
+use Rattle.std.specs.Map.{keys_of}
 use Rattle.semantics.specs.Texts.{Text, same, table_of, text_cmp, Range, within}
 use Rattle.semantics.specs.Histories.{History}
 use Rattle.base_versions.specs.declared.changes.Change.{Change}
-use Rattle.base_versions.specs.Versions.{Tracks, SayFrom, keys_changed, versions_at, versions_of, AddsVersion, KeepsVersions, TrimsTracks}
+use Rattle.base_versions.specs.Named.{among}
+use Rattle.base_versions.specs.Versions.{Tracks, AllAscend, SayFrom, keys_changed, versions_at, versions_of, AddsVersion, KeepsVersions, TrimsTracks}
 use Rattle.base_versions.specs.Changes.{changes_of, changed_in}
 use Rattle.base_versions.specs.Positions.{IsKeptSince, KeepsTo}
 
@@ -17,18 +16,18 @@ pub record TableKept : Type 0 where
   pub tracks : Tracks
   pub changes : List Change
 
+-- the keys were found by versions: the keys of the table are in order, and these are those of the range that have a version after the first q entries, up to the p-th, if the versions of each ascend
+pub record IsFoundByVersions (q p : ℕ) (range : Range) (table : TableKept) (keys : List Text) : Type 0 where
+  pub ordered : IsStrictlySortedBy text_cmp (keys_of table.tracks)
+  pub found : AllAscend (filter (λ track. within range track.0) table.tracks) → keys ≡ keys_changed q p (filter (λ track. within range track.0) table.tracks)
+
 -- the keys of a range that are changed after the first q entries, up to the p-th: by the table's changes, or by the versions of the range's keys
 abbrev pub FindsChanged : ℕ → ℕ → Range → TableKept → List Text → Type 0
-FindsChanged q p range table keys =
-    (keys ≡ changed_in q p range table.changes) ⊎ (keys ≡ keys_changed q p (filter (λ track. within range track.0) table.tracks))
+FindsChanged q p range table keys = (keys ≡ changed_in q p range table.changes) ⊎ IsFoundByVersions q p range table keys
 
 -- of several tables, in the order of their names
 abbrev pub Tables : Type 0
 Tables = List (Text × TableKept)
-
--- the tables of a map, whose names are texts
-abbrev pub named : {A : Type 0} → List (String A × TableKept) → Tables
-named ts = map (λ t. (string_bytes t.0, t.1)) ts
 
 -- of the tables of one shard: which shard, of how many, from which position on, the number of entries, and what is kept of each table
 pub record Kept : Type 0 where
@@ -44,7 +43,7 @@ empty_table = record { tracks = []; changes = [] }
 
 -- what is kept of a table among several
 abbrev pub table_among : Text → Tables → TableKept
-table_among table tables = unwrap_or (lookup (is_at (text_cmp table)) tables) empty_table
+table_among table tables = among empty_table table tables
 
 -- what is kept of a table
 abbrev pub table_in : Text → Kept → TableKept

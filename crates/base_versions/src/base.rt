@@ -5,7 +5,8 @@ ghost use Rattle.semantics.specs.Histories.{History, base_of};
 ghost use Rattle.growing_history.specs.Changes.{changed_keys};
 ghost use Rattle.join_types.specs.Writes.{plain_write};
 ghost use Rattle.base_versions.specs.Own.{AreOwn, shard_written};
-ghost use Rattle.base_versions.specs.Kept.{StandsFor, HasEnteredInPart, IsChanged, IsEntered, IsKept, IsTrimmedTo, empty_table, has_table, named, shard_of, table_among};
+ghost use Rattle.base_versions.specs.Kept.{StandsFor, HasEnteredInPart, IsChanged, IsEntered, IsKept, IsTrimmedTo, empty_table, has_table, shard_of, table_among};
+ghost use Rattle.base_versions.specs.Named.{named};
 
 use crate::changes::{Change, take_early};
 use crate::placed::Placed;
@@ -21,8 +22,8 @@ use steps::Steps;
 
 /// The base pairs of some tables at every position from its start to its own: of those whose name's bytes have a sum that is,
 /// modulo the number of shards, the number of its shard. It keeps no entries, but for each key the versions that the
-/// entries gave it, and for each table the keys that were put or removed, in order. Trimming it lets go what is older than a
-/// position, but for what still stands there.
+/// entries gave it, and for each table the keys that were put or removed, in order, and once more by groups of keys. Trimming it
+/// lets go what is older than a position, but for what still stands there.
 #[derive(Debug, Drop)]
 pub struct BaseVersions {
     alloc: Global,
@@ -36,7 +37,8 @@ pub struct BaseVersions {
 
 impl Model for BaseVersions {
     ghost use Rattle.std.specs.Prelude.{◌<◌, ◌≤◌, ◌^◌};
-    ghost use Rattle.base_versions.specs.Kept.{Kept, named};
+    ghost use Rattle.base_versions.specs.Named.{named};
+    ghost use Rattle.base_versions.specs.Kept.{Kept};
 
     ghost Value = { Kept };
 
@@ -81,7 +83,7 @@ impl BaseVersions {
         self.start
     }
 
-    /// The entries enter, which follow its position. Each costs a look-up of its table and of its key.
+    /// The entries enter, which follow its position. Each costs a look-up of its table, of its key and of its group.
     ///
     /// On `OutOfMemory` some first entries have entered, each of them whole.
     pub fn advance(&mut self, entries: &[Entry]) -> Result<(), OutOfMemory>
@@ -100,7 +102,7 @@ impl BaseVersions {
     }
 
     /// The entries up to a position enter, which follow its own, and of which it is given those that put or remove keys of its
-    /// tables. Each of these costs a look-up of its table and of its key, and the others nothing.
+    /// tables. Each of these costs a look-up of its table, of its key and of its group, and the others nothing.
     ///
     /// On `OutOfMemory` some first entries have entered, each of them whole.
     pub fn advance_own(&mut self, own: &[Placed], to: u64) -> Result<(), OutOfMemory>
@@ -164,9 +166,10 @@ impl BaseVersions {
         }
     }
 
-    /// The keys of the range that are put or removed after the first q entries, up to the p-th: in order, each once. It
-    /// costs the searches for the range and for these changes of its table, and then a look at each key of the range that
-    /// stands or changed since the start, or at each of these changes, whichever are fewer; the keys of the changes are sorted.
+    /// The keys of the range that are put or removed after the first q entries, up to the p-th: in order, each once. It costs the
+    /// search for these changes: of the range's group where it lies inside one, and otherwise of its table. At most 16 are sorted. Of
+    /// more it costs the search for the range too, and then a look at each key of the range that stands or changed since the start, or
+    /// to sort these changes, whichever are fewer.
     ///
     /// The steps are as many as the keys, and one. On `OutOfMemory` they are not counted.
     pub fn changed<L: Ledger>(
@@ -261,7 +264,8 @@ impl BaseVersions {
     /// Lets go what nobody asks for who asks from a position on: the changes up to there, and of each of their keys the versions
     /// up to there but the last, or that too where it is a removal and no other follows. Nothing is allocated.
     ///
-    /// It costs a look-up for each of these changes. So a caller who must not be long goes on in steps of some hundred positions.
+    /// It costs look-ups of the table, of the key and of its group for each of these changes. So a caller who must not be long goes on
+    /// in steps of some hundred positions.
     pub fn trim(&mut self, to: u64)
         requires order { self.old.start ≤ to }
         requires within { to ≤ self.old.position }

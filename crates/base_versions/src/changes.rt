@@ -1,5 +1,5 @@
 // The changes of one table.
-ghost use Rattle.std.specs.Prelude.{◌≡◌, ◌+◌, ◌-◌, ◌<◌, ◌≤◌, IfOk, IfSome, drop, filter, length, take};
+ghost use Rattle.std.specs.Prelude.{◌≡◌, ◌+◌, ◌-◌, ◌<◌, ◌≤◌, ◌∷◌, IfOk, IfSome, MatchOption, drop, filter, length, take};
 ghost use Rattle.growing_history.specs.Changes.{in_order};
 ghost use Rattle.base_versions.specs.Positions.{KeepsTo};
 ghost use Rattle.base_versions.specs.Changes.{Ascend, is_between, keys_within};
@@ -62,18 +62,10 @@ fn listed(alloc: Global, sorted: BTreeSet<Key>) -> Result<Vec<Key>, OutOfMemory>
     Ok(keys)
 }
 
-/// Lets go of the room of a queue that is empty: else each table that was ever written often would keep it.
-pub fn let_room_go(changes: &mut VecDeque<Change>)
-    ensures { changes.new.items ≡ changes.old.items }
-{
-    if changes.is_empty() {
-        changes.shrink_to_fit();
-    }
-}
-
 /// Takes the first change out of a queue, where it is not after a position.
 pub fn take_early(changes: &mut VecDeque<Change>, to: u64) -> Option<Change>
     ensures fewer { IfSome result (λ _. length changes.new.items < length changes.old.items) }
+    ensures first { MatchOption result (changes.new.items ≡ changes.old.items) (λ first. changes.old.items ≡ first ∷ changes.new.items) }
     ensures keeps { KeepsTo (λ c. c.position) to changes.old.items changes.new.items }
 {
     match changes.front() {

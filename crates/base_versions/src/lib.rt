@@ -6,9 +6,12 @@
 
 pub mod base;
 mod changes;
+mod group;
+mod groups;
 pub mod laws;
 mod older;
 mod placed;
+mod room;
 mod table;
 mod versions;
 

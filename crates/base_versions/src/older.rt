@@ -2,6 +2,7 @@
 ghost use Rattle.std.specs.Prelude.{◌≡◌, [], ◌∷◌, ◌++◌, IfErr, OnOk, OnErr, option_copied, true};
 ghost use Rattle.base_versions.specs.Versions.{AscendFrom, IsTrimmed, has_between, value_in};
 
+use crate::room::let_room_go;
 use crate::versions::Version;
 use key_space::Value;
 use std::alloc::{AllocFailed, Global};
@@ -67,13 +68,15 @@ impl OlderVersions {
         }
     }
 
-    /// Takes the first version out, where the second is not after a position: nobody asks for it who asks from there on.
+    /// Takes the first version out, where the second is not after a position: nobody asks for it who asks from there on. Room that is
+    /// not needed goes.
     pub fn trim(&mut self, to: u64)
         ensures { AscendFrom 0 self.old → IsTrimmed to self.old self.new }
     {
         match self.queue.get(1) {
             Some(second) if second.position <= to => {
                 self.queue.pop_front();
+                let_room_go(&mut self.queue);
             }
             _ => {}
         }

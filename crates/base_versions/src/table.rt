@@ -1,5 +1,5 @@
 // The versions and the changes of one table.
-ghost use Rattle.std.specs.Prelude.{◌≡◌, [], ◌∷◌, ◌++◌, IfOk, IfSome, OnOk, OnErr, filter, option_copied, true};
+ghost use Rattle.std.specs.Prelude.{◌≡◌, [], ◌∷◌, ◌++◌, IfNone, IfOk, IfSome, OnOk, OnErr, filter, option_copied, true};
 ghost use Rattle.std.specs.List.{AllByRecursion};
 ghost use Rattle.std.specs.List.Sorted.{IsStrictlySortedBy};
 ghost use Rattle.std.specs.Map.{keys_of};
@@ -7,9 +7,13 @@ ghost use Rattle.semantics.specs.Texts.{is_key, text_cmp, within};
 ghost use Rattle.base_versions.specs.Positions.{KeepsTo};
 ghost use Rattle.base_versions.specs.Versions.{AddsVersion, AllAscend, AscendFrom, KeepsVersions, TrimsTracks, keys_changed, pairs_in, value_in, versions_at};
 ghost use Rattle.base_versions.specs.Changes.{Ascend};
+ghost use Rattle.base_versions.specs.Groups.{AreGrouped, HoldsChanges};
 ghost use Rattle.base_versions.specs.Kept.{FindsChanged, empty_table};
 
-use crate::changes::{Change, between, keys_in_order, let_room_go, take_early};
+use crate::changes::{Change, between, keys_in_order, take_early};
+use crate::group::group_within;
+use crate::groups::ChangesByGroup;
+use crate::room::let_room_go;
 use crate::versions::{Version, Versions};
 use join_types::Pair;
 use key_space::{Key, KeyBound, Range, Value};
@@ -19,24 +23,29 @@ use std::collections::{BTreeMap, VecDeque, btree_map};
 use std::marker::Model;
 use std::ops::Bound;
 
-/// The versions of each key of one table, and the table's changes in order of position.
+/// Of so many changes the keys are sorted without a look at how many keys the range has.
+const FEW: usize = 16;
+
+/// The versions of each key of one table, and the table's changes in order of position, which stand once more by groups.
 #[derive(Debug, Drop)]
 pub struct TableVersions {
     tracks: BTreeMap<KeyBound, Versions>,
     changes: VecDeque<Change>,
+    groups: ChangesByGroup,
 }
 
 impl Model for TableVersions {
     ghost use Rattle.std.specs.Prelude.{◌≡◌, true};
     ghost use Rattle.std.specs.List.{AllByRecursion};
     ghost use Rattle.semantics.specs.Texts.{is_key};
+    ghost use Rattle.base_versions.specs.Groups.{AreGrouped};
     ghost use Rattle.base_versions.specs.Kept.{TableKept};
 
     ghost Value = { TableKept };
 
     ghost view = { λ t. record { tracks = t.tracks.entries; changes = t.changes.items } };
 
-    ghost invariant = { λ t. AllByRecursion (λ track. is_key track.0 ≡ true) t.tracks.entries };
+    ghost invariant = { λ t. AllByRecursion (λ track. is_key track.0 ≡ true) t.tracks.entries × AreGrouped t.groups t.changes.items };
 }
 
 impl TableVersions {
@@ -47,11 +56,12 @@ impl TableVersions {
         TableVersions {
             tracks: BTreeMap::new(alloc),
             changes: VecDeque::new(alloc),
+            groups: ChangesByGroup::new(alloc),
         }
     }
 
-    /// The key is given a value at a position, or none. Logarithmic in the keys. On `OutOfMemory` each key has the
-    /// versions that it had.
+    /// The key is given a value at a position, or none. Logarithmic in the keys, and in the groups that have changes. On `OutOfMemory`
+    /// each key has the versions that it had.
     pub fn enter(
         &mut self,
         alloc: Global,
@@ -72,7 +82,9 @@ impl TableVersions {
         let added = add_version(alloc, &mut self.tracks, key, Version { position, value });
         if added.is_err() {
             self.changes.pop_back();
+            return added;
         }
+        self.groups.push(alloc, position, key);
         added
     }
 
@@ -109,9 +121,9 @@ impl TableVersions {
         listed(alloc, p, tracks)
     }
 
-    /// The keys of the range that are put or removed after the first q entries, up to the p-th: in order, each once. It
-    /// takes the searches for the range and for these changes of the table, and then as long as to look at the keys of
-    /// the range or at these changes, whichever are fewer.
+    /// The keys of the range that are put or removed after the first q entries, up to the p-th: in order, each once. It takes the
+    /// search for these changes: of the range's group where it lies inside one, and otherwise of the table. At most 16 are sorted. Of
+    /// more it takes the search for the range too, and then as long as to look at its keys or at these changes, whichever are fewer.
     pub fn changed(
         &self,
         alloc: Global,
@@ -119,25 +131,30 @@ impl TableVersions {
         p: u64,
         range: &Range,
     ) -> Result<Vec<Key>, OutOfMemory>
-        ensures ordered { OnOk result (IsStrictlySortedBy text_cmp (keys_of self.now.tracks)) }
-        ensures keys { Ascend 0 self.now.changes → AllAscend (filter (λ track. within range.now track.0) self.now.tracks) → IfOk result (λ keys. FindsChanged q p range.now self.now keys.items) }
+        ensures { Ascend 0 self.now.changes → IfOk result (λ keys. FindsChanged q p range.now self.now keys.items) }
     {
-        let (first, last) = between(&self.changes, q, p);
+        let Some(changes) = changes_for(&self.changes, &self.groups, range) else {
+            return Ok(Vec::new(alloc));
+        };
+        let (first, last) = between(changes, q, p);
+        if last - first <= FEW {
+            return keys_in_order(alloc, changes, first, last, range);
+        }
         let tracks = self.within(range)?;
         match changed_of_few(alloc, q, p, last - first, tracks)? {
             Some(keys) => Ok(keys),
-            None => keys_in_order(alloc, &self.changes, first, last, range),
+            None => keys_in_order(alloc, changes, first, last, range),
         }
     }
 
     /// Takes out what nobody asks for who asks from a position on: the first change, where it is not after it, and versions of
-    /// the key as `Versions::trim` does. A key without versions is taken out too. Logarithmic in the keys.
+    /// the key as `Versions::trim` does. A key without versions is taken out too. Logarithmic in the keys and in the groups that have
+    /// changes.
     pub fn trim(&mut self, to: u64, key: &Key)
         ensures versions { TrimsTracks to self.old.tracks self.new.tracks }
         ensures changes { KeepsTo (λ c. c.position) to self.old.changes self.new.changes }
     {
-        take_early(&mut self.changes, to);
-        let_room_go(&mut self.changes);
+        take_first(&mut self.changes, &mut self.groups, to);
         if trim_versions(&mut self.tracks, to, key) {
             remove_track(&mut self.tracks, key);
         }
@@ -148,6 +165,45 @@ impl TableVersions {
         ensures { result ≡ true → self.now ≡ empty_table }
     {
         self.tracks.is_empty() && self.changes.is_empty()
+    }
+}
+
+/// Finds the changes among which are all at keys of a range: those of its group where the bounds say that it lies inside one and
+/// the groups are kept, and otherwise all. None where the group has none. Logarithmic in the groups.
+fn changes_for<'a>(
+    changes: &'a VecDeque<Change>,
+    groups: &'a ChangesByGroup,
+    range: &Range,
+) -> Option<&'a VecDeque<Change>>
+    requires { AreGrouped groups.now changes.now.items }
+    ensures some { IfSome result (λ found. HoldsChanges range.now changes.now.items found.now.items) }
+    ensures none { IfNone result (HoldsChanges range.now changes.now.items []) }
+{
+    let Some(group) = group_within(range) else {
+        return Some(changes);
+    };
+    if !groups.are_kept() {
+        return Some(changes);
+    }
+    match groups.find(group) {
+        None => None,
+        Some(queue) => Some(queue.changes()),
+    }
+}
+
+/// Takes the first change out of a queue and of its group, where it is not after a position. Where none is left then, the groups
+/// are kept from then on, if they were let go. Room that the queue does not need goes.
+fn take_first(changes: &mut VecDeque<Change>, groups: &mut ChangesByGroup, to: u64)
+    ensures keeps { KeepsTo (λ c. c.position) to changes.old.items changes.new.items }
+    ensures grouped { AreGrouped groups.old changes.old.items → AreGrouped groups.new changes.new.items }
+{
+    let Some(first) = take_early(changes, to) else {
+        return;
+    };
+    groups.take_first(&first.key);
+    let_room_go(changes);
+    if changes.is_empty() {
+        groups.begin_anew();
     }
 }
 

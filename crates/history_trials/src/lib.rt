@@ -11,6 +11,8 @@ mod appends;
 #[cfg(test)]
 mod cells;
 #[cfg(test)]
+mod groups;
+#[cfg(test)]
 mod looks;
 #[cfg(test)]
 mod pins;

@@ -15,7 +15,8 @@ fn key(rt: &impl Abort, alloc: Global, text: &str) -> Key {
     Key::read(alloc, text).expect(rt, "a key")
 }
 
-fn put(rt: &impl Abort, alloc: Global, text: &str, value: &str) -> Entry {
+/// A put of a value at a key.
+pub fn put(rt: &impl Abort, alloc: Global, text: &str, value: &str) -> Entry {
     let value = Value::read(alloc, value).expect(rt, "a value");
     Entry {
         client: 0,
@@ -23,7 +24,8 @@ fn put(rt: &impl Abort, alloc: Global, text: &str, value: &str) -> Entry {
     }
 }
 
-fn removal(rt: &impl Abort, alloc: Global, text: &str) -> Entry {
+/// A removal of a key.
+pub fn removal(rt: &impl Abort, alloc: Global, text: &str) -> Entry {
     Entry {
         client: 1,
         write: Write::Remove(key(rt, alloc, text)),
@@ -63,7 +65,8 @@ fn known(rt: &impl Abort, alloc: Global, shard: u8, shards: u8) -> Result<BaseVe
     Ok(base)
 }
 
-fn advance(rt: &impl Abort, base: &mut BaseVersions, entries: &[Entry]) -> Result<(), Fail>
+/// The entries enter.
+pub fn advance(rt: &impl Abort, base: &mut BaseVersions, entries: &[Entry]) -> Result<(), Fail>
     ensures shard { base.new.shard ≡ base.old.shard }
     ensures shards { base.new.shards ≡ base.old.shards }
 {
@@ -73,7 +76,7 @@ fn advance(rt: &impl Abort, base: &mut BaseVersions, entries: &[Entry]) -> Resul
 }
 
 /// Lets go of what nobody asks for who asks from a position on.
-fn trim(rt: &impl Abort, base: &mut BaseVersions, to: u64)
+pub fn trim(rt: &impl Abort, base: &mut BaseVersions, to: u64)
     ensures shard { base.new.shard ≡ base.old.shard }
     ensures shards { base.new.shards ≡ base.old.shards }
 {
@@ -191,6 +194,22 @@ fn expect_pairs(rt: &impl Abort, alloc: Global, base: &BaseVersions, from: u64) 
     Ok(())
 }
 
+/// These keys of a range change between two positions.
+pub fn expect_changed(
+    rt: &impl Abort,
+    alloc: Global,
+    base: &BaseVersions,
+    at: (u64, u64, &str, &str),
+    wanted: &str,
+) -> Result<(), Fail>
+    requires one { base.now.shards ≡ 1 }
+    requires first { base.now.shard ≡ 0 }
+{
+    let found = changed::<Brand>(rt, alloc, base, at, Blank::new(1))?;
+    assert!(rt; found.as_str() == wanted);
+    Ok(())
+}
+
 /// The keys that change in the table after each position from one on.
 fn expect_changes(
     rt: &impl Abort,
@@ -203,8 +222,7 @@ fn expect_changes(
 {
     for (q, p, wanted) in CHANGES {
         if from <= q {
-            let found = changed::<Brand>(rt, alloc, base, (q, p, "k|", "k}"), Blank::new(1))?;
-            assert!(rt; found.as_str() == wanted);
+            expect_changed(rt, alloc, base, (q, p, "k|", "k}"), wanted)?;
         }
     }
     Ok(())
@@ -293,8 +311,7 @@ fn changed_keys(rt: HostRuntime) -> Result<(), Fail> {
         (0, 10, "a|", "a}", ""),
     ];
     for (q, p, low, high, wanted) in rows {
-        let found = changed::<Brand>(&rt, alloc, &base, (q, p, low, high), Blank::new(1))?;
-        assert!(rt; found.as_str() == wanted);
+        expect_changed(&rt, alloc, &base, (q, p, low, high), wanted)?;
     }
     Ok(())
 }

@@ -1,4 +1,4 @@
-use Rattle.base_versions.specs.Kept.{named}
+use Rattle.base_versions.specs.Named.{named}
 use Rattle.base_versions.proofs.TableTrims.{trimmed-kept}
 use Rattle.base_versions.proofs.base.trim_in.Goals as goal
 

@@ -1,4 +1,4 @@
-use Rattle.base_versions.specs.Kept.{named}
+use Rattle.base_versions.specs.Named.{named}
 use Rattle.base_versions.proofs.TableTrims.{trimmed-same, trimmed-both}
 use Rattle.base_versions.proofs.base.trim_tables.Goals as goal
 

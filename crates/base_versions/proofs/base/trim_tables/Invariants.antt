@@ -1,5 +1,6 @@
 use Rattle.std.proofs.Common.{length}
-use Rattle.base_versions.specs.Kept.{IsTrimmedTo, named}
+use Rattle.base_versions.specs.Named.{named}
+use Rattle.base_versions.specs.Kept.{IsTrimmedTo}
 use Rattle.base_versions.proofs.base.trim_tables.Given as goal
 
 -- the tables are trimmed, as far as changes were taken out

@@ -1,5 +1,5 @@
 use Rattle.std.proofs.Common.{refl, ap}
-use Rattle.base_versions.specs.Kept.{named}
+use Rattle.base_versions.specs.Named.{named}
 use Rattle.base_versions.proofs.EnterLemmas.{stands-nil}
 use Rattle.base_versions.proofs.base.BaseVersions.new.Goals as goal
 

@@ -1,5 +1,6 @@
 use Rattle.std.proofs.Common.{ap, subst}
-use Rattle.base_versions.specs.Kept.{Kept, IsTrimmedTo, named}
+use Rattle.base_versions.specs.Named.{named}
+use Rattle.base_versions.specs.Kept.{Kept, IsTrimmedTo}
 use Rattle.base_versions.proofs.TableTrims.{stands-trimmed}
 use Rattle.base_versions.proofs.base.BaseVersions.trim.Goals as goal
 

@@ -21,4 +21,4 @@ returns-clause-tracks c =
     walked c.args.self.now c.self.inside.tracks.entries c.self.inside.changes.items c.range.result c.args.range.now c.in_ok-first_place.field-0 c.in_ok-last_place.field-0 c.self.view_is c.in_ok-first_place.ensures.place c.in_ok-last_place.ensures (c.range.ensures.between (search rules))
 
 pub returns-clause-keys : goal.returns-clause-keys
-returns-clause-keys c = subst (λ (ts : Tracks). AreKeys ts) (sym (c.range.ensures.between (search rules))) (keys-filter _ c.self.inside.tracks.entries c.self.invariant)
+returns-clause-keys c = subst (λ (ts : Tracks). AreKeys ts) (sym (c.range.ensures.between (search rules))) (keys-filter _ c.self.inside.tracks.entries c.self.invariant.0)

@@ -1,0 +1,7 @@
+use Rattle.std.proofs.Common.{true, ap}
+use Rattle.base_versions.specs.Named.{named}
+use Rattle.base_versions.proofs.GroupedLemmas.{grouped-none}
+use Rattle.base_versions.proofs.groups.ChangesByGroup.new.Goals as goal
+
+pub returns : goal.returns
+returns c = grouped-none (record { kept = true; queues = named c.new.result.entries }) (ap named c.new.ensures.empty)

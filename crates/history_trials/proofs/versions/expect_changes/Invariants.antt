@@ -1,4 +1,0 @@
-use Rattle.history_trials.proofs.versions.expect_changes.Given as goal
-
-abbrev pub ghosts-changed : goal.ghosts-changed
-ghosts-changed g a = record { name = a.blank.name; parts = a.blank.parts }

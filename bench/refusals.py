@@ -3,15 +3,16 @@
 
 Usage: bench/refusals.py PROGRAM
 
-PROGRAM is the built program. What is run: each file of requests and each script under examples/, and a server that two clients
-use at once. Needs a C compiler, `cc`, for the few lines that refuse. Some thousands of runs, a few minutes.
+PROGRAM is the built program. What is run: each file of requests and each script under examples/, a server that two clients use at
+once, and one where they drop a join meanwhile and declare it again. Needs a C compiler, `cc`, for the few lines that refuse. Some
+ten thousand runs: about 4 minutes on 4 processors that had other work too, 40 seconds of them for the server with drops.
 
 A run of requests is right where it ends with the status of memory and has written nothing, or where some lines are answered
 `memory` and the other replies are those that the program gives to the other lines alone. A run of a script is right where it ends
 with the status of memory and has written nothing, or prints what it prints with ample memory. A server is right where it ends
 with the status of memory before it takes a connection, or where one request at most is answered `memory` or finds its connection
-closed, and each other reply is the one that stands in the acknowledged writes. One whose thread was refused is right only where it
-ends so.
+closed, and each other reply, also to all that is asked after that, is what evaluating the joins afresh gives after the
+acknowledged writes. One whose thread was refused is right only where it ends so.
 """
 import json
 import os
@@ -23,6 +24,8 @@ import time
 from functools import partial
 from pathlib import Path
 from typing import Callable
+
+from interleaved import Afresh
 
 ROOT = Path(__file__).resolve().parent.parent
 MEMORY = ["error", "memory"]
@@ -107,6 +110,7 @@ class Client:
 
 
 TIMELINE = "t|<user>|<time>|<poster> = check s|<user>|<poster> copy p|<poster>|<time>"
+LENGTHS = "n|<user> = count t|<user>|<time>|<poster>"
 
 # Two clients in turn: which of them asks, and what.
 TURNS = [
@@ -121,43 +125,93 @@ TURNS = [
     (1, ["scan", "t|ann|", "t|ann}"]),
 ]
 
+# Two clients in turn, where a join is dropped and declared again, and another that reads its output stands all the time. What was
+# put under a key of the output before is hidden while the join stands. A drop names its join, in place of the position.
+DROPS = [
+    (0, ["put", "t|ann|050|me", "Mine"]),
+    (0, ["join", TIMELINE]),
+    (1, ["join", LENGTHS]),
+    (0, ["put", "s|ann|bob", "1"]),
+    (1, ["put", "p|bob|100", "Hi"]),
+    (0, ["scan", "t|ann|", "t|ann}"]),
+    (1, ["scan", "n|", "n}"]),
+    (1, ["put", "t|ann|060|me", "No"]),
+    (0, ["put", "p|bob|120", "Yo"]),
+    (1, ["scan", "t|ann|", "t|ann}"]),
+    (0, ["scan", "n|", "n}"]),
+    (1, ["drop", TIMELINE]),
+    (0, ["scan", "t|ann|", "t|ann}"]),
+    (1, ["scan", "n|", "n}"]),
+    (0, ["drop", TIMELINE]),
+    (1, ["put", "t|ann|060|me", "Too"]),
+    (0, ["put", "p|bob|140", "Hm"]),
+    (0, ["scan", "n|", "n}"]),
+    (0, ["join", TIMELINE]),
+    (1, ["scan", "t|ann|", "t|ann}"]),
+    (0, ["scan", "n|", "n}"]),
+    (1, ["put", "p|bob|160", "So"]),
+    (0, ["scan", "t|ann|", "t|ann}"]),
+]
 
-def wanted_of(entered: list, request: list) -> list:
-    """The reply to the request after the writes that entered, in this small plan alone."""
-    if request[0] != "scan":
-        return ["ok", len(entered) + 1]
-    puts = {write[1]: write[2] for write in entered if write[0] == "put"}
-    if request[1].startswith("q|"):
-        pairs = [["q|1", puts["q|1"]]] if "q|1" in puts else []
-    elif ["join", TIMELINE] in entered and "s|ann|bob" in puts:
-        posts = sorted(key for key in puts if key.startswith("p|bob|"))
-        pairs = [[f"t|ann|{key[6:]}|bob", puts[key]] for key in posts]
-    else:
-        pairs = []
-    return ["pairs", len(entered), pairs]
+
+def wanted_of(afresh: Afresh, request: list) -> list:
+    """The reply to the request after the writes that entered."""
+    if request[0] == "scan":
+        return ["pairs", afresh.position, [list(pair) for pair in afresh.read(request)]]
+    refusal = afresh.verdict(request)
+    if refusal is None:
+        return ["ok", afresh.position + 1]
+    name, details = refusal
+    return ["error", name, afresh.position, *details]
 
 
-def is_right_server(port: int) -> bool:
-    """Whether each turn is answered rightly, but that one at most is answered `memory` or finds its connection closed."""
-    clients = [Client(port), Client(port)]
-    entered: list = []
-    failures = 0
-    for who, request in TURNS:
+class Conversation:
+    """Clients of one server, what entered by them, and how many requests found no answer but `memory` or a closed connection."""
+
+    def __init__(self, port: int) -> None:
+        self.port = port
+        self.clients = [Client(port), Client(port)]
+        self.afresh = Afresh([])
+        self.declared: dict[str, int] = {}
+        self.failures = 0
+
+    def ask(self, who: int, request: list) -> list:
+        """The reply to the request of a client, which asks once more over a new connection where its own was closed."""
         try:
-            reply = clients[who].ask(request)
+            return self.clients[who].ask(request)
         except (Lost, ConnectionError):
-            failures += 1
-            clients[who] = Client(port)
-            reply = clients[who].ask(request)
+            self.failures += 1
+            self.clients[who] = Client(self.port)
+            return self.clients[who].ask(request)
+
+    def is_right(self, who: int, request: list) -> bool:
+        """Whether the client is answered rightly, or `memory`. A drop is of the last declaration of its join that entered."""
+        if request[0] == "drop":
+            request = ["drop", self.declared.get(request[1], 0)]
+        reply = self.ask(who, request)
         if reply == MEMORY:
-            failures += 1
-        elif reply != wanted_of(entered, request):
+            self.failures += 1
+            return True
+        if reply != wanted_of(self.afresh, request):
             return False
-        elif request[0] != "scan":
-            entered.append(request)
-    for client in clients:
-        client.close()
-    return failures <= 1
+        if reply[0] == "ok":
+            self.afresh.enter(request)
+            if request[0] == "join":
+                self.declared[request[1]] = reply[1]
+        return True
+
+    def close(self) -> None:
+        for client in self.clients:
+            client.close()
+
+
+def is_right_server(port: int, turns: list) -> bool:
+    """Whether each turn is answered rightly, but that one at most is answered `memory` or finds its connection closed."""
+    conversation = Conversation(port)
+    if not all(conversation.is_right(who, request) for who, request in turns):
+        return False
+    conversation.close()
+    return conversation.failures <= 1
 
 
 def connected(server: subprocess.Popen, port: int) -> bool:
@@ -171,8 +225,8 @@ def connected(server: subprocess.Popen, port: int) -> bool:
     return False
 
 
-def serve_once(refuser: Refuser, what: str, number: int) -> bool:
-    """Whether the server that has one allocation or thread refused is right."""
+def serve_once(refuser: Refuser, what: str, turns: list, number: int) -> bool:
+    """Whether the server that has one allocation or thread refused is right in these turns."""
     with socket.create_server(("127.0.0.1", 0)) as taken:
         port = taken.getsockname()[1]
     words = ["serve", f"127.0.0.1:{port}", "--workers", "3", "--cells", "4"]
@@ -180,7 +234,7 @@ def serve_once(refuser: Refuser, what: str, number: int) -> bool:
     with subprocess.Popen([refuser.program, *words], env=environment, stdout=subprocess.PIPE, stderr=subprocess.DEVNULL) as server:
         try:
             if connected(server, port):
-                return what == ALLOCATION and is_right_server(port)
+                return what == ALLOCATION and is_right_server(port, turns)
             return server.returncode == STATUS_OF_MEMORY and not server.stdout.read()
         except (Lost, ConnectionError, TimeoutError, ValueError):
             return False
@@ -211,7 +265,11 @@ def main() -> int:
         refuser = Refuser(str(Path(sys.argv[1]).resolve()), folder)
         plans = [(file.name, partial(is_right_run, refuser, file)) for file in sorted(ROOT.glob("examples/*.requests"))]
         plans += [(file.name, partial(is_right_script, refuser, file)) for file in sorted(ROOT.glob("examples/*.script"))]
-        plans += [("serve", partial(serve_once, refuser, ALLOCATION)), ("threads of serve", partial(serve_once, refuser, THREAD))]
+        plans += [
+            ("serve", partial(serve_once, refuser, ALLOCATION, TURNS)),
+            ("serve with drops", partial(serve_once, refuser, ALLOCATION, DROPS)),
+            ("threads of serve", partial(serve_once, refuser, THREAD, TURNS)),
+        ]
         for name, is_right in plans:
             count, wrong = tried(refuser, is_right)
             print(f"{name}: {count} refused in turn, wrong: {wrong or 'none'}", flush=True)

@@ -1,11 +1,11 @@
 -- Each move keeps the rule of a tallied queue.
-use Rattle.std.proofs.Common.{◌≡◌, ◌≢◌, ℕ, zero, suc, ◌+◌, ◌-◌, ◌<◌, ◌≤◌, List, [], ◌∷◌, ◌++◌, length, set, refl, sym, ap, ◌∙◌, subst, arith, ⊎_elim}
+use Rattle.std.proofs.Common.{◌≡◌, ◌≢◌, ℕ, zero, suc, ◌+◌, ◌-◌, ◌<◌, ◌≤◌, List, [], ◌∷◌, ◌++◌, set, refl, sym, ap, ◌∙◌, subst, arith, ⊎_elim}
 use mathlib.Core.Option.{some, some-ne-none, some-injective}
 use lib.ListN.{get_elem?}
 use Rattle.crossbeam_queue.specs.Fifo.{Pushes, Pops, Forks, Merges, Learns}
 use Rattle.crossbeam_queue.proofs.Lists.{at_set, at_snoc}
 use Rattle.door_queue.specs.declared.tally.Hand.{Hand}
-use Rattle.door_queue.specs.Tallies.{weigh, EachOnce, all_parts, hand, whole_hand, without_part, with_put, with_taken, both_hands, IdleIsEmpty, IsBalanced, WhatIsLeft}
+use Rattle.door_queue.specs.Tallies.{weigh, all_parts, hand, whole_hand, without_part, with_put, with_taken, both_hands, IdleIsEmpty, IsBalanced, WhatIsLeft}
 
 -- ---- weights
 
@@ -160,8 +160,3 @@ module _ {T : Type 0} where
       let put = weigh-one (λ (u : Hand T). u.parts) (λ (u : Hand T). weigh weight u.put) views port v at whole (λ j u here none. ap (weigh weight) (b.idle j u here none).0) in
       let taken = weigh-one (λ (u : Hand T). u.parts) (λ (u : Hand T). weigh weight u.taken) views port v at whole (λ j u here none. ap (weigh weight) (b.idle j u here none).1) in
       sym put ∙ b.even weight ∙ ap (λ (n : ℕ). n + weigh weight items) taken
-
-  -- nothing is left of no items
-  pub none_left : (v : Hand T) (items : List T) → length items ≡ 0 → WhatIsLeft v items → EachOnce v.put v.taken
-  none_left v [] none what weight = let w = what weight in omega arith
-  none_left v (x ∷ xs) none what weight = absurd (omega arith)

@@ -1,5 +1,5 @@
 // Queues between threads that tell what became of each item.
-ghost use Rattle.std.specs.Prelude.{◌≡◌, ◌≢◌, ◌<◌, ◌≤◌, ◌-◌, [], IfOk, MatchOption};
+ghost use Rattle.std.specs.Prelude.{◌≡◌, ◌<◌, ◌≤◌, IfOk, MatchOption, MatchResult};
 ghost use Rattle.door_queue.specs.Tallies.{EachOnce, all_parts, joined, parted, put_in, taken_out, tally_of};
 
 use crate::tally::{Both, Fair, Hand, Part, Puts, Takes, Tally};
@@ -7,6 +7,7 @@ use crossbeam_queue::RuledArrayQueue;
 use out_of_memory::OutOfMemory;
 use std::alloc::Global;
 use std::marker::Model;
+use std::snapshot::Snapshot;
 use std::sync::{Condvar, Mutex, Wait};
 
 /// A queue as `DoorQueue`, whose callers each have a tally of what they put and took. Contracts see which queue it is.
@@ -29,8 +30,25 @@ impl<T> Model for TalliedQueue<T> {
     ghost view = { λ q. q.items.table.shared.table_id };
 }
 
+/// That a queue was closed, so that all its items are put, and that none was left at one moment. `take` alone makes it, so that who has
+/// to give one back cannot stop taking before. It has no bytes. Contracts see which queue it is of.
+#[derive(Drop)]
+pub struct AllPut<T> {
+    queue: Snapshot<TalliedQueue<T>>,
+}
+
+impl<T> Model for AllPut<T> {
+    ghost use Rattle.atomic_table.specs.Seated.{TableId};
+
+    ghost Value = { TableId };
+
+    ghost view = { λ a. a.queue.value };
+}
+
 impl<T> TalliedQueue<T> {
-    /// No items, and room for so many, which is reserved; and the whole tally.
+    /// Makes a queue of no items, with room for so many, which is reserved, and its whole tally. Linear in the room.
+    ///
+    /// `OutOfMemory`: none was found for the room.
     pub fn new(alloc: Global, most: usize) -> Result<(TalliedQueue<T>, Tally<T>), OutOfMemory>
         requires { 1 ≤ most }
         ensures { IfOk result (λ made. made.1 ≡ tally_of made.0 all_parts) }
@@ -88,28 +106,30 @@ impl<T> TalliedQueue<T> {
         unreachable!()
     }
 
-    /// Takes out the item that was kept first, and waits while there is none. None where the queue is closed, and empty then.
-    pub fn take<R: Wait>(&self, rt: &R, tally: &mut Tally<T>) -> Option<T>
+    /// Takes out the item that was kept first, and waits while there is none. `AllPut`: the queue is closed, and empty then.
+    pub fn take<R: Wait>(&self, rt: &R, tally: &mut Tally<T>) -> Result<T, AllPut<T>>
         requires queue { tally.old.queue ≡ self.now }
         requires parts { 0 < tally.old.parts }
-        ensures { MatchOption result (tally.new ≡ tally.old) (λ item. tally.new ≡ taken_out tally.old item) }
+        ensures { MatchResult result (λ item. tally.new ≡ taken_out tally.old item) (λ all_put. (tally.new ≡ tally.old) × (all_put ≡ self.now)) }
     {
         let mut closed = self.closed.lock(rt);
         for _ in rt.forever() {
             if let Some(item) = self.items.try_pop_as::<Takes>(&mut tally.pass) {
                 self.has_room.notify_one();
-                return Some(item);
+                return Ok(item);
             }
             if *closed {
-                return None;
+                return Err(AllPut {
+                    queue: Snapshot::of(self),
+                });
             }
             closed = self.has_item.wait(rt, closed);
         }
         unreachable!()
     }
 
-    /// Takes out the item that was kept first of those that are left when all tallies are joined to one. None where none is left:
-    /// each item that was put was taken once.
+    /// Takes out the item that was kept first of those that are left when all tallies are joined to one, and does not wait for one to be
+    /// put; it may wait for the lock. None where none is left: each item that was put was taken once.
     pub fn take_left<R: Wait>(&self, rt: &R, tally: &mut Tally<T>) -> Option<T>
         requires queue { tally.old.queue ≡ self.now }
         requires whole { tally.old.parts ≡ all_parts }

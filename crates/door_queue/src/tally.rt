@@ -4,7 +4,8 @@ use crossbeam_queue::protocol::{Join, Lesson, Outcome, Protocol, Split};
 use std::collections::LinkedList;
 use std::marker::Model;
 
-// What a pass knows: how many of the parts of the whole it has, and what was put and taken with it. No value of it is made.
+// What a pass knows: how many of the parts of the whole it has, and what was put and taken with it. No value of it is made. Contracts
+// alone see it; the whole has 2^64 parts.
 pub struct Hand<T> {
     pub parts: u64,
     pub put: LinkedList<T>,

@@ -48,8 +48,8 @@ pub fn take_all(
     Ok(items)
 }
 
-/// How often each number below 4,000 is among the items.
-fn count_items(rt: &impl Abort, counts: &mut [u8], items: &[u32]) {
+/// Adds to the count of each number how often it is among the items.
+pub fn count_items(rt: &impl Abort, counts: &mut [u8], items: &[u32]) {
     for item in items {
         let count = counts
             .get_mut(*item as usize)

@@ -11,6 +11,8 @@ mod closing;
 #[cfg(test)]
 mod counts;
 #[cfg(test)]
+mod handed;
+#[cfg(test)]
 mod items;
 #[cfg(test)]
 mod tallies;

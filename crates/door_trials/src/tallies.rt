@@ -15,7 +15,7 @@ fn take<R: Wait + Abort>(rt: &R, queue: &TalliedQueue<u32>, tally: &mut Tally<u3
     requires parts { 0 < tally.old.parts }
     ensures { tally.new ≡ taken_out tally.old result }
 {
-    let Some(item) = queue.take(rt, tally) else {
+    let Ok(item) = queue.take(rt, tally) else {
         panic!(rt; "the queue is closed")
     };
     item

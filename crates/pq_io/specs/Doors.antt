@@ -1,5 +1,5 @@
 -- Links that doors hold and give, where that is told.
-use Rattle.std.specs.Prelude.{◌≡◌, ℕ, List, [], ◌∷◌, map, Option, Some, None, IfSome, option_map, Result, Ok, Err, Vec}
+use Rattle.std.specs.Prelude.{◌≡◌, ℕ, List, [], ◌∷◌, map, Option, Some, None, IfSome, option_map, Result, Ok, Err, String, Vec, string_bytes}
 use Rattle.std.specs.Global.{Global}
 use Rattle.pq_io.specs.CallLog.{CallLog}
 
@@ -13,6 +13,10 @@ GivesNextLink old new (Ok (Some link)) = GaveLink old new link
 GivesNextLink old new (Ok None) = (new ≡ old) × IfSome new (λ links. links ≡ [])
 GivesNextLink old new (Err e) = new ≡ old
 
+-- where it is told at which address doors were opened last, it is this one
+abbrev pub IsOpenAt : Option (Option (List ℕ)) → List ℕ → Type 0
+IsOpenAt opened address = IfSome opened (λ at. at ≡ Some address)
+
 -- lists as contracts see them
 abbrev pub lists_of : {R : Type 0} → List (Vec R Global) → List (List R)
 lists_of lists = map (λ list. list.items) lists
@@ -22,13 +26,13 @@ abbrev pub returned_of : {R : Type 0} → Option (Vec (Vec R Global) Global) →
 returned_of None = []
 returned_of (Some lists) = lists_of lists.items
 
--- what contracts see of doors in memory: the links that are held, the calls of `next`, and the receipts that came back last
+-- where doors were opened, by what they keep of it; it is not told where no memory was found to keep it
+abbrev pub opened_of : Option (Option (String Global)) → Option (Option (List ℕ))
+opened_of opened = option_map (λ at. option_map string_bytes at) opened
+
+-- what contracts see of doors in memory: the links that are held, the calls of `next`, the receipts that came back last, and where they were opened
 pub record DoorsState (K R : Type 0) : Type 0 where
   pub links : List K
   pub log : CallLog
   pub returned : List (List R)
-
--- what contracts see of a link over a stream: how many reads and how many writes have failed
-pub record LinkFaults : Type 0 where
-  pub reads : ℕ
-  pub writes : ℕ
+  pub opened : Option (Option (List ℕ))

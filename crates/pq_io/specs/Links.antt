@@ -12,3 +12,9 @@ pub record LinkTold : Type 0 where
 abbrev pub link_told : {K : Type 0} → (K → Option (List ℕ)) → (K → Option (List ℕ)) → (K → ℕ) → (K → ℕ) → K → LinkTold
 link_told left taken read_faults write_faults link =
     record { left = left link; taken = taken link; read_faults = read_faults link; write_faults = write_faults link }
+
+-- what contracts see of a link over a stream: the stream, and how many reads and how many writes have failed
+pub record StreamLink (S : Type 0) : Type 0 where
+  pub stream : S
+  pub reads : ℕ
+  pub writes : ℕ

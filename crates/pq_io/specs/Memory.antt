@@ -1,6 +1,7 @@
 -- What contracts see of a source, a sink and a link in memory.
-use Rattle.std.specs.Prelude.{ℕ, List, length, min, max, slice_index_or}
+use Rattle.std.specs.Prelude.{ℕ, List, Some, length, min, max, slice_index_or}
 use Rattle.pq_io.specs.CallLog.{CallLog}
+use Rattle.pq_io.specs.Links.{LinkTold}
 
 -- the bytes that are left, the most bytes that each call gives, and the calls
 pub record SourceState : Type 0 where
@@ -22,3 +23,7 @@ pub record SinkState : Type 0 where
 pub record LinkState : Type 0 where
   pub source : SourceState
   pub sink : SinkState
+
+-- what it tells
+abbrev pub told_of_state : LinkState → LinkTold
+told_of_state l = record { left = Some l.source.left; taken = Some l.sink.taken; read_faults = l.source.log.faults; write_faults = l.sink.log.faults }

@@ -22,3 +22,8 @@ GivesNext old new result into = MatchResult result (λ n. Gave old new (take n i
 -- `write(bytes)` took the first n bytes at `Ok(n)`, and nothing at an error
 abbrev pub TakesFirst : {E : Type 0} → Option (List ℕ) → Option (List ℕ) → Result ℕ E → List ℕ → Type 0
 TakesFirst old new result bytes = MatchResult result (λ n. Took old new (take n bytes)) (λ _. new ≡ old)
+
+-- what contracts see of a source over a reader or a sink over a writer: the one that it stands over, and how many calls have failed
+pub record Adapted (S : Type 0) : Type 0 where
+  pub inner : S
+  pub faults : ℕ

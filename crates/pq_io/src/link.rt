@@ -56,7 +56,7 @@ pub trait Link {
         ensures same_faults { read_faults self.new ≡ read_faults self.old }
         ensures same_borrows { borrows self.new ≡ borrows self.old };
 
-    /// Ends the use of the link, and gives its receipt.
+    /// Ends the use of the link, and gives its receipt. It takes no memory and cannot fail.
     fn finish(self) -> Self::Receipt
         ensures told { tells result ≡ link_told left taken read_faults write_faults self };
 }
@@ -81,6 +81,9 @@ impl<'a, R, W> Both<'a, R, W> {
 }
 
 impl<'a, R: Source, W: Sink> Link for Both<'a, R, W> {
+    /// It has no bytes.
+    type Receipt = Snapshot<Both<'a, R, W>>;
+
     ghost left = { λ b. R.left b.source.now };
 
     ghost taken = { λ b. W.taken b.sink.now };
@@ -91,9 +94,6 @@ impl<'a, R: Source, W: Sink> Link for Both<'a, R, W> {
 
     ghost borrows = { λ b. b.source.ghost_name ∷ b.sink.ghost_name ∷
         (R.borrows b.source.now ++ W.borrows b.sink.now) };
-
-    /// It has no bytes.
-    type Receipt = Snapshot<Both<'a, R, W>>;
 
     ghost tells = { λ r. record {
       left = R.left r.value.source.now;

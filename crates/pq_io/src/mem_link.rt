@@ -5,7 +5,7 @@ ghost use Rattle.std.specs.Io.KnownBytes.{IsAtEnd};
 ghost use Rattle.pq_io.specs.CallLog.{NextIsListed, after_call};
 ghost use Rattle.pq_io.specs.Faults.{HasCause};
 ghost use Rattle.pq_io.specs.Links.{link_told};
-ghost use Rattle.pq_io.specs.Memory.{given_count};
+ghost use Rattle.pq_io.specs.Memory.{given_count, told_of_state};
 ghost use Rattle.pq_io.specs.Streams.{GivesNext, TakesFirst};
 
 use crate::{Failed, Link, MemSink, MemSource, Sink, Source};
@@ -44,6 +44,8 @@ impl MemLink {
 }
 
 impl Link for MemLink {
+    type Receipt = MemLink;
+
     ghost left = { λ l. Some l.source.left };
 
     ghost taken = { λ l. Some l.sink.taken };
@@ -52,14 +54,7 @@ impl Link for MemLink {
 
     ghost write_faults = { λ l. l.sink.log.faults };
 
-    type Receipt = MemLink;
-
-    ghost tells = { λ l. record {
-      left = Some l.source.left;
-      taken = Some l.sink.taken;
-      read_faults = l.source.log.faults;
-      write_faults = l.sink.log.faults;
-    } };
+    ghost tells = { told_of_state };
 
     /// Reads from the source, as `MemSource` does.
     fn read(&mut self, into: &mut [u8]) -> Result<usize, Failed>
@@ -93,7 +88,7 @@ impl Link for MemLink {
     /// Gives the link itself.
     fn finish(self) -> MemLink
         ensures same { result ≡ self }
-        ensures told { record { left = Some result.source.left; taken = Some result.sink.taken; read_faults = result.source.log.faults; write_faults = result.sink.log.faults }
+        ensures told { told_of_state result
             ≡ link_told (λ l. Some l.source.left) (λ l. Some l.sink.taken) (λ l. l.source.log.faults) (λ l. l.sink.log.faults) self }
     {
         self

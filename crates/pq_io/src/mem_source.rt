@@ -1,5 +1,5 @@
 // A source in memory, for tests: what each of its reads gives and which of them fail is chosen beforehand.
-ghost use Rattle.std.specs.Prelude.{◌≡◌, ◌<◌, ◌↔◌, Some, length, IfOk, IsErr, Ok, is_err, IsTrue};
+ghost use Rattle.std.specs.Prelude.{◌≡◌, ◌<◌, ◌↔◌, Some, length, IfOk, IsErr, Ok, is_err};
 ghost use Rattle.std.specs.Io.{ReadsAtMost};
 ghost use Rattle.std.specs.Io.KnownBytes.{IsAtEnd};
 ghost use Rattle.pq_io.specs.CallLog.{NextIsListed, after_call, no_calls};

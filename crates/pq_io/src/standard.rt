@@ -3,13 +3,15 @@ ghost use Rattle.std.specs.Prelude.{◌≡◌, ◌<◌, None, IfOk, length, take
 ghost use Rattle.std.specs.Io.{ReadsAtMost, WritesAtMost};
 ghost use Rattle.std.specs.Io.KnownBytes.{Appends, ReadConsumes};
 ghost use Rattle.pq_io.specs.Faults.{HasCause};
+ghost use Rattle.pq_io.specs.Streams.{GivesNext, TakesFirst};
 
 use crate::fault_count::FaultCount;
 use crate::{Failed, Sink, Source};
 use std::io::{Read, Write};
 use std::marker::Model;
 
-/// A source over a reader. What is left is not told. Contracts see it as its count of faults.
+/// A source over a reader. What is left is not told as a source tells it; each read gives what the reader tells that it gave. Contracts
+/// see it as the reader and its count of faults.
 #[derive(Drop)]
 pub struct Reading<R> {
     inner: R,
@@ -17,17 +19,17 @@ pub struct Reading<R> {
 }
 
 impl<R> Model for Reading<R> {
-    ghost use Rattle.std.specs.Prelude.{ℕ};
+    ghost use Rattle.pq_io.specs.Streams.{Adapted};
 
-    ghost Value = { ℕ };
+    ghost Value = { Adapted R };
 
-    ghost view = { λ s. s.faults.0 };
+    ghost view = { λ s. record { inner = s.inner; faults = s.faults.0 } };
 }
 
 impl<R> Reading<R> {
     /// The reader as a source that has no fault yet.
     pub fn new(inner: R) -> Reading<R>
-        ensures { result ≡ 0 }
+        ensures { result ≡ record { inner = inner; faults = 0 } }
     {
         Reading {
             inner,
@@ -37,7 +39,7 @@ impl<R> Reading<R> {
 
     /// How many calls have failed, up to the last value of the type.
     pub fn faults(&self) -> u64
-        ensures { result ≡ self.now }
+        ensures { result ≡ self.now.faults }
     {
         self.faults.count()
     }
@@ -46,15 +48,21 @@ impl<R> Reading<R> {
 impl<R: Read> Source for Reading<R> {
     ghost left = { λ _. None };
 
-    ghost faults = { λ faults. faults };
+    ghost faults = { λ s. s.faults };
 
     /// Makes one read. Each error of the reader is a fault.
-    fn read(&mut self, into: &mut [u8]) -> Result<usize, Failed> {
+    fn read(&mut self, into: &mut [u8]) -> Result<usize, Failed>
+        ensures bound { ReadsAtMost result into.new }
+        ensures bytes { GivesNext None None result into.new }
+        ensures given { ReadConsumes (R.remaining self.old.inner) (R.remaining self.new.inner) result into.new }
+        ensures cause { HasCause self.old.faults self.new.faults result }
+    {
         read_piece(&mut self.inner, &mut self.faults, into)
     }
 }
 
-/// A sink over a writer. What was taken is not told. Contracts see it as its count of faults.
+/// A sink over a writer. What was taken is not told as a sink tells it; the writer tells that it took what each write says. Contracts see
+/// it as the writer and its count of faults.
 #[derive(Drop)]
 pub struct Writing<W> {
     inner: W,
@@ -62,17 +70,17 @@ pub struct Writing<W> {
 }
 
 impl<W> Model for Writing<W> {
-    ghost use Rattle.std.specs.Prelude.{ℕ};
+    ghost use Rattle.pq_io.specs.Streams.{Adapted};
 
-    ghost Value = { ℕ };
+    ghost Value = { Adapted W };
 
-    ghost view = { λ s. s.faults.0 };
+    ghost view = { λ s. record { inner = s.inner; faults = s.faults.0 } };
 }
 
 impl<W> Writing<W> {
     /// The writer as a sink that has no fault yet.
     pub fn new(inner: W) -> Writing<W>
-        ensures { result ≡ 0 }
+        ensures { result ≡ record { inner = inner; faults = 0 } }
     {
         Writing {
             inner,
@@ -82,7 +90,7 @@ impl<W> Writing<W> {
 
     /// How many calls have failed, up to the last value of the type.
     pub fn faults(&self) -> u64
-        ensures { result ≡ self.now }
+        ensures { result ≡ self.now.faults }
     {
         self.faults.count()
     }
@@ -91,10 +99,16 @@ impl<W> Writing<W> {
 impl<W: Write> Sink for Writing<W> {
     ghost taken = { λ _. None };
 
-    ghost faults = { λ faults. faults };
+    ghost faults = { λ s. s.faults };
 
     /// Makes one write, and sends it on at once. Each error is a fault, and so is a write that takes nothing of a piece.
-    fn write(&mut self, bytes: &[u8]) -> Result<usize, Failed> {
+    fn write(&mut self, bytes: &[u8]) -> Result<usize, Failed>
+        ensures bound { WritesAtMost result bytes.now }
+        ensures progress { 0 < length bytes.now → IfOk result (λ n. 0 < n) }
+        ensures bytes { TakesFirst None None result bytes.now }
+        ensures taken { IfOk result (λ n. Appends (W.contents self.old.inner) (W.contents self.new.inner) (take n bytes.now)) }
+        ensures cause { HasCause self.old.faults self.new.faults result }
+    {
         write_piece(&mut self.inner, &mut self.faults, bytes)
     }
 }

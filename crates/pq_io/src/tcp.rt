@@ -1,5 +1,9 @@
 // Doors and links over TCP.
-ghost use Rattle.std.specs.Prelude.{◌≡◌, None};
+ghost use Rattle.std.specs.Prelude.{◌≡◌, ◌<◌, None, IfOk, length, take};
+ghost use Rattle.std.specs.Io.{ReadsAtMost, WritesAtMost};
+ghost use Rattle.std.specs.Io.KnownBytes.{Appends, ReadConsumes};
+ghost use Rattle.pq_io.specs.Faults.{HasCause};
+ghost use Rattle.pq_io.specs.Streams.{GivesNext, TakesFirst};
 
 use crate::fault_count::FaultCount;
 use crate::standard::{read_piece, write_piece};
@@ -17,8 +21,9 @@ mod accepting;
 /// How long the doors wait before they ask again, in milliseconds, where the system takes no connection now.
 const MOMENT: u64 = 10;
 
-/// A link over a stream that reads and writes. What is left and what was taken are not told. Contracts see it as its two
-/// counts of faults. Its receipt has no bytes, so that a list of any number of them takes no memory.
+/// A link over a stream that reads and writes. What is left and what was taken are not told as a link tells them; the stream tells that
+/// it gave and took what each call says. Contracts see it as the stream and its two counts of faults. Its receipt has no bytes, so that
+/// a list of any number of them takes no memory.
 #[derive(Drop)]
 pub struct TcpLink<S> {
     stream: S,
@@ -27,17 +32,17 @@ pub struct TcpLink<S> {
 }
 
 impl<S> Model for TcpLink<S> {
-    ghost use Rattle.pq_io.specs.Doors.{LinkFaults};
+    ghost use Rattle.pq_io.specs.Links.{StreamLink};
 
-    ghost Value = { LinkFaults };
+    ghost Value = { StreamLink S };
 
-    ghost view = { λ l. record { reads = l.read_faults.0; writes = l.write_faults.0 } };
+    ghost view = { λ l. record { stream = l.stream; reads = l.read_faults.0; writes = l.write_faults.0 } };
 }
 
 impl<S> TcpLink<S> {
     /// The stream as a link that has no fault yet.
     pub fn new(stream: S) -> TcpLink<S>
-        ensures { result ≡ record { reads = 0; writes = 0 } }
+        ensures { result ≡ record { stream = stream; reads = 0; writes = 0 } }
     {
         TcpLink {
             stream,
@@ -76,12 +81,25 @@ impl<S: Read + Write + Drop> Link for TcpLink<S> {
 
     /// Makes one read, which waits for bytes or for the end. Each error is a fault, also that the peer has closed the link
     /// with bytes on the way.
-    fn read(&mut self, into: &mut [u8]) -> Result<usize, Failed> {
+    fn read(&mut self, into: &mut [u8]) -> Result<usize, Failed>
+        ensures bound { ReadsAtMost result into.new }
+        ensures bytes { GivesNext None None result into.new }
+        ensures given { ReadConsumes (S.remaining self.old.stream) (S.remaining self.new.stream) result into.new }
+        ensures cause { HasCause self.old.reads self.new.reads result }
+        ensures same_faults { self.new.writes ≡ self.old.writes }
+    {
         read_piece(&mut self.stream, &mut self.read_faults, into)
     }
 
     /// Makes one write, which waits for room. Each error is a fault, also that the peer has closed the link.
-    fn write(&mut self, bytes: &[u8]) -> Result<usize, Failed> {
+    fn write(&mut self, bytes: &[u8]) -> Result<usize, Failed>
+        ensures bound { WritesAtMost result bytes.now }
+        ensures progress { 0 < length bytes.now → IfOk result (λ n. 0 < n) }
+        ensures bytes { TakesFirst None None result bytes.now }
+        ensures taken { IfOk result (λ n. Appends (S.contents self.old.stream) (S.contents self.new.stream) (take n bytes.now)) }
+        ensures cause { HasCause self.old.writes self.new.writes result }
+        ensures same_faults { self.new.reads ≡ self.old.reads }
+    {
         write_piece(&mut self.stream, &mut self.write_faults, bytes)
     }
 
@@ -155,6 +173,8 @@ where
     ghost held = { λ _. None };
 
     ghost returned = { λ _. None };
+
+    ghost opened = { λ _. None };
 
     ghost faults = { λ faults. faults };
 

@@ -1,5 +1,5 @@
 use Rattle.std.proofs.Common.{ap, arith}
-use Rattle.door_queue.proofs.TallyLemmas.{learns, none_left, takes}
+use Rattle.door_queue.proofs.TallyLemmas.{learns, takes}
 use Rattle.door_queue.proofs.tallied_queue.TalliedQueue.take_left.Goals as goal
 
 pub pop_as-requires-clause-rule : goal.pop_as-requires-clause-rule

@@ -1,7 +1,7 @@
 -- Ranges that are bare at all positions between two, from the stays.
-use Rattle.std.proofs.Common.{◌≡◌, ℕ, ◌<◌, ◌≤◌, ◌&&◌, ◌||◌, List, [], ◌∷◌, map, filter, take, length, max, Bool, true, false, cond, not, nat_lt, nat_le, Option, Some, None, refl, sym, ap, ◌∙◌, subst, ◌⊎◌, inl, inr, arith, le-leb, leb-true, ltb-true}
+use Rattle.std.proofs.Common.{◌≡◌, ℕ, ◌≤◌, ◌||◌, List, [], ◌∷◌, map, filter, take, length, max, Bool, true, false, cond, not, nat_le, Option, Some, None, refl, sym, ap, ◌∙◌, subst, ◌⊎◌, inl, inr, arith, le-leb, leb-true, ltb-true}
 use Rattle.std.specs.List.{list_all}
-use Rattle.std.proofs.lemmas.Bool.{and_parts, and_from, or_cases, or_left, or_right, not-true, false≢true, lt-ltb, false_from_ne_true}
+use Rattle.std.proofs.lemmas.Bool.{and_parts, and_from, or_cases, not-true, false≢true, lt-ltb}
 use Rattle.std.proofs.lemmas.List.{take-take}
 use Rattle.semantics.specs.Texts.{Text, table_of, Range}
 use Rattle.semantics.specs.Histories.{History, DeclaredJoin, joins_of}

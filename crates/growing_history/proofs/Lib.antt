@@ -8,3 +8,4 @@ pub mod OrderLemmas
 pub mod TableNameLemmas
 pub mod UnchangedLemmas
 pub mod BareLemmas
+pub mod SortedLemmas

@@ -2,12 +2,12 @@
 use Rattle.std.proofs.Common.{◌≡◌, ℕ, zero, suc, ◌+◌, ◌-◌, ◌<◌, ◌≤◌, true, false, cond, not, List, [], ◌∷◌, ◌++◌, length, get_or, take, slice_get, Some, None, IsSomeAnd, refl, sym, ap, ◌∙◌, subst, ⊎_elim, arith, append_assoc}
 use Rattle.std.specs.List.{list_all, AllByRecursion}
 use Rattle.std.proofs.lemmas.Bool.{false≢true, and_parts, or_from, not-true, false_from_ne_true, cases_lt}
-use Rattle.std.proofs.lemmas.List.{take_more, take_all, take-take}
+use Rattle.std.proofs.lemmas.List.{take_more, take_all}
 use Rattle.std.proofs.lemmas.Option.{slice_get-get_or}
 use Rattle.semantics.specs.Texts.{Text, bar, same, table_of, Table, value_at, is_range, Range, within}
 use Rattle.semantics.specs.Patterns.{literal, slot, Pattern, is_pattern, segments, fits}
 use Rattle.semantics.specs.Joins.{is_join}
-use Rattle.semantics.specs.Histories.{Write, put, remove, declare, drop_join, Entry, History, DeclaredJoin, joins_after, joins_from, joins_of, base_after, base_of, is_computed}
+use Rattle.semantics.specs.Histories.{Write, put, remove, declare, drop_join, Entry, History, DeclaredJoin, joins_of, base_after, base_of, is_computed}
 use Rattle.semantics.specs.States.{below}
 use Rattle.semantics.specs.StateLaws.{DeclaresJoins}
 use Rattle.semantics.proofs.PieceLemmas.{same_by_equal, equal_by_same, pieces-append}
@@ -21,7 +21,6 @@ use Rattle.key_ranges.proofs.PrefixLemmas.{rest_of, named}
 use Rattle.key_ranges.proofs.RangeLemmas.{bounds_of, bar_of_names, within_begins}
 use Rattle.growing_history.specs.Changes.{has_table, is_bare}
 use Rattle.growing_history.specs.ChangeLaws.{Writes, UnchangedIsSame, BareIsBase}
-use Rattle.growing_history.proofs.ElementLemmas.{all_left}
 use Rattle.growing_history.proofs.ChangeLemmas.{changed_keys_are_written}
 use Rattle.growing_history.proofs.PartLemmas.{same_within}
 

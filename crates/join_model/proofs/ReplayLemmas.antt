@@ -12,6 +12,7 @@ use Rattle.join_model.proofs.HidingLemmas.{drop_at_place}
 -- the first entries leave this
 pub record HasTaken (h : History) (n : ℕ) (summary : Summary) (base : Table) : Type 0 where
   pub stands : StandsFor summary (take n h)
+  pub unsettled : summary.floor ≡ 0
   pub same_base : base ≡ base_of (take n h)
 
 -- the entries around the one at a place

@@ -1,24 +1,21 @@
 -- Which tables are bare, from the joins that stand and the last drop of each table.
-use Rattle.std.proofs.Common.{◌≡◌, ℕ, ◌+◌, ◌<◌, ◌≤◌, ◌&&◌, ◌||◌, ◌==◌, List, [], ◌∷◌, ◌++◌, length, map, filter, take, max, Bool, true, false, cond, not, nat_lt, nat_le, if◌then◌else◌, Option, Some, None, refl, sym, ap, ◌∙◌, subst, arith, length-append, length-take, le-leb, leb-true, ltb-true, ltb-false}
+use Rattle.std.proofs.Common.{◌≡◌, ℕ, ◌+◌, ◌<◌, ◌≤◌, ◌&&◌, ◌||◌, ◌==◌, List, [], ◌∷◌, ◌++◌, length, map, filter, take, max, Bool, true, false, cond, not, nat_lt, nat_le, if◌then◌else◌, Option, Some, None, refl, sym, ap, ◌∙◌, arith, length-append, length-take, le-leb, leb-true, ltb-true, ltb-false}
 use Rattle.std.specs.List.{list_any, list_all}
-use Rattle.std.proofs.lemmas.Bool.{and_from, and_parts, or_parts, lt-ltb, le-ltb, lt-leb, false_from_ne_true}
-use Rattle.std.proofs.lemmas.List.{take_all}
-use Rattle.std.proofs.lemmas.List.Folds.{list_all-append}
+use Rattle.std.proofs.lemmas.Bool.{or_parts, le-ltb, lt-leb, false_from_ne_true}
+use Rattle.std.proofs.lemmas.List.Folds.{list_all-append, list_any-append}
 use Rattle.semantics.specs.Texts.{Text, same}
 use Rattle.semantics.specs.Patterns.{Pattern, literal, slot}
-use Rattle.semantics.specs.Joins.{Join}
 use Rattle.semantics.specs.Histories.{Write, put, remove, declare, drop_join, Entry, History, DeclaredJoin, joins_of, joins_after, is_of_joins, changed_at, without}
-use Rattle.semantics.specs.Stays.{Stay, declared, stays_after, stays_of, is_after, stands_at, joins_at, stands_between}
+use Rattle.semantics.specs.Stays.{Stay, declared, stays_after, stays_of, is_after, stands_at, joins_at}
 use Rattle.semantics.specs.Verdicts.{AllEntered}
 use Rattle.semantics.proofs.BaseLemmas.{joins_of-push}
-use Rattle.semantics.proofs.PieceLemmas.{equal_by_same, same_by_equal}
-use Rattle.semantics.proofs.StayLemmas.{IsWithinStay, IsUpTo, AreUpTo, stays_up_to, joins_at_stays}
-use Rattle.growing_history.proofs.EnteredLemmas.{entered_taken}
+use Rattle.semantics.proofs.PieceLemmas.{equal_by_same}
+use Rattle.semantics.proofs.StayLemmas.{IsWithinStay, AreUpTo, stays_up_to, joins_at_stays}
 use Rattle.growing_history.specs.Changes.{has_table, bare_between}
-use Rattle.join_set.specs.Sets.{LastDrop, Joins, AreJoins, bare_since, drops_after, drops_of, joins_then, last_drop}
-use Rattle.join_set.specs.Timelines.{up_to, end_up_to, drop_up_to, greatest, changed_up_to, dropped_up_to, kept_stays}
-use Rattle.join_set.proofs.TimelineLemmas.{is_hit, joins_now, stays_of-push, changed_at-push, dropped_taken, dropped_declared, dropped_more, dropped_ended}
-use Rattle.join_set.proofs.SettleLemmas.{joins_kept, changed_from_floor, dropped_kept, same_from_floor}
+use Rattle.join_set.specs.Sets.{LastDrop, Joins, AreJoins, bare_since, drop_at, drop_made, drops_behind, drops_made, has_drop, joins_then, last_drop, position_of, table_of_keys, with_drops, without_drops}
+use Rattle.join_set.specs.Timelines.{end_up_to, drop_up_to, changed_up_to, dropped_up_to, kept_stays}
+use Rattle.join_set.proofs.TimelineLemmas.{greatest-append, is_hit, joins_now, stays_of-push, changed_at-push, dropped_taken, dropped_declared, dropped_more, dropped_ended}
+use Rattle.join_set.proofs.SettleLemmas.{TellDrops, not_above, joins_kept, changed_from_floor, dropped_kept, same_from_floor}
 
 -- a join of another table
 abbrev is_other : Text → DeclaredJoin → Bool
@@ -96,54 +93,87 @@ bare_now h q table = bare_is q (length h) table (stays_of h) (stays_up_to h) ∙
 
 -- ---- the last drops that a set remembers
 
--- whether a last drop is of another table
-abbrev is_kept : Text → LastDrop → Bool
-is_kept l d = not (same d.table l)
+-- whether a last drop is of another table than others
+abbrev is_kept : List LastDrop → LastDrop → Bool
+is_kept made d = not (has_drop d.table made)
 
-other_table : (t l table : Text) → same t l ≡ false → same t table ≡ true → same l table ≡ false
-other_table t l table differ is = false_from_ne_true (same l table) (λ e. let x = same_by_equal t l (equal_by_same t table is ∙ sym (equal_by_same l table e)) in cc)
-
-replaced : (table l : Text) (at : ℕ) (drops : List LastDrop) → last_drop table (filter (is_kept l) drops ++ record { table = l; position = at } ∷ []) ≡ cond (same l table) at (last_drop table drops)
-replaced table l at [] = refl
-replaced table l at (d ∷ drops) = by (same d.table l) refl (replaced table l at drops)
+-- without those of the tables of others, the last of a table is what it was, or there is none
+last_without : (table : Text) (made drops : List LastDrop) → last_drop table (filter (is_kept made) drops) ≡ cond (has_drop table made) 0 (last_drop table drops)
+last_without table made [] = by (has_drop table made)
   where
-    gone : (b c : Bool) → same l table ≡ b → same d.table table ≡ c → same d.table l ≡ true → cond b at (last_drop table drops) ≡ cond b at (cond c d.position (last_drop table drops))
-    gone true c e f is = refl
-    gone false false e f is = refl
-    gone false true e f is = let x = same_by_equal l table (sym (equal_by_same d.table l is) ∙ equal_by_same d.table table f) in cc
-
-    stays : (c : Bool) → same d.table table ≡ c → same d.table l ≡ false → cond c d.position (cond (same l table) at (last_drop table drops)) ≡ cond (same l table) at (cond c d.position (last_drop table drops))
-    stays false f is = refl
-    stays true f is = sym (ap (λ b. cond b at d.position) (other_table d.table l table is f))
-
-    by : (b : Bool) → same d.table l ≡ b → last_drop table (filter (is_kept l) drops ++ record { table = l; position = at } ∷ []) ≡ cond (same l table) at (last_drop table drops) →
-        last_drop table (cond (not b) (d ∷ filter (is_kept l) drops) (filter (is_kept l) drops) ++ record { table = l; position = at } ∷ []) ≡ cond (same l table) at (cond (same d.table table) d.position (last_drop table drops))
-    by true is e = e ∙ gone (same l table) (same d.table table) refl refl is
-    by false is e = ap (λ n. cond (same d.table table) d.position n) e ∙ stays (same d.table table) refl is
-
--- a drop is the last of the table of its join
-pub last_after : (table : Text) (at : ℕ) (output : Pattern) (drops : List LastDrop) → last_drop table (drops_after at output drops) ≡ cond (has_table output table) at (last_drop table drops)
-last_after table at [] drops = refl
-last_after table at (literal l ∷ ss) drops = replaced table l at drops
-last_after table at (slot place width ∷ ss) drops = refl
-
--- and so of the tables of the joins that were declared at a position
-last_of : (table : Text) (position at : ℕ) (joins : List DeclaredJoin) (drops : List LastDrop) → last_drop table (drops_of position at joins drops) ≡ cond (list_any (is_hit position table) joins) at (last_drop table drops)
-last_of table position at [] drops = refl
-last_of table position at (s ∷ joins) drops = by (s.position == position) (last_of table position at joins)
+    by : (b : Bool) → last_drop table [] ≡ cond b 0 (last_drop table [])
+    by true = refl
+    by false = refl
+last_without table made (d ∷ drops) = by (same d.table table) (has_drop d.table made) refl refl (last_without table made drops)
   where
-    joined : (b c : Bool) (n : ℕ) → cond c at (cond b at n) ≡ cond (b || c) at n
-    joined true true n = refl
-    joined true false n = refl
-    joined false c n = refl
+    other : (c : Bool) → position_of table d ≡ 0 → last_drop table (cond (not c) (d ∷ filter (is_kept made) drops) (filter (is_kept made) drops)) ≡ last_drop table (filter (is_kept made) drops)
+    other true none = refl
+    other false none = omega (arith, none)
 
-    by : (b : Bool) → ((some : List LastDrop) → last_drop table (drops_of position at joins some) ≡ cond (list_any (is_hit position table) joins) at (last_drop table some)) →
-        last_drop table (drops_of position at joins (if b then (drops_after at s.join.output drops) else drops)) ≡ cond ((b && has_table s.join.output table) || list_any (is_hit position table) joins) at (last_drop table drops)
-    by true rest =
-        rest (drops_after at s.join.output drops)
-        ∙ ap (λ n. cond (list_any (is_hit position table) joins) at n) (last_after table at s.join.output drops)
-        ∙ joined (has_table s.join.output table) (list_any (is_hit position table) joins) (last_drop table drops)
-    by false rest = rest drops
+    same_has : (c : Bool) → same d.table table ≡ true → has_drop d.table made ≡ c → has_drop table made ≡ c
+    same_has c is has = sym (ap (λ t. has_drop t made) (equal_by_same d.table table is)) ∙ has
+
+    by : (b c : Bool) → same d.table table ≡ b → has_drop d.table made ≡ c → last_drop table (filter (is_kept made) drops) ≡ cond (has_drop table made) 0 (last_drop table drops) →
+        last_drop table (cond (not c) (d ∷ filter (is_kept made) drops) (filter (is_kept made) drops)) ≡ cond (has_drop table made) 0 (max (position_of table d) (last_drop table drops))
+    by true true is has rest =
+        let here = same_has true is has in
+        rest ∙ ap (λ b. cond b 0 (last_drop table drops)) here ∙ sym (ap (λ b. cond b 0 (max (position_of table d) (last_drop table drops))) here)
+    by true false is has rest =
+        let here = same_has false is has in
+        ap (max (position_of table d)) (rest ∙ ap (λ b. cond b 0 (last_drop table drops)) here) ∙ sym (ap (λ b. cond b 0 (max (position_of table d) (last_drop table drops))) here)
+    by false c is has rest =
+        let none : position_of table d ≡ 0 = ap (λ b. cond b d.position 0) is in
+        let before : max (position_of table d) (last_drop table drops) ≡ last_drop table drops = omega (arith, none) in
+        other c none ∙ rest ∙ ap (cond (has_drop table made) 0) (sym before)
+
+zero_last : (n : ℕ) → max n 0 ≡ n
+zero_last n = omega arith
+
+-- the drop of a join is the last of its table
+last_one : (table : Text) (at : ℕ) (b : Bool) (output : Pattern) → last_drop table (if b then (drop_at at (table_of_keys output)) else []) ≡ cond (b && has_table output table) at 0
+last_one table at false output = refl
+last_one table at true [] = refl
+last_one table at true (literal l ∷ ss) = zero_last (position_of table (record { table = l; position = at }))
+last_one table at true (slot place width ∷ ss) = refl
+
+has_one : (table : Text) (at : ℕ) (b : Bool) (output : Pattern) → has_drop table (if b then (drop_at at (table_of_keys output)) else []) ≡ (b && has_table output table)
+has_one table at false output = refl
+has_one table at true [] = refl
+has_one table at true (literal l ∷ ss) = or_false (same l table)
+has_one table at true (slot place width ∷ ss) = refl
+
+-- the drops of the joins that were declared at a position are the last of their tables
+last_made : (table : Text) (position at : ℕ) (joins : List DeclaredJoin) → last_drop table (drops_made position at joins) ≡ cond (list_any (is_hit position table) joins) at 0
+last_made table position at [] = refl
+last_made table position at (s ∷ joins) =
+    greatest-append (position_of table) (drop_made position at s) (drops_made position at joins)
+    ∙ (λ i. max (last_one table at (s.position == position) s.join.output i) (last_made table position at joins i))
+    ∙ either (is_hit position table s) (list_any (is_hit position table) joins)
+  where
+    either : (b c : Bool) → max (cond b at 0) (cond c at 0) ≡ cond (b || c) at 0
+    either true true = omega arith
+    either true false = omega arith
+    either false c = omega arith
+
+has_made : (table : Text) (position at : ℕ) (joins : List DeclaredJoin) → has_drop table (drops_made position at joins) ≡ list_any (is_hit position table) joins
+has_made table position at [] = refl
+has_made table position at (s ∷ joins) =
+    list_any-append (λ d. same d.table table) (drop_made position at s) (drops_made position at joins)
+    ∙ (λ i. has_one table at (s.position == position) s.join.output i || has_made table position at joins i)
+
+-- where they come in the place of those of their tables, they are the last of these, and the last of each other table is what it was
+last_of : (table : Text) (position at : ℕ) (joins : List DeclaredJoin) (drops : List LastDrop) →
+    last_drop table (with_drops (drops_made position at joins) drops) ≡ cond (list_any (is_hit position table) joins) at (last_drop table drops)
+last_of table position at joins drops =
+    let made = drops_made position at joins in
+    greatest-append (position_of table) (filter (is_kept made) drops) made
+    ∙ (λ i. max (last_without table made drops i) (last_made table position at joins i))
+    ∙ ap (λ b. max (cond b 0 (last_drop table drops)) (cond (list_any (is_hit position table) joins) at 0)) (has_made table position at joins)
+    ∙ by (list_any (is_hit position table) joins)
+  where
+    by : (b : Bool) → max (cond b 0 (last_drop table drops)) (cond b at 0) ≡ cond b at (last_drop table drops)
+    by true = omega arith
+    by false = omega arith
 
 -- ---- a set through one write more
 
@@ -165,20 +195,20 @@ swapped false true l = refl
 swapped false false l = refl
 
 -- what the set says of a table after a write, and what the stays say
-bare_then : (joins : Joins) (h : History) (w : Write) (q : ℕ) (table : Text) → AreJoins 0 joins h →
+bare_then : (floor : ℕ) (joins : Joins) (h : History) (w : Write) (q : ℕ) (table : Text) → floor ≤ q → AreJoins floor joins h →
     bare_since q table (joins_then (length h + 1) w joins)
     ≡ (list_all (is_other table) (joins_after (length h + 1) w (joins_of h)) && nat_le (dropped_up_to (length h + 1) table (stays_after (length h + 1) w (stays_of h))) q)
-bare_then joins h (put k v) q table are = are.bare q table (omega arith) ∙ bare_now h q table ∙ ap (λ n. list_all (is_other table) (joins_of h) && nat_le n q) (sym (dropped_more (length h) table (stays_of h) (stays_up_to h)))
-bare_then joins h (remove k) q table are = are.bare q table (omega arith) ∙ bare_now h q table ∙ ap (λ n. list_all (is_other table) (joins_of h) && nat_le n q) (sym (dropped_more (length h) table (stays_of h) (stays_up_to h)))
-bare_then joins h (declare j) q table are =
+bare_then floor joins h (put k v) q table up are = are.bare q table up ∙ bare_now h q table ∙ ap (λ n. list_all (is_other table) (joins_of h) && nat_le n q) (sym (dropped_more (length h) table (stays_of h) (stays_up_to h)))
+bare_then floor joins h (remove k) q table up are = are.bare q table up ∙ bare_now h q table ∙ ap (λ n. list_all (is_other table) (joins_of h) && nat_le n q) (sym (dropped_more (length h) table (stays_of h) (stays_up_to h)))
+bare_then floor joins h (declare j) q table up are =
     let last : DeclaredJoin = record { position = length h + 1; join = j } in
     let one = list_all (is_other table) (last ∷ []) in
     ap (λ b. b && nat_le (last_drop table joins.drops) q) (list_all-append (is_other table) joins.standing (last ∷ []))
     ∙ swapped (list_all (is_other table) joins.standing) one (nat_le (last_drop table joins.drops) q)
-    ∙ ap (λ b. one && b) (are.bare q table (omega arith) ∙ bare_now h q table)
+    ∙ ap (λ b. one && b) (are.bare q table up ∙ bare_now h q table)
     ∙ sym (swapped (list_all (is_other table) (joins_of h)) one (nat_le (dropped_up_to (length h) table (stays_of h)) q))
     ∙ sym (λ i. list_all-append (is_other table) (joins_of h) (last ∷ []) i && nat_le (dropped_declared (length h) table j (stays_of h) (stays_up_to h) i) q)
-bare_then joins h (drop_join at) q table are =
+bare_then floor joins h (drop_join at) q table up are =
     ap (λ n. list_all (is_other table) (without at joins.standing) && nat_le n q) (last_of table at (length h + 1) joins.standing joins.drops)
     ∙ by (list_any (is_hit at table) joins.standing) refl
     ∙ sym (λ i. list_all (is_other table) (without at (sym are.standing i)) && nat_le (dropped i) q)
@@ -193,32 +223,56 @@ bare_then joins h (drop_join at) q table are =
     by false is =
         let left = without_others table at joins.standing is in
         ap (λ b. b && nat_le (last_drop table joins.drops) q) left
-        ∙ are.bare q table (omega arith) ∙ bare_now h q table
+        ∙ are.bare q table up ∙ bare_now h q table
         ∙ sym (λ i. (left ∙ ap (list_all (is_other table)) are.standing) i && nat_le (dropped_up_to (length h) table (stays_of h)) q)
 
-standing_then : (joins : Joins) (h : History) (at : ℕ) (w : Write) → AreJoins 0 joins h → (joins_then at w joins).standing ≡ joins_after at w (joins_of h)
-standing_then joins h at (put k v) are = are.standing
-standing_then joins h at (remove k) are = are.standing
-standing_then joins h at (declare j) are = ap (λ js. js ++ record { position = at; join = j } ∷ []) are.standing
-standing_then joins h at (drop_join position) are = ap (without position) are.standing
+standing_then : (floor : ℕ) (joins : Joins) (h : History) (at : ℕ) (w : Write) → AreJoins floor joins h → (joins_then at w joins).standing ≡ joins_after at w (joins_of h)
+standing_then floor joins h at (put k v) are = are.standing
+standing_then floor joins h at (remove k) are = are.standing
+standing_then floor joins h at (declare j) are = ap (λ js. js ++ record { position = at; join = j } ∷ []) are.standing
+standing_then floor joins h at (drop_join position) are = ap (without position) are.standing
 
-changed_then : (joins : Joins) (h : History) (at : ℕ) (w : Write) → AreJoins 0 joins h → (joins_then at w joins).changed ≡ (if is_of_joins w then at else changed_at h)
-changed_then joins h at (put k v) are = are.changed
-changed_then joins h at (remove k) are = are.changed
-changed_then joins h at (declare j) are = refl
-changed_then joins h at (drop_join position) are = refl
+changed_then : (floor : ℕ) (joins : Joins) (h : History) (at : ℕ) (w : Write) → AreJoins floor joins h → (joins_then at w joins).changed ≡ (if is_of_joins w then at else changed_at h)
+changed_then floor joins h at (put k v) are = are.changed
+changed_then floor joins h at (remove k) are = are.changed
+changed_then floor joins h at (declare j) are = refl
+changed_then floor joins h at (drop_join position) are = refl
 
 -- the set of the history with one entry more
-pub AreJoins-push : (joins : Joins) (h : History) (e : Entry) → AreJoins 0 joins h → AreJoins 0 (joins_then (length h + 1) e.write joins) (h ++ e ∷ [])
-AreJoins-push joins h e are =
+pub AreJoins-push : (floor : ℕ) (joins : Joins) (h : History) (e : Entry) → AreJoins floor joins h → AreJoins floor (joins_then (length h + 1) e.write joins) (h ++ e ∷ [])
+AreJoins-push floor joins h e are =
     let long : length (h ++ e ∷ []) ≡ length h + 1 = length-append h (e ∷ []) in
     record {
-      standing = standing_then joins h (length h + 1) e.write are ∙ sym (joins_of-push h e);
-      changed = changed_then joins h (length h + 1) e.write are ∙ sym (changed_at-push h e);
+      standing = standing_then floor joins h (length h + 1) e.write are ∙ sym (joins_of-push h e);
+      changed = changed_then floor joins h (length h + 1) e.write are ∙ sym (changed_at-push h e);
       bare = λ q table up.
-          bare_then joins h e.write q table are
+          bare_then floor joins h e.write q table up are
           ∙ sym (bare_now (h ++ e ∷ []) q table ∙ (λ i. list_all (is_other table) (joins_of-push h e i) && nat_le (dropped_up_to (long i) table (stays_of-push h e i)) q));
     }
+
+-- ---- forgotten drops
+
+-- the last drop behind a floor is the last, or both lie up to the floor
+behind_tells : (floor : ℕ) (table : Text) (drops : List LastDrop) → TellDrops floor (last_drop table (drops_behind floor drops)) (last_drop table drops)
+behind_tells floor table [] = record { low = omega arith; high = omega arith }
+behind_tells floor table (d ∷ drops) = by (nat_lt floor d.position) refl (behind_tells floor table drops)
+  where
+    by : (b : Bool) → nat_lt floor d.position ≡ b → TellDrops floor (last_drop table (drops_behind floor drops)) (last_drop table drops) →
+        TellDrops floor (last_drop table (cond b (d ∷ drops_behind floor drops) (drops_behind floor drops))) (max (position_of table d) (last_drop table drops))
+    by true is rest = record { low = omega (arith, rest.low); high = omega (arith, rest.high) }
+    by false is rest =
+        let gone : position_of table d ≤ floor = not_above floor d.position (same d.table table) (ltb-false floor d.position is) in
+        record { low = omega (arith, rest.low); high = omega (arith, rest.high, gone) }
+
+-- the set of a history from a floor on is its set from a higher one on, without the drops up to there
+pub AreJoins-forgotten : (floor above : ℕ) (joins : Joins) (h : History) → floor ≤ above → AreJoins floor joins h → AreJoins above (without_drops above joins) h
+AreJoins-forgotten floor above joins h rises are = record {
+  standing = are.standing;
+  changed = are.changed;
+  bare = λ q table up.
+      ap (λ b. list_all (is_other table) joins.standing && b) (same_from_floor above (last_drop table (drops_behind above joins.drops)) (last_drop table joins.drops) q up (behind_tells above table joins.drops))
+      ∙ are.bare q table (omega (arith, rises, up));
+}
 
 -- the set of no entries
 pub AreJoins-nil : AreJoins 0 (record { standing = []; changed = 0; drops = [] }) []

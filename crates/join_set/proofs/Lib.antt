@@ -9,5 +9,6 @@ pub mod TimelineLemmas
 pub mod SettleLemmas
 pub mod BareLemmas
 pub mod StayLemmas
+pub mod EndLemmas
 pub mod SummaryLemmas
 pub mod BareSinceLemmas

@@ -1,10 +1,7 @@
 -- The ranks of a set with one join more, or the cycle of its reading.
-use Rattle.std.proofs.Common.{◌≡◌, ℕ, ◌+◌, ◌<◌, ◌≤◌, List, [], ◌∷◌, length, map, get_or, All, Some, None, option_map, unwrap_or, refl, sym, ap, subst, ◌∙◌, arith}
+use Rattle.std.proofs.Common.{◌≡◌, ℕ, ◌+◌, ◌<◌, ◌≤◌, List, [], ◌∷◌, length, map, get_or, All, Some, None, option_map, refl, sym, ap, subst, ◌∙◌, arith}
 use Rattle.std.specs.List.{AllByRecursion}
-use Rattle.std.proofs.lemmas.List.{get_or_append_left}
 use Rattle.std.proofs.lemmas.List.FromFn.{length-map-range_with_len}
-use Rattle.std.proofs.lemmas.Option.{slice_get-get_or}
-use Rattle.std.proofs.Math.Seq.{get_or-append_seam}
 use Rattle.semantics.specs.Joins.{Join}
 use Rattle.semantics.specs.Histories.{DeclaredJoin}
 use Rattle.semantics.specs.Graphs.{Edges, AreVertices, IsAcyclic, IsLeastCycle, rank, ranks}
@@ -73,22 +70,6 @@ cause_of_cycle joins at j edges found positions e shown p =
     let here = subst (λ es. IsLeastCycle es (length joins) found) e shown in
     ap (λ o. option_map (λ c. cycle (map (position_at all) c)) o) (least_cycle-from_IsLeastCycle (length all) (reading all) (length joins) found (AreVertices-reading all) last here)
     ∙ ap (λ ps. Some (cycle ps)) (sym p)
-
--- the position of a join of the set
-pub position_early : (joins : List DeclaredJoin) (at : ℕ) (j : Join) (i : ℕ) (x : DeclaredJoin) → i < length joins → x ≡ get_or joins i x → x.position ≡ position_at (joined joins at j) i
-position_early joins at j i x h e =
-    let last : DeclaredJoin = record { position = at; join = j } in
-    let long : i < length (joined joins at j) = omega (arith, length-joined joins at j) in
-    let there = slice_get-get_or (joined joins at j) i x long ∙ ap (λ s. Some s) (get_or_append_left joins (last ∷ []) x i h ∙ sym e) in
-    sym (ap (λ o. unwrap_or (option_map (λ (s : DeclaredJoin). s.position) o) 0) there)
-
--- the position of the new join
-pub position_last : (joins : List DeclaredJoin) (at : ℕ) (j : Join) (i : ℕ) → i ≡ length joins → at ≡ position_at (joined joins at j) i
-position_last joins at j i e =
-    let last : DeclaredJoin = record { position = at; join = j } in
-    let long : i < length (joined joins at j) = omega (arith, length-joined joins at j) in
-    let there = slice_get-get_or (joined joins at j) i last long ∙ ap (λ s. Some s) (ap (λ k. get_or (joined joins at j) k last) e ∙ get_or-append_seam joins last [] last) in
-    sym (ap (λ o. unwrap_or (option_map (λ (s : DeclaredJoin). s.position) o) 0) there)
 
 -- a set with one join more, against which there is no cause
 pub IsRanked-joined : (joins : List DeclaredJoin) (at : ℕ) (j : Join) (next : List DeclaredJoin) (found : List ℕ) → IsAdmissible joins → join_cause joins at j ≡ None →

@@ -1,16 +1,14 @@
 -- A set without one of its joins.
-use Rattle.std.proofs.Common.{◌≡◌, ℕ, ◌+◌, ◌<◌, ◌≤◌, ◌==◌, List, [], ◌∷◌, ◌++◌, length, take, get_or, All, Bool, true, false, cond, not, Some, None, refl, sym, ap, ◌∙◌, subst, arith}
-use Rattle.std.specs.List.{list_any}
+use Rattle.std.proofs.Common.{◌≡◌, ℕ, ◌+◌, ◌<◌, ◌≤◌, ◌==◌, List, [], ◌∷◌, ◌++◌, length, take, get_or, not, sym, ap, ◌∙◌, subst, arith}
 use Rattle.std.proofs.lemmas.List.{take_more, take_all}
 use Rattle.std.proofs.lemmas.List.Elements.{All-filter, All-push, All-weaker}
 use Rattle.semantics.specs.Joins.{Join}
 use Rattle.semantics.specs.Histories.{DeclaredJoin, without}
-use Rattle.semantics.specs.Graphs.{Edges, AreVertices, IsAcyclic}
+use Rattle.semantics.specs.Graphs.{Edges, AreVertices}
 use Rattle.semantics.specs.States.{reading, ranks_of, IsAdmissible}
-use Rattle.semantics.specs.Verdicts.{joined, drop_cause, nojoin}
+use Rattle.semantics.specs.Verdicts.{joined}
 use Rattle.semantics.proofs.JoinReadings.{AreVertices-reading}
 use Rattle.semantics.proofs.PartSets.{filtered_is_admissible}
-use Rattle.rank_order.specs.Answers.{EachCycleMeets}
 use Rattle.join_set.specs.Sets.{AreUpTo, IsRanked}
 
 -- the first joins and the last are the whole
@@ -46,29 +44,3 @@ admissible_without position joins next a is = subst IsAdmissible (sym is) (filte
 -- its edges are over the numbers of the joins
 pub ends_of_whole : (joins : List DeclaredJoin) (edges : Edges) → edges ≡ reading joins → AreVertices (length joins) edges
 ends_of_whole joins edges e = subst (AreVertices (length joins)) (sym e) (AreVertices-reading joins)
-
--- it has no cycle
-pub no_cycles : (joins : List DeclaredJoin) (edges : Edges) (start : ℕ) → IsAdmissible joins → edges ≡ reading joins → EachCycleMeets edges start
-no_cycles joins edges start a e = subst (λ es. EachCycleMeets es start) (sym e) (λ b c is. absurd (a.acyclic b c is))
-
--- and is acyclic
-pub acyclic_whole : (joins : List DeclaredJoin) (edges : Edges) → IsAdmissible joins → edges ≡ reading joins → IsAcyclic edges
-acyclic_whole joins edges a e = subst IsAcyclic (sym e) a.acyclic
-
--- ---- the cause against a drop
-
--- there is none where the join stands
-pub drop_free : (position : ℕ) (joins : List DeclaredJoin) → list_any (λ s. s.position == position) joins ≡ true → drop_cause position joins ≡ None
-drop_free position joins h = by (list_any (λ s. s.position == position) joins) h
-  where
-    by : (b : Bool) → b ≡ true → cond (not b) (Some nojoin) None ≡ None
-    by true e = refl
-    by false e = cc
-
--- there is one where it does not
-pub drop_refused : (position : ℕ) (joins : List DeclaredJoin) → list_any (λ s. s.position == position) joins ≡ false → drop_cause position joins ≡ Some nojoin
-drop_refused position joins h = by (list_any (λ s. s.position == position) joins) h
-  where
-    by : (b : Bool) → b ≡ false → cond (not b) (Some nojoin) None ≡ Some nojoin
-    by true e = cc
-    by false e = refl

@@ -129,7 +129,7 @@ changed_from_floor floor p h entered up within =
 -- ---- the last drop of a table
 
 -- a position that is not above a floor stays so where it is 0 in its place
-not_above : (floor d : ℕ) (b : Bool) → d ≤ floor → (if b then d else 0) ≤ floor
+pub not_above : (floor d : ℕ) (b : Bool) → d ≤ floor → (if b then d else 0) ≤ floor
 not_above floor d true low = low
 not_above floor d false low = omega arith
 

@@ -1,10 +1,10 @@
 -- The verdict from what is kept of a history, and what is kept after one entry more.
-use Rattle.std.proofs.Common.{◌≡◌, ℕ, ◌+◌, ◌-◌, ◌^◌, [], ◌∷◌, ◌++◌, List, length, take, max, nat_le, true, false, ◌<◌, ◌≤◌, leb-false, Option, Some, None, if◌then◌else◌, refl, sym, ap, ◌∙◌, subst, length-append, length-take, arith}
+use Rattle.std.proofs.Common.{◌≡◌, ℕ, ◌+◌, ◌-◌, ◌^◌, [], ◌∷◌, ◌++◌, List, length, take, max, nat_le, true, false, ◌<◌, ◌≤◌, leb-false, Option, Some, None, if◌then◌else◌, refl, sym, ap, ◌∙◌, subst, length-append, arith}
 use Rattle.semantics.specs.Texts.{Text}
 use Rattle.semantics.specs.Joins.{Join}
-use Rattle.semantics.specs.Histories.{Write, put, remove, declare, drop_join, Entry, History, DeclaredJoin, joins_of, changed_at}
+use Rattle.semantics.specs.Histories.{Write, put, remove, declare, drop_join, Entry, History, joins_of, changed_at}
 use Rattle.semantics.specs.States.{IsAdmissible}
-use Rattle.semantics.specs.Stays.{Stay, stays_of, stays_after, joins_at}
+use Rattle.semantics.specs.Stays.{stays_of, stays_after, joins_at}
 use Rattle.semantics.specs.Verdicts.{Cause, full, first_cause, computed_cause, join_cause, drop_cause, write_cause, verdict}
 use Rattle.semantics.proofs.AdmissibleSets.{entered_is_admissible_lem}
 use Rattle.semantics.proofs.EnteredLemmas.{AllEntered-nil, AllEntered-push}
@@ -17,7 +17,7 @@ use Rattle.join_set.specs.Timelines.{changed_up_to, dropped_up_to, kept_stays}
 use Rattle.join_set.specs.Summaries.{Summary, no_summary, StandsFor, IsOfSome, own_cause, cause_over, summary_after, summary_settled}
 use Rattle.join_set.proofs.TimelineLemmas.{stays_of-push, changed_within}
 use Rattle.join_set.proofs.SettleLemmas.{joins_kept, kept_kept, kept_after, changed_from_floor}
-use Rattle.join_set.proofs.BareLemmas.{AreJoins-nil, AreJoins-push, AreJoins-settled}
+use Rattle.join_set.proofs.BareLemmas.{AreJoins-nil, AreJoins-push, AreJoins-forgotten, AreJoins-settled}
 
 -- the cause against a write, once there is room
 own_cause-StandsFor : (summary : Summary) (h : History) (write : Write) → StandsFor summary h → own_cause summary write ≡ write_cause write h
@@ -36,7 +36,7 @@ cause_over-StandsFor summary h write s =
 
 -- what is kept of the history without entries
 pub StandsFor-nil : StandsFor no_summary []
-StandsFor-nil = record { joins = AreJoins-nil; same_length = refl; within = omega arith; settled = refl; kept = refl; entered = AllEntered-nil }
+StandsFor-nil = record { joins = AreJoins-nil; same_length = refl; within = omega arith; changed_at_floor = refl; kept = refl; entered = AllEntered-nil }
 
 -- what is kept after one entry more, against which nothing was
 pub StandsFor-push : (summary : Summary) (h : History) (client : ℕ) (write : Write) → StandsFor summary h → cause_over summary write ≡ None →
@@ -46,10 +46,10 @@ StandsFor-push summary h client write s free =
     let next : length h + 1 ≡ summary.length + 1 = ap (λ n. n + 1) (sym s.same_length) in
     let behind : summary.floor < length h + 1 = omega (arith, s.within) in
     record {
-      joins = subst (λ n. AreJoins 0 (joins_then n write summary.joins) (h ++ e ∷ [])) next (AreJoins-push summary.joins h e s.joins);
+      joins = subst (λ n. AreJoins summary.floor (joins_then n write summary.joins) (h ++ e ∷ [])) next (AreJoins-push summary.floor summary.joins h e s.joins);
       same_length = sym next ∙ sym (length-append h (e ∷ []));
       within = omega (arith, s.within, length-append h (e ∷ []));
-      settled = s.settled ∙ ap changed_at (sym (take-append-le summary.floor h (e ∷ []) s.within));
+      changed_at_floor = s.changed_at_floor ∙ ap changed_at (sym (take-append-le summary.floor h (e ∷ []) s.within));
       kept =
           (λ i. stays_after (sym next i) write (s.kept i)) ∙ sym (kept_after summary.floor (length h + 1) write (stays_of h) behind)
           ∙ ap (kept_stays summary.floor) (sym (stays_of-push h e));
@@ -75,10 +75,10 @@ admissible_some summary p some above =
 -- what the stays tell of the first entries, from the floor on, is the set of these
 pub taken_some : (summary : Summary) (h : History) (p : ℕ) (drops : List LastDrop) → StandsFor summary h → summary.floor ≤ p → p ≤ summary.length →
     ((table : Text) → last_drop table drops ≡ dropped_up_to p table summary.stays) →
-    AreJoins summary.floor (record { standing = joins_at p summary.stays; changed = max summary.settled (changed_up_to p summary.stays); drops = drops }) (take p h)
+    AreJoins summary.floor (record { standing = joins_at p summary.stays; changed = max summary.changed_at_floor (changed_up_to p summary.stays); drops = drops }) (take p h)
 taken_some summary h p drops s above within tell =
     subst (λ (joins : Joins). AreJoins summary.floor joins (take p h))
-    (λ i. record { standing = joins_at p (sym s.kept i); changed = max (sym s.settled i) (changed_up_to p (sym s.kept i)); drops = drops })
+    (λ i. record { standing = joins_at p (sym s.kept i); changed = max (sym s.changed_at_floor i) (changed_up_to p (sym s.kept i)); drops = drops })
     (AreJoins-settled h summary.floor p drops s.entered above (omega (arith, within, s.same_length)) (λ table. tell table ∙ ap (dropped_up_to p table) s.kept))
 
 -- ---- a higher floor
@@ -88,10 +88,10 @@ pub StandsFor-settled : (summary : Summary) (h : History) (floor : ℕ) → Stan
 StandsFor-settled summary h floor s rises within =
     let short : floor ≤ length h = omega (arith, within, s.same_length) in
     record {
-      joins = s.joins;
+      joins = AreJoins-forgotten summary.floor floor summary.joins h rises s.joins;
       same_length = s.same_length;
       within = short;
-      settled = (λ i. max (s.settled i) (changed_up_to floor (s.kept i))) ∙ changed_from_floor summary.floor floor h s.entered rises short;
+      changed_at_floor = (λ i. max (s.changed_at_floor i) (changed_up_to floor (s.kept i))) ∙ changed_from_floor summary.floor floor h s.entered rises short;
       kept = ap (kept_stays floor) s.kept ∙ kept_kept summary.floor floor (stays_of h) rises;
       entered = s.entered;
     }

@@ -1,8 +1,8 @@
 -- The last changes that stays tell: through one entry more, and of the first entries.
-use Rattle.std.proofs.Common.{◌≡◌, ℕ, zero, suc, ◌+◌, ◌-◌, ◌^◌, ◌<◌, ◌≤◌, ◌&&◌, ◌||◌, ◌==◌, List, [], ◌∷◌, ◌++◌, length, map, filter, take, max, Bool, true, false, cond, not, nat_lt, nat_le, if◌then◌else◌, Option, Some, None, is_none, refl, sym, ap, ◌∙◌, subst, arith, append-nil, append_assoc, length-append, le-leb, leb-true}
+use Rattle.std.proofs.Common.{◌≡◌, ℕ, zero, suc, ◌+◌, ◌-◌, ◌^◌, ◌<◌, ◌≤◌, ◌&&◌, ◌||◌, ◌==◌, List, [], ◌∷◌, ◌++◌, length, map, filter, take, get_or, max, Bool, true, false, cond, not, nat_lt, nat_le, if◌then◌else◌, Option, Some, None, is_none, refl, sym, ap, ◌∙◌, subst, arith, append-nil, append_assoc, length-append, le-leb, leb-true}
 use Rattle.std.specs.List.{list_any}
 use Rattle.std.proofs.lemmas.Bool.{and_right, lt-leb, le-ltb, not-false}
-use Rattle.std.proofs.lemmas.List.{take_all}
+use Rattle.std.proofs.lemmas.List.{take_all, take_more}
 use Rattle.semantics.specs.Texts.{Text}
 use Rattle.semantics.specs.Joins.{Join}
 use Rattle.semantics.specs.Histories.{Write, put, remove, declare, drop_join, Entry, History, DeclaredJoin, joins_of, is_of_joins, changed_from, changed_at}
@@ -11,7 +11,8 @@ use Rattle.semantics.specs.Verdicts.{full, nojoin, first_cause, drop_cause, writ
 use Rattle.semantics.proofs.JoinSets.{first_cause-None, test-from_None}
 use Rattle.semantics.proofs.StayLemmas.{IsWithinStay, IsUpTo, AreUpTo, stays_up_to, joins_at_stays}
 use Rattle.growing_history.specs.Changes.{has_table}
-use Rattle.join_set.specs.Timelines.{up_to, end_up_to, change_up_to, drop_up_to, greatest, changed_up_to, dropped_up_to}
+use Rattle.join_set.specs.Sets.{greatest}
+use Rattle.join_set.specs.Timelines.{up_to, end_up_to, change_up_to, drop_up_to, changed_up_to, dropped_up_to}
 
 -- ---- positions up to another
 
@@ -42,12 +43,20 @@ drop_low p table s = by (has_table s.join.output table)
     by true = end_low p s.until
     by false = omega arith
 
--- ---- the greatest of the numbers of stays
+-- ---- the greatest of the numbers of elements
 
--- one stay more
-pub greatest-push : (f : Stay → ℕ) (stays : List Stay) (s : Stay) → greatest f (stays ++ s ∷ []) ≡ max (greatest f stays) (f s)
-greatest-push f [] s = omega arith
-greatest-push f (t ∷ stays) s = let rest = greatest-push f stays s in omega (arith, rest)
+-- of two lists one after the other
+pub greatest-append : {X : Type 0} (f : X → ℕ) (xs ys : List X) → greatest f (xs ++ ys) ≡ max (greatest f xs) (greatest f ys)
+greatest-append f [] ys = omega arith
+greatest-append f (x ∷ xs) ys = let rest = greatest-append f xs ys in omega (arith, rest)
+
+-- one element more
+pub greatest-push : {X : Type 0} (f : X → ℕ) (xs : List X) (x : X) → greatest f (xs ++ x ∷ []) ≡ max (greatest f xs) (f x)
+greatest-push f xs x = let both = greatest-append f xs (x ∷ []) in omega (arith, both)
+
+-- of the first elements, with one more
+pub greatest_more : {X : Type 0} (f : X → ℕ) (xs : List X) (i : ℕ) (x : X) → i < length xs → x ≡ get_or xs i x → greatest f (take (i + 1) xs) ≡ max (greatest f (take i xs)) (f x)
+greatest_more f xs i x less at = ap (greatest f) (take_more xs i x less ∙ ap (λ y. take i xs ++ y ∷ []) (sym at)) ∙ greatest-push f (take i xs) x
 
 -- a bound of each is one of the greatest
 pub greatest_low : (f : Stay → ℕ) (p : ℕ) (stays : List Stay) → ((s : Stay) → f s ≤ p) → greatest f stays ≤ p

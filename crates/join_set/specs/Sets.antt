@@ -1,6 +1,6 @@
 -- Sets of joins: whose output a key fits, where positions stand, and what is remembered of joins that were dropped.
-use Rattle.std.specs.Prelude.{◌≡◌, ℕ, ◌≤◌, ◌==◌, ◌&&◌, List, [], ◌∷◌, ◌++◌, length, find, filter, Bool, not, nat_le, if◌then◌else◌, Option, None, option_map}
-use Rattle.std.specs.List.{All, list_all}
+use Rattle.std.specs.Prelude.{◌≡◌, ℕ, ◌≤◌, ◌==◌, ◌&&◌, List, [], ◌∷◌, ◌++◌, length, find, filter, max, Bool, not, nat_le, nat_lt, if◌then◌else◌, Option, Some, None, option_map}
+use Rattle.std.specs.List.{All, list_all, list_any}
 use Rattle.semantics.specs.Texts.{Text, same}
 use Rattle.semantics.specs.Patterns.{Pattern, literal, slot, fits}
 use Rattle.semantics.specs.Joins.{Join}
@@ -33,27 +33,50 @@ pub record Joins : Type 0 where
 abbrev pub no_joins : Joins
 no_joins = record { standing = []; changed = 0; drops = [] }
 
+-- the greatest of the numbers that the elements of a list have, 0 where there is none
+abbrev pub greatest : {X : Type 0} → (X → ℕ) → List X → ℕ
+greatest f [] = 0
+greatest f (x ∷ xs) = max (f x) (greatest f xs)
+
+-- the position of a last drop, where it is of a table; otherwise 0
+abbrev pub position_of : Text → LastDrop → ℕ
+position_of table d = if same d.table table then d.position else 0
+
 -- the position of the last drop of a join of a table, 0 where none is known
 abbrev pub last_drop : Text → List LastDrop → ℕ
-last_drop table [] = 0
-last_drop table (d ∷ drops) = if same d.table table then d.position else last_drop table drops
+last_drop table drops = greatest (position_of table) drops
 
--- the same of the table of the keys that fit a pattern, 0 too where it has none
-abbrev pub last_drop_of : Pattern → List LastDrop → ℕ
-last_drop_of [] drops = 0
-last_drop_of (literal l ∷ ss) drops = last_drop l drops
-last_drop_of (slot place width ∷ ss) drops = 0
+-- whether one of the last drops is of a table
+abbrev pub has_drop : Text → List LastDrop → Bool
+has_drop table drops = list_any (λ d. same d.table table) drops
 
--- the last drops after one more, of a join with this output, at a position
-abbrev pub drops_after : ℕ → Pattern → List LastDrop → List LastDrop
-drops_after at [] drops = drops
-drops_after at (literal l ∷ ss) drops = filter (λ d. not (same d.table l)) drops ++ record { table = l; position = at } ∷ []
-drops_after at (slot place width ∷ ss) drops = drops
+-- the table of the keys that fit a pattern; none where it has none
+abbrev pub table_of_keys : Pattern → Option Text
+table_of_keys [] = None
+table_of_keys (literal l ∷ ss) = Some l
+table_of_keys (slot place width ∷ ss) = None
 
--- the last drops once the joins that were declared at a position are dropped at another
-abbrev pub drops_of : ℕ → ℕ → List DeclaredJoin → List LastDrop → List LastDrop
-drops_of position at [] drops = drops
-drops_of position at (s ∷ joins) drops = drops_of position at joins (if s.position == position then drops_after at s.join.output drops else drops)
+-- the drop of a join of a table at a position, where there is a table
+abbrev pub drop_at : ℕ → Option Text → List LastDrop
+drop_at at None = []
+drop_at at (Some table) = record { table = table; position = at } ∷ []
+
+-- the drop, at a position, of a join that stands, where it was declared at another
+abbrev pub drop_made : ℕ → ℕ → DeclaredJoin → List LastDrop
+drop_made position at s = if s.position == position then drop_at at (table_of_keys s.join.output) else []
+
+-- the drops, at a position, of the joins that were declared at another
+abbrev pub drops_made : ℕ → ℕ → List DeclaredJoin → List LastDrop
+drops_made position at [] = []
+drops_made position at (s ∷ joins) = drop_made position at s ++ drops_made position at joins
+
+-- the last drops once others come in the place of those of their tables
+abbrev pub with_drops : List LastDrop → List LastDrop → List LastDrop
+with_drops made drops = filter (λ d. not (has_drop d.table made)) drops ++ made
+
+-- the last drops behind a floor
+abbrev pub drops_behind : ℕ → List LastDrop → List LastDrop
+drops_behind floor drops = filter (λ d. nat_lt floor d.position) drops
 
 -- the set with a join more, which is declared at a position
 abbrev pub with_join : ℕ → Join → Joins → Joins
@@ -64,8 +87,12 @@ abbrev pub without_join : ℕ → ℕ → Joins → Joins
 without_join position at joins = record {
   standing = without position joins.standing;
   changed = at;
-  drops = drops_of position at joins.standing joins.drops;
+  drops = with_drops (drops_made position at joins.standing) joins.drops;
 }
+
+-- the set once the drops up to a floor are forgotten
+abbrev pub without_drops : ℕ → Joins → Joins
+without_drops floor joins = record { standing = joins.standing; changed = joins.changed; drops = drops_behind floor joins.drops }
 
 -- the set after a write that enters at a position
 abbrev pub joins_then : ℕ → Write → Joins → Joins

@@ -3,7 +3,7 @@ use Rattle.std.specs.Prelude.{◌≡◌, ℕ, ◌+◌, ◌-◌, ◌<◌, ◌≤�
 use Rattle.semantics.specs.Histories.{Write, put, remove, declare, drop_join, History, changed_at}
 use Rattle.semantics.specs.Stays.{Stay, stays_of, stays_after}
 use Rattle.semantics.specs.Verdicts.{Cause, full, first_cause, computed_cause, join_cause, drop_cause, AllEntered}
-use Rattle.join_set.specs.Sets.{Joins, no_joins, joins_then, AreJoins}
+use Rattle.join_set.specs.Sets.{Joins, no_joins, joins_then, without_drops, AreJoins}
 use Rattle.join_set.specs.Timelines.{kept_stays, changed_up_to}
 
 -- the joins, the number of entries, a floor, the last declaration or drop up to it, and the stays that had not ended there
@@ -11,19 +11,19 @@ pub record Summary : Type 0 where
   pub joins : Joins
   pub length : ℕ
   pub floor : ℕ
-  pub settled : ℕ
+  pub changed_at_floor : ℕ
   pub stays : List Stay
 
 -- what is kept of no entries
 abbrev pub no_summary : Summary
-no_summary = record { joins = no_joins; length = 0; floor = 0; settled = 0; stays = [] }
+no_summary = record { joins = no_joins; length = 0; floor = 0; changed_at_floor = 0; stays = [] }
 
 -- the summary keeps this of the history, each of whose entries entered
 pub record StandsFor (summary : Summary) (h : History) : Type 0 where
-  pub joins : AreJoins 0 summary.joins h
+  pub joins : AreJoins summary.floor summary.joins h
   pub same_length : summary.length ≡ length h
   pub within : summary.floor ≤ length h
-  pub settled : summary.settled ≡ changed_at (take summary.floor h)
+  pub changed_at_floor : summary.changed_at_floor ≡ changed_at (take summary.floor h)
   pub kept : summary.stays ≡ kept_stays summary.floor (stays_of h)
   pub entered : AllEntered h
 
@@ -50,16 +50,16 @@ summary_after summary write = record {
   joins = joins_then (summary.length + 1) write summary.joins;
   length = summary.length + 1;
   floor = summary.floor;
-  settled = summary.settled;
+  changed_at_floor = summary.changed_at_floor;
   stays = stays_after (summary.length + 1) write summary.stays;
 }
 
--- the summary with a floor above its own: the stays that ended up to there are let go
+-- the summary with a floor above its own: the drops up to there are forgotten, and the stays that ended up to there are let go
 abbrev pub summary_settled : ℕ → Summary → Summary
 summary_settled floor summary = record {
-  joins = summary.joins;
+  joins = without_drops floor summary.joins;
   length = summary.length;
   floor = floor;
-  settled = max summary.settled (changed_up_to floor summary.stays);
+  changed_at_floor = max summary.changed_at_floor (changed_up_to floor summary.stays);
   stays = kept_stays floor summary.stays;
 }

@@ -1,8 +1,12 @@
 -- What the stays tell of the first entries of a history: the last declaration or drop, and the last drop of each table.
-use Rattle.std.specs.Prelude.{ℕ, List, [], ◌∷◌, filter, max, nat_le, if◌then◌else◌, Option, Some, None}
+use Rattle.std.specs.Prelude.{ℕ, List, filter, max, nat_le, if◌then◌else◌, Option, Some, None}
+use Rattle.std.specs.BTreeMap.{BTreeMap, get_by_text}
+use Rattle.std.specs.Option.{unwrap_or}
+use Rattle.std.specs.declared.string.String.{String}
 use Rattle.semantics.specs.Texts.{Text}
 use Rattle.semantics.specs.Stays.{Stay, is_after}
 use Rattle.growing_history.specs.Changes.{has_table}
+use Rattle.join_set.specs.Sets.{greatest}
 
 -- a position, where it lies up to another; otherwise 0
 abbrev pub up_to : ℕ → ℕ → ℕ
@@ -21,11 +25,6 @@ change_up_to p s = max (up_to p s.position) (end_up_to p s.until)
 abbrev pub drop_up_to : ℕ → Text → Stay → ℕ
 drop_up_to p table s = if has_table s.join.output table then end_up_to p s.until else 0
 
--- the greatest of the numbers that stays have, 0 where there is none
-abbrev pub greatest : (Stay → ℕ) → List Stay → ℕ
-greatest f [] = 0
-greatest f (s ∷ stays) = max (f s) (greatest f stays)
-
 -- the last declaration or drop up to a position
 abbrev pub changed_up_to : ℕ → List Stay → ℕ
 changed_up_to p stays = greatest (change_up_to p) stays
@@ -37,3 +36,7 @@ dropped_up_to p table stays = greatest (drop_up_to p table) stays
 -- the stays that have not ended up to a floor
 abbrev pub kept_stays : ℕ → List Stay → List Stay
 kept_stays floor stays = filter (λ s. is_after floor s.until) stays
+
+-- the position that a map has for a table, 0 where it has none
+abbrev pub end_of : {A : Type 0} → Text → BTreeMap (String A) ℕ → ℕ
+end_of table ends = unwrap_or (get_by_text ends table) 0

@@ -1,10 +1,9 @@
 // The last drop of a join of each table.
-ghost use Rattle.std.specs.Prelude.{◌≡◌, ◌∷◌, [], ◌++◌, IfOk, filter, not};
+ghost use Rattle.std.specs.Prelude.{◌≡◌, ◌++◌, IfOk, OnOk, OnErr, nat_lt};
 ghost use Rattle.semantics.specs.Texts.{same};
-ghost use Rattle.join_set.specs.Sets.{last_drop, last_drop_of, drops_after, drops_of};
+ghost use Rattle.join_set.specs.Sets.{drop_made, drops_behind, drops_made, has_drop, last_drop, position_of, with_drops};
 
 use crate::stands::Stands;
-use key_pattern::{Pattern, Segment};
 use out_of_memory::OutOfMemory;
 use std::alloc::Global;
 use std::marker::Model;
@@ -35,6 +34,27 @@ impl LastDrop {
         let table = String::from_str(alloc, table)?;
         Ok(LastDrop { table, position })
     }
+
+    /// Returns whether it is of the table.
+    fn is_of(&self, table: &str) -> bool
+        ensures { result ≡ same self.now.table table.now }
+    {
+        self.table.as_str() == table
+    }
+
+    /// Returns whether it stands after a position.
+    fn is_after(&self, position: u64) -> bool
+        ensures { result ≡ nat_lt position self.now.position }
+    {
+        position < self.position
+    }
+
+    /// Gives its position where it is of the table; otherwise 0.
+    fn position_of(&self, table: &str) -> u64
+        ensures { result ≡ position_of table.now self.now }
+    {
+        if self.is_of(table) { self.position } else { 0 }
+    }
 }
 
 /// Copies the last drops.
@@ -48,86 +68,77 @@ pub fn copy_drops(alloc: Global, drops: &[LastDrop]) -> Result<Vec<LastDrop>, Ou
     Ok(copies)
 }
 
-/// Copies the last drops of the other tables.
-fn copy_others(alloc: Global, drops: &[LastDrop], table: &str) -> Result<Vec<LastDrop>, OutOfMemory>
-    ensures { IfOk result (λ copies. copies.items ≡ filter (λ d. not (same d.table table.now)) drops.now) }
-{
-    let mut copies = Vec::new(alloc);
-    for last in drops {
-        if last.table.as_str() != table {
-            copies.push(LastDrop::make(alloc, last.table.as_str(), last.position)?)?;
-        }
-    }
-    Ok(copies)
-}
-
 /// Gives the position of the last drop of a table, 0 where none is known. Linear in the last drops.
 pub fn last_drop(drops: &[LastDrop], table: &str) -> u64
     ensures { result ≡ last_drop table.now drops.now }
 {
-    for last in drops {
-        if last.table.as_str() == table {
-            return last.position;
-        }
+    let mut last = 0;
+    for dropped in drops {
+        last = last.max(dropped.position_of(table));
     }
-    0
+    last
 }
 
-/// Gives the position of the last drop of the table of a pattern's keys, 0 where none is known. Linear in the last drops.
-pub fn last_drop_of(drops: &[LastDrop], output: &Pattern) -> u64
-    ensures { result ≡ last_drop_of output.now drops.now }
+/// Returns whether one of the last drops is of a table. Linear in the last drops.
+fn has_drop(drops: &[LastDrop], table: &str) -> bool
+    ensures { result ≡ has_drop table.now drops.now }
 {
-    match output.segments().first() {
-        Some(Segment::Literal(table)) => last_drop(drops, table.as_str()),
-        _ => 0,
-    }
+    drops.iter().any(|last| last.is_of(table))
 }
 
-/// Copies the last drops, with a later one of a table.
-fn copy_with(
+/// Adds the drop, at a position, of a join that stands, where it was declared at another.
+fn add_drop(
     alloc: Global,
-    drops: &[LastDrop],
-    table: &str,
+    made: &mut Vec<LastDrop>,
+    stands: &Stands,
+    position: u64,
     at: u64,
-) -> Result<Vec<LastDrop>, OutOfMemory>
-    ensures { IfOk result (λ found. found.items ≡ filter (λ d. not (same d.table table.now)) drops.now ++ record { table = table.now; position = at } ∷ []) }
+) -> Result<(), OutOfMemory>
+    ensures { OnOk result (made.new.items ≡ made.old.items ++ drop_made position at stands.now) }
 {
-    let mut found = copy_others(alloc, drops, table)?;
-    found.push(LastDrop::make(alloc, table, at)?)?;
-    Ok(found)
-}
-
-/// Gives the last drops once a join with this output is dropped at a later position. Linear in the last drops.
-pub fn drops_after(
-    alloc: Global,
-    drops: &[LastDrop],
-    output: &Pattern,
-    at: u64,
-) -> Result<Vec<LastDrop>, OutOfMemory>
-    ensures { IfOk result (λ found. found.items ≡ drops_after at output.now drops.now) }
-{
-    match output.segments().first() {
-        Some(Segment::Literal(table)) => copy_with(alloc, drops, table.as_str(), at),
-        _ => copy_drops(alloc, drops),
+    if stands.position != position {
+        return Ok(());
     }
+    if let Some(table) = stands.table() {
+        made.push(LastDrop::make(alloc, table, at)?)?;
+    }
+    Ok(())
 }
 
-/// Gives the last drops once those of the joins that were declared at a position are dropped at a later one. Linear in the
-/// joins and in the last drops.
-pub fn drops_of(
+/// Makes the drops, at a position, of the joins that were declared at another. Linear in the joins.
+pub fn drops_made(
     alloc: Global,
-    drops: &[LastDrop],
     joins: &[Stands],
     position: u64,
     at: u64,
 ) -> Result<Vec<LastDrop>, OutOfMemory>
-    ensures { IfOk result (λ found. found.items ≡ drops_of position at joins.now drops.now) }
+    ensures { IfOk result (λ made. made.items ≡ drops_made position at joins.now) }
 {
-    let mut found = copy_drops(alloc, drops)?;
+    let mut made = Vec::new(alloc);
     for stands in joins {
-        if stands.position == position {
-            found = drops_after(alloc, found.as_slice(), &stands.join.output, at)?;
-        }
+        add_drop(alloc, &mut made, stands, position, at)?;
     }
-    Ok(found)
+    Ok(made)
+}
+
+/// Puts last drops in the place of those of their tables. It compares each with each, and copies none. On `OutOfMemory` all are as
+/// they were.
+pub fn put_drops(drops: &mut Vec<LastDrop>, mut made: Vec<LastDrop>) -> Result<(), OutOfMemory>
+    ensures put { OnOk result (drops.new.items ≡ with_drops made.items drops.old.items) }
+    ensures unchanged { OnErr result (drops.new.items ≡ drops.old.items) }
+{
+    drops.reserve(made.len())?;
+    let others = made.as_slice();
+    drops.retain(|last| !has_drop(others, last.table.as_str()));
+    match drops.append(&mut made) {
+        Ok(()) => Ok(()),
+        Err(_) => unreachable!(),
+    }
+}
+
+/// Leaves out the last drops up to a floor. Linear in the last drops; it takes no memory.
+pub fn keep_behind(drops: &mut Vec<LastDrop>, floor: u64)
+    ensures { drops.new.items ≡ drops_behind floor drops.old.items }
+{
+    drops.retain(|last| last.is_after(floor));
 }

@@ -5,9 +5,9 @@ ghost use Rattle.semantics.specs.Histories.{is_computed};
 ghost use Rattle.semantics.specs.States.{IsAdmissible, ranks_of};
 ghost use Rattle.semantics.specs.Verdicts.{drop_cause, join_cause, joined};
 ghost use Rattle.join_set.specs.Faults.{IsFaultOf, IsRemoveFaultOf};
-ghost use Rattle.join_set.specs.Sets.{AreUpTo, bare_since, no_joins, owner_of, with_join, without_join};
+ghost use Rattle.join_set.specs.Sets.{AreUpTo, bare_since, no_joins, owner_of, with_join, without_drops, without_join};
 
-use crate::drops::{LastDrop, copy_drops, drops_of, last_drop};
+use crate::drops::{LastDrop, copy_drops, drops_made, keep_behind, last_drop, put_drops};
 use crate::fault::{AddFault, RemoveFault};
 use crate::stands::{Stands, copy_all, copy_without, has_position, is_without, owner};
 use crate::weighing::{ranks_of, weigh};
@@ -19,7 +19,8 @@ use std::marker::Model;
 
 /// A set of joins that may stand, each with the position of its declaration: each meets the rules, no two outputs overlap,
 /// the reading has no cycle, ranks are at most 7, and there are at most 64. The joins are numbered from 0 in the order in
-/// which they were added. Of the joins that were taken out it remembers the last drop of each table.
+/// which they were added. Of the joins that were taken out it remembers the last drop of each table, until it forgets the drops up
+/// to a floor.
 #[derive(Debug, Drop)]
 pub struct JoinSet {
     alloc: Global,
@@ -114,8 +115,8 @@ impl JoinSet {
         self.changed
     }
 
-    /// Returns whether no join that stood at some position from q to now has its output in the table. Linear in the joins and in
-    /// the tables of dropped joins.
+    /// Returns whether no join that stood at some position from q to now has its output in the table, as far as the set remembers
+    /// the drops after q. Linear in the joins and in the tables of the drops that it remembers.
     pub fn bare_since(&self, q: u64, table: &str) -> bool
         ensures { result ≡ bare_since q table.now self.now }
     {
@@ -148,7 +149,8 @@ impl JoinSet {
         owner(self.joins.as_slice(), key)
     }
 
-    /// An equal set, whose joins are copied, with the same allocator. Linear in the joins and in the tables of dropped joins.
+    /// An equal set, whose joins are copied, with the same allocator. Linear in the joins and in the tables of the drops that it
+    /// remembers.
     pub fn copy(&self) -> Result<JoinSet, OutOfMemory>
         ensures { IfOk result (λ copy. copy ≡ self.now) }
     {
@@ -206,8 +208,9 @@ impl JoinSet {
 
     /// Takes out the join that was declared at a position, by a drop at another, which is above each that the set has seen.
     ///
-    /// The joins that are left keep their order, and their ranks are made anew: each is compared with each. `NoJoin` comes
-    /// exactly where no join of the set was declared at the position. After an error the set is unchanged.
+    /// The joins that are left keep their order, and their ranks are made anew: each is compared with each. The table is compared
+    /// with those of the drops that are remembered. `NoJoin` comes exactly where no join of the set was declared at the position.
+    /// After an error the set is unchanged.
     pub fn remove(&mut self, at: u64, position: u64) -> Result<(), RemoveFault>
         requires { self.old.changed < at }
         ensures removed { OnOk result (self.new ≡ without_join position at self.old) }
@@ -221,11 +224,18 @@ impl JoinSet {
         }
         let left = copy_without(self.alloc, joins, position)?;
         let ranks = ranks_of(self.alloc, left.as_slice())?;
-        let drops = drops_of(self.alloc, self.drops.as_slice(), joins, position, at)?;
+        let made = drops_made(self.alloc, joins, position, at)?;
+        put_drops(&mut self.drops, made)?;
         self.joins = left;
         self.ranks = ranks;
         self.changed = at;
-        self.drops = drops;
         Ok(())
+    }
+
+    /// Forgets the drops up to a floor. It takes no memory, and is linear in the tables of the drops that are remembered.
+    pub(crate) fn forget_drops(&mut self, floor: u64)
+        ensures { self.new ≡ without_drops floor self.old }
+    {
+        keep_behind(&mut self.drops, floor);
     }
 }

@@ -29,7 +29,7 @@ pub struct Standing {
     entries: u64,
     floor: u64,
     /// The position of the last declaration or drop up to the floor.
-    settled: u64,
+    changed_at_floor: u64,
     stays: Vec<Stay>,
 }
 
@@ -38,9 +38,9 @@ impl Model for Standing {
 
     ghost Value = { Summary };
 
-    ghost view = { λ s. record { joins = s.joins; length = s.entries; floor = s.floor; settled = s.settled; stays = s.stays.items } };
+    ghost view = { λ s. record { joins = s.joins; length = s.entries; floor = s.floor; changed_at_floor = s.changed_at_floor; stays = s.stays.items } };
 
-    ghost invariant = { λ s. IsOfSome (record { joins = s.joins; length = s.entries; floor = s.floor; settled = s.settled; stays = s.stays.items }) };
+    ghost invariant = { λ s. IsOfSome (record { joins = s.joins; length = s.entries; floor = s.floor; changed_at_floor = s.changed_at_floor; stays = s.stays.items }) };
 }
 
 impl Standing {
@@ -53,7 +53,7 @@ impl Standing {
             joins: JoinSet::new(alloc),
             entries: 0,
             floor: 0,
-            settled: 0,
+            changed_at_floor: 0,
             stays: Vec::new(alloc),
         }
     }
@@ -68,7 +68,7 @@ impl Standing {
 
     /// Makes the set of the joins that stand after the first p entries, from the floor on, and their ranks: each join is compared
     /// with each. Of dropped joins the set knows from the floor on. Linear in the joins that stood at the floor or were declared
-    /// later, each of which is held against the tables of dropped ones.
+    /// later, with a search among the tables of dropped ones for each.
     pub fn joins_at(&self, p: u64) -> Result<JoinSet, OutOfMemory>
         requires above { self.now.floor ≤ p }
         requires within { p ≤ self.now.length }
@@ -77,12 +77,13 @@ impl Standing {
         let stays = self.stays.as_slice();
         let joins = joins_at(self.alloc, stays, p)?;
         let drops = drops_up_to(self.alloc, stays, p)?;
-        let changed = self.settled.max(changed_up_to(stays, p));
+        let changed = self.changed_at_floor.max(changed_up_to(stays, p));
         JoinSet::of(self.alloc, joins, changed, drops)
     }
 
-    /// Raises the floor, from which on it knows the joins of earlier positions: the joins that were dropped up to there are let go.
-    /// It takes no memory, and is linear in the joins that stood at the floor before or were declared later.
+    /// Raises the floor, from which on it knows the joins of earlier positions and which tables are bare: the joins that were
+    /// dropped up to there are let go, and their drops are forgotten. It takes no memory, and is linear in the joins that stood at
+    /// the floor before or were declared later.
     pub fn settle(&mut self, floor: u64)
         requires rises { self.old.floor ≤ floor }
         requires within { floor ≤ self.old.length }
@@ -90,9 +91,10 @@ impl Standing {
         ensures history { (h : History) → StandsFor self.old h → StandsFor self.new h }
     {
         let last = changed_up_to(self.stays.as_slice(), floor);
-        let settled = self.settled.max(last);
+        let changed = self.changed_at_floor.max(last);
         keep_stays(&mut self.stays, floor);
-        self.settled = settled;
+        self.joins.forget_drops(floor);
+        self.changed_at_floor = changed;
         self.floor = floor;
     }
 
@@ -144,7 +146,7 @@ impl Standing {
 
     /// Enters the write, which no cause refuses. After `OutOfMemory` nothing is changed. A put or remove takes constant
     /// time. A declaration copies the join, a drop those that are left, and both compare each join with each. A drop is also
-    /// linear in the joins that were ever declared.
+    /// linear in the joins that stood at the floor or were declared later.
     pub fn enter(&mut self, write: &Write) -> Result<(), OutOfMemory>
         requires { cause_over self.old (plain_write write.now) ≡ None }
         ensures exact { OnOk result (self.new ≡ summary_after self.old (plain_write write.now)) }

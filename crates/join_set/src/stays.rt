@@ -1,16 +1,19 @@
-// The joins that ever stood, each from its declaration until its drop, and what they tell of the first entries of a history.
-ghost use Rattle.std.specs.Prelude.{◌≡◌, ◌&&◌, ◌==◌, IfOk, Some, is_none, max, if◌then◌else◌};
-ghost use Rattle.semantics.specs.Texts.{Text};
+// The joins that stood at a floor or were declared later, each from its declaration until its drop, and what they tell of the first
+// entries of a history.
+ghost use Rattle.std.specs.Prelude.{◌≡◌, ◌&&◌, ◌==◌, IfOk, OnOk, Some, is_none, max, option_copied, if◌then◌else◌};
+ghost use Rattle.semantics.specs.Texts.{Text, same};
 ghost use Rattle.semantics.specs.Histories.{drop_join};
 ghost use Rattle.semantics.specs.Stays.{declared, is_after, joins_at, stands_at, stays_after};
-ghost use Rattle.join_set.specs.Sets.{drops_after, last_drop, last_drop_of};
-ghost use Rattle.join_set.specs.Timelines.{up_to, end_up_to, change_up_to, changed_up_to, drop_up_to, dropped_up_to, kept_stays};
+ghost use Rattle.join_set.specs.Sets.{last_drop, table_of_keys};
+ghost use Rattle.join_set.specs.Timelines.{up_to, end_of, end_up_to, change_up_to, changed_up_to, drop_up_to, dropped_up_to, kept_stays};
 
-use crate::drops::{LastDrop, drops_after, last_drop_of};
+use crate::drops::LastDrop;
+use crate::rules::table_of_keys;
 use crate::stands::Stands;
 use join_types::Join;
 use out_of_memory::OutOfMemory;
 use std::alloc::Global;
+use std::collections::BTreeMap;
 use std::marker::Model;
 
 /// A join with the position of its declaration, and that of its drop if it was dropped.
@@ -74,23 +77,11 @@ impl Stay {
         up_to(p, self.position).max(self.end_up_to(p))
     }
 
-    /// Gives the last drop of the table of its join, 0 where none is known. Linear in the last drops.
-    fn last_drop(&self, drops: &[LastDrop]) -> u64
-        ensures { result ≡ last_drop_of self.now.join.output drops.now }
+    /// Gives the table of the keys that fit the output of its join; none where it has none.
+    fn table(&self) -> Option<&str>
+        ensures { option_copied result ≡ table_of_keys self.now.join.output }
     {
-        last_drop_of(drops, &self.join.output)
-    }
-
-    /// Gives the last drops once its join is dropped at a later position. Linear in the last drops.
-    fn drops_after(
-        &self,
-        alloc: Global,
-        drops: &[LastDrop],
-        at: u64,
-    ) -> Result<Vec<LastDrop>, OutOfMemory>
-        ensures { IfOk result (λ found. found.items ≡ drops_after at self.now.join.output drops.now) }
-    {
-        drops_after(alloc, drops, &self.join.output, at)
+        table_of_keys(&self.join.output)
     }
 
     /// Copies it as a join that stands.
@@ -154,30 +145,72 @@ pub fn changed_up_to(stays: &[Stay], p: u64) -> u64
     changed
 }
 
-/// Gives the last drops with that of a stay, where it lies up to a position and is later than that of its table.
-fn add_drop(
-    alloc: Global,
-    drops: Vec<LastDrop>,
-    stay: &Stay,
-    p: u64,
-) -> Result<Vec<LastDrop>, OutOfMemory>
-    ensures { IfOk result (λ found. (table : Text) → last_drop table found.items ≡ max (last_drop table drops.items) (drop_up_to p table stay.now)) }
+/// Gives the position that a map has for a table, 0 where it has none. Logarithmic in the tables.
+fn end_of(ends: &BTreeMap<String, u64>, table: &str) -> u64
+    ensures { result ≡ end_of table.now ends.now }
 {
-    let end = stay.end_up_to(p);
-    if end <= stay.last_drop(drops.as_slice()) {
-        return Ok(drops);
-    }
-    stay.drops_after(alloc, drops.as_slice(), end)
+    ends.get(table).copied().unwrap_or(0)
 }
 
-/// Gives the last drop of each table among the first p entries. Linear in the stays, each of which is held against the tables
-/// with a drop.
+/// Raises the position that a map has for a table to another, where that is greater. Logarithmic in the tables.
+fn raise_end(
+    alloc: Global,
+    ends: &mut BTreeMap<String, u64>,
+    table: &str,
+    end: u64,
+) -> Result<(), OutOfMemory>
+    ensures { OnOk result ((q : Text) → end_of q ends.new ≡ max (end_of q ends.old) (if same table.now q then end else 0)) }
+{
+    if end <= end_of(ends, table) {
+        return Ok(());
+    }
+    let name = String::from_str(alloc, table)?;
+    ends.insert(name, end)?;
+    Ok(())
+}
+
+/// Raises the last drop of the table of a stay's join to its end, where that lies up to a position. Logarithmic in the tables.
+fn raise_drop(
+    alloc: Global,
+    ends: &mut BTreeMap<String, u64>,
+    stay: &Stay,
+    p: u64,
+) -> Result<(), OutOfMemory>
+    ensures { OnOk result ((table : Text) → end_of table ends.new ≡ max (end_of table ends.old) (drop_up_to p table stay.now)) }
+{
+    match stay.table() {
+        Some(table) => raise_end(alloc, ends, table, stay.end_up_to(p)),
+        None => Ok(()),
+    }
+}
+
+/// Makes the map of the tables with a drop among the first p entries, each with the last one. Linear in the stays, with a search
+/// among the tables for each.
+fn ends_up_to(alloc: Global, stays: &[Stay], p: u64) -> Result<BTreeMap<String, u64>, OutOfMemory>
+    ensures { IfOk result (λ ends. (table : Text) → end_of table ends ≡ dropped_up_to p table stays.now) }
+{
+    let mut ends = BTreeMap::new(alloc);
+    for stay in stays {
+        raise_drop(alloc, &mut ends, stay, p)?;
+    }
+    Ok(ends)
+}
+
+/// Makes the last drops of a map, in the order of their tables. Linear in the tables, whose names are moved.
+fn drops_of(alloc: Global, ends: BTreeMap<String, u64>) -> Result<Vec<LastDrop>, OutOfMemory>
+    ensures { IfOk result (λ drops. (table : Text) → last_drop table drops.items ≡ end_of table ends) }
+{
+    let mut drops = Vec::with_capacity(alloc, ends.len())?;
+    for (table, position) in ends {
+        drops.push(LastDrop { table, position })?;
+    }
+    Ok(drops)
+}
+
+/// Gives the last drop of each table among the first p entries. Linear in the stays, with a search among the tables for each.
 pub fn drops_up_to(alloc: Global, stays: &[Stay], p: u64) -> Result<Vec<LastDrop>, OutOfMemory>
     ensures { IfOk result (λ drops. (table : Text) → last_drop table drops.items ≡ dropped_up_to p table stays.now) }
 {
-    let mut drops = Vec::new(alloc);
-    for stay in stays {
-        drops = add_drop(alloc, drops, stay, p)?;
-    }
-    Ok(drops)
+    let ends = ends_up_to(alloc, stays, p)?;
+    drops_of(alloc, ends)
 }

@@ -36,20 +36,28 @@ pub fn tell_joins(alloc: Global, joins: &JoinSet, answer: &mut Answer) -> Option
     Some(())
 }
 
-/// Tells the joins that stood after so many entries, from the floor on.
+/// Tells of the joins that stood after so many entries, from the floor on: each of them, or where `bare POSITION TABLE` follows the
+/// number, whether the table is bare by them from the position on.
 fn tell_earlier(
     alloc: Global,
     standing: &Standing,
-    entries: &str,
+    asked: &str,
     answer: &mut Answer,
 ) -> Option<()> {
+    let (entries, bare) = match asked.split_once(" bare ") {
+        Some((entries, bare)) => (entries, Some(bare)),
+        None => (asked, None),
+    };
     let entries = entries.parse::<u64>().ok()?;
     let (floor, length) = (standing.floor(), standing.length());
     if entries < floor || entries > length {
         return None;
     }
     let joins = standing.joins_at(entries).ok()?;
-    tell_joins(alloc, &joins, answer)
+    match bare {
+        Some(bare) => tell_bare(&joins, bare, answer),
+        None => tell_joins(alloc, &joins, answer),
+    }
 }
 
 /// Raises the floor to so many entries.
@@ -74,7 +82,8 @@ fn tell_bare(joins: &JoinSet, asked: &str, answer: &mut Answer) -> Option<()> {
 
 /// Takes one step: a write is offered, `length` asks for the number of entries, `count` for the number of joins, `changed` for
 /// the last declaration or drop, `bare POSITION TABLE` whether the table is bare from there on, `joins` for each join,
-/// `joins NUMBER` for those after so many entries, and `settle NUMBER` raises the floor to so many.
+/// `joins NUMBER` for those after so many entries, `joins NUMBER bare POSITION TABLE` whether the table is bare from the position
+/// on by these, and `settle NUMBER` raises the floor to so many.
 fn take_step(
     alloc: Global,
     standing: &mut Standing,
@@ -84,8 +93,8 @@ fn take_step(
     if let Some(asked) = step.strip_prefix("bare ") {
         return tell_bare(standing.joins(), asked, answer);
     }
-    if let Some(entries) = step.strip_prefix("joins ") {
-        return tell_earlier(alloc, standing, entries, answer);
+    if let Some(asked) = step.strip_prefix("joins ") {
+        return tell_earlier(alloc, standing, asked, answer);
     }
     if let Some(entries) = step.strip_prefix("settle ") {
         return raise_floor(standing, entries, answer);

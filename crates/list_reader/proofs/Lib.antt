@@ -1,3 +1,3 @@
 mod WrittenLemmas
 mod ComparedLemmas
-mod RangeSlotLemmas
+pub mod RangeSlotLemmas

@@ -1,1 +1,3 @@
-mod KeptLemmas
+pub mod KeptLemmas
+pub mod AnswerLemmas
+pub mod ComparedLemmas

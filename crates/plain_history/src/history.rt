@@ -1,8 +1,17 @@
 // Entries that entered one after another, and what stands after any beginning of them.
-ghost use Rattle.std.specs.Prelude.{◌≡◌, ◌≢◌, ◌≤◌, [], OnErr, IfOk, length, take};
-ghost use Rattle.semantics.specs.Texts.{pairs_within, value_at};
+ghost use Rattle.std.specs.Prelude.{◌≡◌, ◌≢◌, ◌≤◌, ◌∷◌, [], OnErr, IfOk, length, take};
+ghost use Rattle.semantics.specs.Texts.{pairs_within};
 ghost use Rattle.semantics.specs.States.{state};
 ghost use Rattle.semantics.specs.Verdicts.{AllEntered};
+ghost use Rattle.semantics.specs.Answers.{get, scan, answer};
+ghost use Rattle.protocol.specs.Requests.{write, scan_at, changes_since};
+ghost use Rattle.protocol.specs.Replies.{answered};
+ghost use Rattle.protocol.specs.Earlier.{earlier_reply};
+ghost use Rattle.protocol.specs.Told.{IsWithinReach, Told};
+ghost use Rattle.join_types.specs.Writes.{plain_write};
+ghost use Rattle.request_codec.specs.Plain.{plain_reply, plain_request};
+ghost use Rattle.request_codec.specs.Reach.{IsOutOfReach};
+ghost use Rattle.plain_history.specs.Histories.{AreOwn};
 
 use crate::changing::compare;
 use join_model::{Entry, Standing, Write, afresh, state, value_afresh};
@@ -48,9 +57,10 @@ impl PlainHistory {
         }
     }
 
-    /// Returns the number of entries.
+    /// Returns the number of entries, each of which is of the client with the number 0. Constant.
     pub fn len(&self) -> u64
-        ensures { result ≡ length self.now }
+        ensures length { result ≡ length self.now }
+        ensures own { AreOwn self.now }
     {
         self.standing.length()
     }
@@ -75,7 +85,9 @@ impl PlainHistory {
     }
 
     /// The pair at the key in the state after all entries.
-    fn get(&self, key: &Key) -> Result<Reply, OutOfMemory> {
+    fn get(&self, key: &Key) -> Result<Reply, OutOfMemory>
+        ensures { IfOk result (λ reply. plain_reply reply ≡ answered (answer (get key.now) self.now)) }
+    {
         let position = self.len();
         match value_afresh(self.alloc, self.beginning(position), key)? {
             Some(value) => Ok(Reply::Found(position, value)),
@@ -84,36 +96,43 @@ impl PlainHistory {
     }
 
     /// The pairs of the range in the state after all entries.
-    fn scan(&self, range: &Range) -> Result<Reply, OutOfMemory> {
+    fn scan(&self, range: &Range) -> Result<Reply, OutOfMemory>
+        ensures { IfOk result (λ reply. plain_reply reply ≡ answered (answer (scan range.now) self.now)) }
+    {
         let position = self.len();
-        Ok(Reply::Pairs(position, self.pairs_at(range, position)?))
+        let pairs = self.pairs_at(range, position)?;
+        Ok(Reply::Pairs(position, pairs))
     }
 
-    /// The position, where a request may ask for it, or the reply that it may not.
-    fn within_reach(&self, at: u64) -> Result<u64, Reply>
-        ensures { IfOk result (λ position. position ≤ length self.now) }
+    /// The reply that the position lies ahead, or too far back. None where it lies within reach.
+    fn out_of_reach(&self, at: u64) -> Option<Reply>
+        ensures { IsOutOfReach at (length self.now) result }
     {
         let position = self.len();
         if position < at {
-            return Err(Reply::Ahead(position));
+            return Some(Reply::Ahead(position));
         }
         if position - at > REACH {
-            return Err(Reply::Gone(position));
+            return Some(Reply::Gone(position));
         }
-        Ok(at)
+        None
     }
 
     /// The pairs of the range in the state after the first so many entries.
-    fn scan_at(&self, range: &Range, at: u64) -> Result<Reply, OutOfMemory> {
-        match self.within_reach(at) {
-            Ok(at) => Ok(Reply::Pairs(at, self.pairs_at(range, at)?)),
-            Err(reply) => Ok(reply),
+    fn scan_at(&self, range: &Range, at: u64) -> Result<Reply, OutOfMemory>
+        ensures { IfOk result (λ reply. plain_reply reply ≡ earlier_reply (scan_at range.now at) self.now) }
+    {
+        if let Some(reply) = self.out_of_reach(at) {
+            return Ok(reply);
         }
+        let pairs = self.pairs_at(range, at)?;
+        Ok(Reply::Pairs(at, pairs))
     }
 
-    /// What changed in the range from the state after the first so many entries to the one after all.
+    /// What changed in the range from the state after the first so many entries, which lie within reach, to the one after all.
     fn compare(&self, range: &Range, from: u64) -> Result<Reply, OutOfMemory>
-        requires { from ≤ length self.now }
+        requires { IsWithinReach (length self.now) from }
+        ensures { IfOk result (λ reply. plain_reply reply ≡ earlier_reply (changes_since range.now from) self.now) }
     {
         let position = self.len();
         let before = state(self.alloc, self.beginning(from))?;
@@ -122,11 +141,13 @@ impl PlainHistory {
         Ok(Reply::Changes(from, position, changes))
     }
 
-    /// What changed in the range since so many entries.
-    fn changes(&self, range: &Range, from: u64) -> Result<Reply, OutOfMemory> {
-        match self.within_reach(from) {
-            Ok(from) => self.compare(range, from),
-            Err(reply) => Ok(reply),
+    /// What changed in the range since the first so many entries.
+    fn changes(&self, range: &Range, from: u64) -> Result<Reply, OutOfMemory>
+        ensures { IfOk result (λ reply. plain_reply reply ≡ earlier_reply (changes_since range.now from) self.now) }
+    {
+        match self.out_of_reach(from) {
+            Some(reply) => Ok(reply),
+            None => self.compare(range, from),
         }
     }
 
@@ -135,7 +156,8 @@ impl PlainHistory {
     ///
     /// It may report that it found no memory, and then nothing entered.
     pub fn write(&mut self, change: Write) -> Result<Reply, OutOfMemory>
-        ensures { OnErr result (self.new ≡ self.old) }
+        ensures told { IfOk result (λ reply. Told self.old self.new 0 (write (plain_write change) ∷ []) (plain_reply reply ∷ [])) }
+        ensures unchanged { OnErr result (self.new ≡ self.old) }
     {
         let position = self.standing.length();
         if let Some(cause) = self.standing.judge(&change)? {
@@ -158,7 +180,8 @@ impl PlainHistory {
     /// It may report that it found no memory, and then nothing entered.
     pub fn answer(&mut self, request: Request) -> Result<Reply, OutOfMemory>
         requires { request ≢ Request.Quit }
-        ensures { OnErr result (self.new ≡ self.old) }
+        ensures told { IfOk result (λ reply. Told self.old self.new 0 (plain_request request ∷ []) (plain_reply reply ∷ [])) }
+        ensures unchanged { OnErr result (self.new ≡ self.old) }
     {
         match request {
             Request::Put(key, value) => self.write(Write::Put(key, value)),

@@ -1,10 +1,14 @@
 -- The replies to questions about earlier positions, by where the position lies.
-use Rattle.std.proofs.Common.{◌≡◌, ◌+◌, ◌<◌, Bool, true, false, length, refl, ap, ◌∙◌, arith}
+use Rattle.std.proofs.Common.{◌≡◌, ℕ, ◌+◌, ◌<◌, Bool, true, false, List, length, take, refl, sym, ap, ◌∙◌, arith, length-take}
 use Rattle.std.specs.Prelude.{nat_lt, if◌then◌else◌}
 use Rattle.std.proofs.lemmas.Bool.{lt-ltb, le-ltb}
+use Rattle.semantics.specs.Texts.{Range, Table, pairs_within}
 use Rattle.semantics.specs.Histories.{History}
+use Rattle.semantics.specs.States.{state}
+use Rattle.semantics.specs.Answers.{pairs, answer}
+use Rattle.state_changes.specs.StateChanges.{Change, changes}
 use Rattle.protocol.specs.Requests.{Earlier, scan_at, changes_since}
-use Rattle.protocol.specs.Replies.{Reply, gone, ahead}
+use Rattle.protocol.specs.Replies.{Reply, answered, gone, ahead, changed}
 use Rattle.protocol.specs.Earlier.{reach_back, asked_position, told_back, earlier_reply}
 use Rattle.protocol.specs.Told.{IsWithinReach}
 use Rattle.protocol.proofs.WrittenLines.{is_memory}
@@ -31,6 +35,19 @@ unfolding earlier_reply
 earlier_reply-ahead e h past =
     ap (λ far. reply_by far (nat_lt (length h) (asked_position e)) e h) (le-ltb (asked_position e + reach_back) (length h) (omega arith))
     ∙ ap (λ b. reply_by false b e h) (lt-ltb (length h) (asked_position e) past)
+
+-- the pairs of a range at a position within reach
+pub scan_at_told : (range : Range) (at : ℕ) (h : History) (table : Table) → IsWithinReach (length h) at → table ≡ pairs_within range (state (take at h)) → answered (pairs at table) ≡ earlier_reply (scan_at range at) h
+unfolding answer
+scan_at_told range at h table within is =
+    let long : at ≡ length (take at h) = omega (arith, length-take at h, within.not_ahead) in
+    (λ i. answered (pairs (long i) (is i))) ∙ sym (earlier_reply-within (scan_at range at) h within)
+
+-- what changed in it since such a position
+pub changes_told : (range : Range) (from position : ℕ) (h : History) (listed : List Change) → IsWithinReach (length h) from → position ≡ length h → listed ≡ changes range h from position →
+    changed from position listed ≡ earlier_reply (changes_since range from) h
+changes_told range from position h listed within whole is =
+    ap (changed from position) is ∙ ap (λ n. changed from n (changes range h from n)) whole ∙ sym (earlier_reply-within (changes_since range from) h within)
 
 -- none of these is `memory`
 no_memory_by : (far past : Bool) (e : Earlier) (h : History) → is_memory (reply_by far past e h) ≡ false

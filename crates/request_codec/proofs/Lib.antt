@@ -1,3 +1,4 @@
 pub mod FeedLemmas
 pub mod TokenLemmas
 pub mod FormLemmas
+pub mod ReachLemmas

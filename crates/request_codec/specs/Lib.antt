@@ -3,3 +3,4 @@ pub mod LineFaults
 pub mod Feeding
 pub mod Tokens
 pub mod Items
+pub mod Reach

@@ -1,8 +1,8 @@
 // Requests from lines.
-ghost use Rattle.std.specs.Prelude.{◌≡◌, IfOk, IfErr, Some, Ok};
+ghost use Rattle.std.specs.Prelude.{◌≡◌, IfOk, IfErr, Some, None, Ok};
 ghost use Rattle.serde_json.specs.Data.{item, no_items};
 ghost use Rattle.serde_json.specs.View.{view, items_view};
-ghost use Rattle.protocol.specs.Requests.{json_of, position_of, put_request, remove_request, get_request, scan_request, earlier_request, scan_at, changes_since, bounds_request, join_or_syntax, request_of_one, request_of_two, request_of_three, request_of_value, request_of_json, request_of};
+ghost use Rattle.protocol.specs.Requests.{json_of, text_of, position_of, put_request, remove_request, get_request, scan_request, earlier_request, scan_at, changes_since, bounds_request, join_or_syntax, request_of_one, request_of_two, request_of_three, request_of_value, request_of_json, request_of};
 ghost use Rattle.protocol.specs.JoinText.{read_join};
 ghost use Rattle.request_codec.specs.Items.{request_of_items, request_of_numbered};
 ghost use Rattle.request_codec.specs.Plain.{plain_request, IsFaultOf};
@@ -60,7 +60,7 @@ fn read_scan_at(alloc: Global, low: &str, high: &str, at: u64) -> Result<Request
     Ok(Request::ScanAt(range, at))
 }
 
-/// The request for what changed between two bounds after so many entries. Linear in the bounds' texts.
+/// The request for what changed between two bounds since the first so many entries. Linear in the bounds' texts.
 fn read_changes(alloc: Global, low: &str, high: &str, from: u64) -> Result<Request, LineFault>
     ensures request { IfOk result (λ request. earlier_request changes_since low.now high.now from ≡ Ok (plain_request request)) }
     ensures fault { IfErr result (IsFaultOf (earlier_request changes_since low.now high.now from)) }
@@ -155,14 +155,23 @@ fn read_bounds(
     }
 }
 
+/// The text that an item is. `Form` comes exactly where it is none.
+fn take_text(item: &Json) -> Result<&str, LineFault>
+    ensures text { IfOk result (λ text. text_of (view item.now) ≡ Some text.now) }
+    ensures fault { IfErr result (λ fault. (text_of (view item.now) ≡ None) × (fault ≡ LineFault.Form)) }
+{
+    match text_of(item) {
+        Some(text) => Ok(text),
+        None => Err(LineFault::Form),
+    }
+}
+
 /// The request that one item is.
 fn read_word(word: &Json) -> Result<Request, LineFault>
     ensures request { IfOk result (λ request. request_of_items (item (view word.now) no_items) ≡ Ok (plain_request request)) }
     ensures fault { IfErr result (IsFaultOf (request_of_items (item (view word.now) no_items))) }
 {
-    let Some(word) = text_of(word) else {
-        return Err(LineFault::Form);
-    };
+    let word = take_text(word)?;
     read_one(word)
 }
 
@@ -171,9 +180,7 @@ fn read_word_and_last(alloc: Global, word: &Json, last: &Json) -> Result<Request
     ensures request { IfOk result (λ request. request_of_items (item (view word.now) (item (view last.now) no_items)) ≡ Ok (plain_request request)) }
     ensures fault { IfErr result (IsFaultOf (request_of_items (item (view word.now) (item (view last.now) no_items)))) }
 {
-    let Some(word) = text_of(word) else {
-        return Err(LineFault::Form);
-    };
+    let word = take_text(word)?;
     match text_of(last) {
         Some(text) => read_two(alloc, word, text),
         None => read_numbered(word, last),
@@ -190,15 +197,9 @@ fn read_word_and_texts(
     ensures request { IfOk result (λ request. request_of_items (item (view word.now) (item (view first.now) (item (view second.now) no_items))) ≡ Ok (plain_request request)) }
     ensures fault { IfErr result (IsFaultOf (request_of_items (item (view word.now) (item (view first.now) (item (view second.now) no_items))))) }
 {
-    let Some(word) = text_of(word) else {
-        return Err(LineFault::Form);
-    };
-    let Some(first) = text_of(first) else {
-        return Err(LineFault::Form);
-    };
-    let Some(second) = text_of(second) else {
-        return Err(LineFault::Form);
-    };
+    let word = take_text(word)?;
+    let first = take_text(first)?;
+    let second = take_text(second)?;
     read_three(alloc, word, first, second)
 }
 
@@ -213,15 +214,9 @@ fn read_texts_and_position(
     ensures request { IfOk result (λ request. request_of_items (item (view word.now) (item (view low.now) (item (view high.now) (item (view last.now) no_items)))) ≡ Ok (plain_request request)) }
     ensures fault { IfErr result (IsFaultOf (request_of_items (item (view word.now) (item (view low.now) (item (view high.now) (item (view last.now) no_items)))))) }
 {
-    let Some(word) = text_of(word) else {
-        return Err(LineFault::Form);
-    };
-    let Some(low) = text_of(low) else {
-        return Err(LineFault::Form);
-    };
-    let Some(high) = text_of(high) else {
-        return Err(LineFault::Form);
-    };
+    let word = take_text(word)?;
+    let low = take_text(low)?;
+    let high = take_text(high)?;
     let Some(position) = position_of(last) else {
         return Err(LineFault::Form);
     };

@@ -4,7 +4,7 @@ use change_lists::Change;
 use join_types::{Cause, Pair};
 use key_space::Value;
 
-/// What a line is answered. The number, where there is one, is a position of the history.
+/// What a line is answered. Each number is a position of the history.
 #[derive(Debug, Drop)]
 pub enum Reply {
     /// The write is the entry at this position.

@@ -18,7 +18,7 @@ pub enum Request {
     Scan(Range),
     /// The pairs in a range after so many entries.
     ScanAt(Range, u64),
-    /// What changed in a range after so many entries.
+    /// What changed in a range since the first so many entries.
     Changes(Range, u64),
     /// The join stands from now on.
     Declare(Join),

@@ -20,7 +20,7 @@ use std::alloc::{AllocError, Global};
 /// Room for what a line has around its texts: its words, numbers and brackets.
 const FRAME_ROOM: usize = 64;
 
-/// Room for what a pair has around its two texts: brackets, quotes and commas.
+/// Room for what a pair or a change has around its texts: brackets, quotes and commas.
 const PAIR_FRAME_ROOM: usize = 8;
 
 /// Room for pairs, which is all they need where no byte of theirs is escaped. Linear in their number.

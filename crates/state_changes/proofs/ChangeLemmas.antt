@@ -1,5 +1,5 @@
 -- What is listed as changed, and what the list makes of a table.
-use Rattle.std.proofs.Common.{◌≡◌, ◌≢◌, ◌↔◌, ◌⊎◌, ℕ, Bool, true, false, cond, not, List, [], ◌∷◌, map, filter, take, Contains, Option, Some, None, refl, sym, ap, ◌∙◌, subst, inl, inr, ⊎_elim}
+use Rattle.std.proofs.Common.{◌≡◌, ◌≢◌, ℕ, Bool, true, false, cond, not, List, [], ◌∷◌, map, filter, take, Option, Some, None, refl, sym, ap, ◌∙◌, subst, inl, inr}
 use Rattle.std.specs.Prelude.{◌||◌}
 use Rattle.std.specs.List.{list_any, AllByRecursion}
 use Rattle.std.specs.List.Sorted.{IsStrictlySortedBy}
@@ -7,7 +7,7 @@ use Rattle.std.specs.Option.{option_or}
 use Rattle.std.proofs.lemmas.Bool.{false≢true}
 use Rattle.std.proofs.lemmas.Option.{none-some}
 use Rattle.std.proofs.lemmas.List.Kept.{IsStrictlySortedBy-filter}
-use Rattle.semantics.specs.Texts.{Text, text_cmp, same, Range, within, Table, value_at, with_pair, without_key, pairs_within}
+use Rattle.semantics.specs.Texts.{Text, text_cmp, same, Range, within, Table, value_at, pairs_within}
 use Rattle.semantics.specs.Histories.{History}
 use Rattle.semantics.specs.States.{merged, state}
 use Rattle.semantics.proofs.PieceLemmas.{equal_by_same, same_by_equal}
@@ -17,9 +17,9 @@ use Rattle.semantics.proofs.MergedLemmas.{ascending-merged, ascending-pairs_with
 use Rattle.semantics.proofs.StateLemmas.{ascending-state}
 use Rattle.growing_history.proofs.ChangeLemmas.{sorted_keys}
 use Rattle.growing_history.proofs.ElementLemmas.{has_of_all}
+use Rattle.growing_history.proofs.SortedLemmas.{same_sorted}
 use Rattle.state_changes.specs.StateChanges.{Change, same_value, differ_at, change_to, changes_among, keys_of_both, changes_between, changes, set_or_taken, with_changes}
 use Rattle.state_changes.specs.ChangeLaws.{ChangesTurn, ChangesAscend, IsChange, ChangesAreThose, HoldAllChanges, ChangesAmongKeys, ChangesOfPairs}
-use Rattle.state_changes.proofs.OrderLemmas.{same_sorted}
 
 -- ---- values
 
@@ -93,6 +93,20 @@ both_has range before after key up inside other =
 both_ascend : (range : Range) (before after : Table) → IsAscending before → IsStrictlySortedBy text_cmp (keys_of_both range before after)
 both_ascend range before after up = sorted_keys (pairs_within range (merged before after)) (ascending-pairs_within range (merged before after) (ascending-merged before after up))
 
+-- ---- one table
+
+-- at each key a table has what it has
+alike : (keys : List Text) (table : Table) → changes_among keys table table ≡ []
+alike [] table = refl
+alike (key ∷ keys) table =
+    ap (λ b. map (change_to table) (cond (not b) (key ∷ filter (differ_at table table) keys) (filter (differ_at table table) keys))) (same_value_itself (value_at key table))
+    ∙ alike keys table
+
+-- from a position to itself nothing changed
+pub nothing_between : (range : Range) (h : History) (p : ℕ) → changes range h p p ≡ []
+unfolding changes
+nothing_between range h p = alike (keys_of_both range (state (take p h)) (state (take p h))) (state (take p h))
+
 -- ---- looking at some keys alone
 
 module _ (range : Range) (before after : Table) (keys : List Text) (first : IsAscending before) (second : IsAscending after) (all : HoldAllChanges range before after keys) where
@@ -165,22 +179,29 @@ decided : (before after : Table) (key : Text) (b : Bool) → differ_at before af
 decided before after key true e apart = absurd (apart (λ same. differ_not before after key same e))
 decided before after key false e apart = same_there before after key e
 
+-- the keys that one of the pairs of the range has are enough
+pub changes_among_pairs : (range : Range) (before after : Table) → IsAscending before → IsAscending after →
+    changes_among (keys_of_both range (pairs_within range before) (pairs_within range after)) before after ≡ changes_between range before after
+changes_among_pairs range before after first second =
+    let old : Table = pairs_within range before in
+    let new : Table = pairs_within range after in
+    let keys : List Text = keys_of_both range old new in
+    let up : IsAscending old = ascending-pairs_within range before first in
+    changes_among_keys range before after keys first second (record {
+      ascend = both_ascend range old new up;
+      inside = all_inside (within range) keys (λ key h. both_inside range old new key up h);
+      complete = λ key within_range none. decided before after key (differ_at before after key) refl (λ other.
+          none (contains_from_has keys key (both_has range old new key (ascending-pairs_within range after second) within_range
+          (λ e. other (sym (value_inside range before key within_range) ∙ e ∙ value_inside range after key within_range)))));
+    })
+
 -- what changed is told by the pairs of the range
 pub changes_of_pairs : ChangesOfPairs
 changes_of_pairs range before after first second =
     let old : Table = pairs_within range before in
     let new : Table = pairs_within range after in
-    let keys : List Text = keys_of_both range old new in
-    let up : IsAscending old = ascending-pairs_within range before first in
-    let inside : (key : Text) → Has keys key → within range key ≡ true = λ key h. both_inside range old new key up h in
-    among_inside range before after keys inside
-    ∙ changes_among_keys range before after keys first second (record {
-      ascend = both_ascend range old new up;
-      inside = all_inside (within range) keys inside;
-      complete = λ key within_range none. decided before after key (differ_at before after key) refl (λ other.
-          none (contains_from_has keys key (both_has range old new key (ascending-pairs_within range after second) within_range
-          (λ e. other (sym (value_inside range before key within_range) ∙ e ∙ value_inside range after key within_range)))));
-    })
+    among_inside range before after (keys_of_both range old new) (λ key h. both_inside range old new key (ascending-pairs_within range before first) h)
+    ∙ changes_among_pairs range before after first second
 
 -- ---- what is listed
 

@@ -8,7 +8,6 @@ use Rattle.growing_history.proofs.PrefixLemmas.{prefix_refl, prefix_trans}
 use Rattle.write_history.specs.Stored.{Stored, IsLog}
 use Rattle.write_history.specs.Marks.{before, IsLow, MayAsk}
 use Rattle.write_history.specs.Seats.{HasOwn}
-use Rattle.write_history.specs.declared.known.Kinds.{Kinds}
 use Rattle.write_history.specs.declared.known.Mark.{Mark}
 use Rattle.write_history.specs.declared.known.Mark.TheVariants.{Plain, Free, Pinned, Noted}
 use Rattle.write_history.specs.Passes.{PassView, GoesOn, own}
@@ -162,19 +161,6 @@ pub range_of_log : (m m' : Sat) (t : TakesTurn m m') (from to : ℕ) → from �
 range_of_log m m' t from to order within =
     ap (λ es. take (to - from) (drop from es)) t.begins.1
     ∙ range_of_longer m.0.seen t.begins.0 from to order within
-
--- a pass that was told of entries goes on
-pub goes_on_told : (number : ℕ) (t t' : TableId) (m : Sat) (told : History) (floor : ℕ) (m' : Sat) → t' ≡ t → Learns m told floor m' → GoesOn (pass_of t number m) (pass_of t' number m')
-goes_on_told number t t' m told floor m' same learns = record {
-  same_history = λ i. record { table = same i; kinds = learns.same_kinds i };
-  same_number = refl;
-  same_writers = ap (λ (k : Kinds). k.writers) learns.same_kinds;
-  begins = learns.begins;
-  recorded = subst (λ (k : Kinds). IsRecorded k.writers m'.0.seen) (sym learns.same_kinds) learns.recorded;
-  same_mark = learns.same_mark;
-  higher = let f = learns.floor_is in omega arith;
-  low = learns.low;
-}
 
 -- who has the log has it still, where what the seat knows of it stays
 pub log_same : (h : History) (log : Stored) (m m' : Sat) → HasLog h log m → m'.0.held ≡ m.0.held → m'.1 ≡ m.1 → m'.0.lacks ≡ m.0.lacks → HasLog h log m'

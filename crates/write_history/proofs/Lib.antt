@@ -14,4 +14,3 @@ pub mod Dealing
 pub mod Appending
 pub mod Telling
 pub mod Pinning
-pub mod Meeting

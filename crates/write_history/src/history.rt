@@ -251,10 +251,11 @@ impl History {
     /// Extends the view of the pass to all entries of the history, as `look` does, pins the pass at their number, and gives that
     /// and the joins that stand after them. It takes the position of the last declaration or drop that is known, 0 where none is.
     /// Where this is that of the last one, the joins are those after the first so many entries, and it gives none. From the pin on,
-    /// until `unpin`, no entry after its position less 65,536 is dropped.
+    /// until `unpin`, no entry after its position less 65,536 is dropped, and from there on the joins tell which tables are bare
+    /// (`JoinSet::bare_since`).
     ///
     /// It costs a look and compares two numbers. Where they differ, it copies the joins under the turn: at most 64, and a
-    /// position for each table of which a join was dropped. While another thread has the turn, this one sleeps. On
+    /// position for each table of which a join was dropped after the floor. While another thread has the turn, this one sleeps. On
     /// `OutOfMemory` the view is extended all the same, and the pass is not pinned.
     pub fn look_joins<R: Wait>(
         &self,
@@ -266,7 +267,7 @@ impl History {
         requires free { pass.old.mark ≡ NotPinned }
         ensures pinned { IfOk result (λ looked. GoesOn (record pass.old { mark = Pinned looked.length }) pass.new) }
         ensures length { IfOk result (λ looked. looked.length ≡ length pass.new.view) }
-        ensures told { IfOk result (λ looked. TellsJoins pass.new.view known looked.joins) }
+        ensures told { IfOk result (λ looked. TellsJoins (before (length pass.new.view)) pass.new.view known looked.joins) }
         ensures goes_on { OnErr result (GoesOn pass.old pass.new) }
         ensures own { own pass.new ≡ own pass.old }
     {
@@ -278,7 +279,8 @@ impl History {
         looked
     }
 
-    /// Each of the two passes sees what the other has seen. Nothing is allocated, no turn is taken, and it costs six loads.
+    /// Each of the two passes sees what the other has seen. Nothing is allocated, no turn is taken, and it costs six loads. It
+    /// waits for nobody; `rt` stands there as in the other calls.
     pub fn meet<R>(&self, _rt: &R, a: &mut Pass, b: &mut Pass)
         requires same_history { (a.old.history ≡ self.now) × (b.old.history ≡ self.now) }
         ensures first { GoesOn a.old a.new }
@@ -344,10 +346,10 @@ impl History {
         copies
     }
 
-    /// Makes the joins of the first p entries of the view. The pass is unchanged, and p is bounded as `from` of `entries` is: what
-    /// the joins tell of dropped ones holds from each position on for which the pass may ask. Under the turn it goes over the joins
-    /// that stood at the floor or were declared later, holds each against the tables of dropped ones, and compares those that stood
-    /// with each other.
+    /// Makes the joins of the first p entries of the view. The pass is unchanged, and p is bounded as `from` of `entries` is. Of
+    /// dropped joins they tell for each position for which the pass may ask (`JoinSet::bare_since`). Under the turn it goes over
+    /// the joins that stood at the floor or were declared later, with a search among the tables of dropped ones for each, and
+    /// compares those that stood with each other.
     pub fn joins_at<R: Wait>(&self, rt: &R, pass: &mut Pass, p: u64) -> Result<JoinSet, OutOfMemory>
         requires same_history { pass.old.history ≡ self.now }
         requires within { p ≤ length pass.old.view }
@@ -363,8 +365,9 @@ impl History {
         joins
     }
 
-    /// Notes that nobody asks any more, by this pass, for what is before a position. The position is one that the pass has seen, and
-    /// not below the last one that it has noted. Constant time; nothing is allocated, and no turn is taken.
+    /// Notes that nobody asks any more, by this pass, for what is before a position. The position is one that the pass has seen,
+    /// and not below the last one that it has noted. Constant time; nothing is allocated, and no turn is taken. It waits for
+    /// nobody; `rt` stands there as in the other calls.
     pub fn note<R>(&self, _rt: &R, pass: &mut Pass, position: u64)
         requires same_history { pass.old.history ≡ self.now }
         requires noted { (last : ℕ) × (pass.old.mark ≡ Noted last) × (last ≤ position) }
@@ -387,7 +390,8 @@ impl History {
         pin.saturating_sub(BEHIND)
     }
 
-    /// Takes the pin of the pass away. Constant time; nothing is allocated, and no turn is taken.
+    /// Takes the pin of the pass away. Constant time; nothing is allocated, and no turn is taken. It waits for nobody; `rt` stands
+    /// there as in the other calls.
     pub fn unpin<R>(&self, _rt: &R, pass: &mut Pass)
         requires same_history { pass.old.history ≡ self.now }
         requires pinned { (position : ℕ) × (pass.old.mark ≡ Pinned position) }
@@ -400,9 +404,9 @@ impl History {
     /// each pin less 65,536, and the number of entries less 65,536, where a difference below 0 counts as 0. The view has then all
     /// entries.
     ///
-    /// Under the turn it loads a word for each pass that has one, lets the dropped entries go, and goes over the joins that stood at
-    /// the floor before or were declared later, of which those that were dropped up to the floor go. Nothing is allocated. While
-    /// another thread has the turn, this one sleeps.
+    /// Under the turn it loads a word for each pass that has one, lets the dropped entries go, and goes over the joins that stood
+    /// at the floor before or were declared later, of which those that were dropped up to the floor go, and their drops are
+    /// forgotten. Nothing is allocated. While another thread has the turn, this one sleeps.
     pub fn trim<R: Wait>(&self, rt: &R, pass: &mut Pass) -> u64
         requires same_history { pass.old.history ≡ self.now }
         ensures goes_on { GoesOn pass.old pass.new }

@@ -100,7 +100,7 @@ impl Log {
         self.entries.lacks() as u64
     }
 
-    /// Drops the first entries up to a position, and lets go of the joins that were dropped up to there.
+    /// Drops the first entries up to a position, lets go of the joins that were dropped up to there, and forgets these drops.
     pub(crate) fn drop_to(&mut self, floor: u64)
         requires { (h : History) × (lacks : ℕ) × IsLog h lacks self.old × (lacks ≤ floor) × (floor ≤ length h) }
         ensures { (h : History) (lacks : ℕ) → IsLog h lacks self.old → lacks ≤ floor → floor ≤ length h → IsLog h floor self.new }
@@ -145,7 +145,7 @@ impl Log {
     /// Copies the joins that stand where the last declaration or drop is not at the position that is known, at the cost of
     /// `JoinSet::copy`. Where it is there, it compares two numbers and gives none.
     pub(crate) fn joins_unless(&self, known: u64) -> Result<Option<JoinSet>, OutOfMemory>
-        ensures { IfOk result (λ told. (h : History) (floor : ℕ) → IsLog h floor self.now → TellsJoins h known told) }
+        ensures { IfOk result (λ told. (h : History) (floor : ℕ) → IsLog h floor self.now → TellsJoins floor h known told) }
     {
         let joins = self.standing.joins();
         if joins.changed_at() == known {

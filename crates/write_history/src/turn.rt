@@ -235,7 +235,7 @@ fn copy_joins(
     requires log { (h : History) × (log : Stored) × HasLog h log place.old.me }
     ensures own { place.new.table_id ≡ place.old.table_id }
     ensures unchanged { place.new.me ≡ place.old.me }
-    ensures told { IfOk result (λ told. (h : History) (log : Stored) → HasLog h log place.old.me → TellsJoins h known told) }
+    ensures told { IfOk result (λ told. (h : History) (log : Stored) → HasLog h log place.old.me → TellsJoins place.old.me.0.lacks h known told) }
 {
     let log = place.slot_mut(board, LOG);
     log.joins_unless(known)
@@ -255,7 +255,7 @@ pub(crate) fn look_joins(
     ensures seen { place.new.me ≡ (record place.old.me.0 { seen = held_by place.old.me.0; passed = 0; low = before (length (held_by place.old.me.0)) }, place.old.me.1) }
     ensures above { place.old.me.0.lacks ≤ before (length (held_by place.old.me.0)) }
     ensures count { IfOk result (λ looked. looked.length ≡ length (held_by place.old.me.0)) }
-    ensures told { IfOk result (λ looked. (h : History) (log : Stored) → HasLog h log place.old.me → TellsJoins h known looked.joins) }
+    ensures told { IfOk result (λ looked. (h : History) (log : Stored) → HasLog h log place.old.me → TellsJoins place.old.me.0.lacks h known looked.joins) }
 {
     let length = look(board, place);
     let joins = copy_joins(board, place, known)?;
@@ -281,7 +281,7 @@ pub(crate) fn look_and_pin(
     ensures declined { OnErr result (place.new.me ≡ (record place.old.me.0 { seen = held_by place.old.me.0; passed = 0; low = before (length (held_by place.old.me.0)) }, place.old.me.1)) }
     ensures above { place.old.me.0.lacks ≤ before (length (held_by place.old.me.0)) }
     ensures count { IfOk result (λ looked. looked.length ≡ length (held_by place.old.me.0)) }
-    ensures told { IfOk result (λ looked. (h : History) (log : Stored) → HasLog h log place.old.me → TellsJoins h known looked.joins) }
+    ensures told { IfOk result (λ looked. (h : History) (log : Stored) → HasLog h log place.old.me → TellsJoins place.old.me.0.lacks h known looked.joins) }
 {
     let looked = look_joins(board, place, known)?;
     pin(board, place, number, looked.length);

@@ -1,7 +1,7 @@
 use Rattle.std.proofs.Common.{max, sym, ◌∙◌}
 use Rattle.rank_order.proofs.RankRaises.{ord_max-nat}
 use Rattle.join_set.specs.Timelines.{change_up_to}
-use Rattle.join_set.proofs.StayLemmas.{greatest_more}
+use Rattle.join_set.proofs.TimelineLemmas.{greatest_more}
 use Rattle.join_set.proofs.stays.changed_up_to.Goals as goal
 
 pub loop-stay-preserved : goal.loop-stay-preserved

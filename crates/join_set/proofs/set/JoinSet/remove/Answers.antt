@@ -10,8 +10,8 @@ ranks_of-requires c =
     admissible_without c.args.position c.self.inside.joins.items c.as_slice.result.now c.self.invariant.ranked.admissible
     (c.as_slice.ensures.value ∙ c.in_ok-left.ensures ∙ ap (without c.args.position) c.as_slice-joins.ensures.value)
 
-pub invariant_of-self : goal.invariant_of-self
-invariant_of-self c =
+pub invariant_of-self-2 : goal.invariant_of-self-2
+invariant_of-self-2 c =
     let inside = c.self.inside in
     let left = c.in_ok-left.ensures ∙ ap (without c.args.position) c.as_slice-joins.ensures.value in
     let later : inside.changed < c.args.at = omega (arith, c.requires, ap (λ (s : Joins). s.changed) c.self.view_is) in

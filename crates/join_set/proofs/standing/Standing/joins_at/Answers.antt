@@ -24,10 +24,10 @@ pub returns : goal.returns
 returns c =
     let p = c.args.p in
     let stays = c.as_slice-stays.ensures.value ∙ ap (λ (s : Summary). s.stays) c.self.view_is in
-    let settled = ap (λ (s : Summary). s.settled) c.self.view_is in
+    let floor_change = ap (λ (s : Summary). s.changed_at_floor) c.self.view_is in
     let joins = c.in_ok-joins.ensures ∙ ap (joins_at p) stays in
     let last = c.changed_up_to.ensures ∙ ap (changed_up_to p) stays in
-    let changed = c.max-changed.ensures ∙ (λ i. max (settled i) (last i)) in
+    let changed = c.max-changed.ensures ∙ (λ i. max (floor_change i) (last i)) in
     IfOk-weaker c.of.result _ _
     (λ set is h s.
     subst (λ (j : Joins). AreJoins c.args.self.now.floor j (take p h)) (sym (is ∙ (λ i. record { standing = joins i; changed = changed i; drops = c.in_ok-drops.drops.items })))

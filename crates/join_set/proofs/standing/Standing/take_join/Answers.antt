@@ -19,7 +19,7 @@ add-requires-clause-later c =
 
 pub add-requires-clause-free : goal.add-requires-clause-free
 add-requires-clause-free c =
-    let kept : Summary = record { joins = c.self.inside.joins; length = c.self.inside.entries; floor = c.self.inside.floor; settled = c.self.inside.settled; stays = c.self.inside.stays.items } in
+    let kept : Summary = record { joins = c.self.inside.joins; length = c.self.inside.entries; floor = c.self.inside.floor; changed_at_floor = c.self.inside.changed_at_floor; stays = c.self.inside.stays.items } in
     let free = subst (λ (s : Summary). cause_over s (declare c.args.join.now) ≡ None) (sym c.self.view_is) c.requires in
     ap (join_cause c.self.inside.joins.standing (c.self.inside.entries + 1)) c.in_ok-copy-2.ensures ∙ free_join kept c.args.join.now free
 
@@ -27,10 +27,10 @@ pub invariant_of-self-2 : goal.invariant_of-self-2
 invariant_of-self-2 c =
     let inside = c.self.inside in
     let at = inside.entries + 1 in
-    let kept : Summary = record { joins = inside.joins; length = inside.entries; floor = inside.floor; settled = inside.settled; stays = inside.stays.items } in
+    let kept : Summary = record { joins = inside.joins; length = inside.entries; floor = inside.floor; changed_at_floor = inside.changed_at_floor; stays = inside.stays.items } in
     let free = subst (λ (s : Summary). cause_over s (declare c.args.join.now) ≡ None) (sym c.self.view_is) c.requires in
     let joins : c.add.new.joins ≡ with_join at c.args.join.now inside.joins = c.in_ok-add.ensures.added ∙ ap (λ j. with_join at j inside.joins) c.in_ok-copy-2.ensures in
     let stay : Stay = record { position = at; join = c.args.join.now; until = None } in
     let stays : c.push.new.self.items ≡ inside.stays.items ++ stay ∷ [] =
     c.in-Ok.ensures.items ∙ (λ i. c.in_ok-reserve.ensures.items i ++ record { position = at; join = c.in_ok-copy.ensures i; until = None } ∷ []) in
-    subst IsOfSome (λ i. record { joins = sym joins i; length = at; floor = inside.floor; settled = inside.settled; stays = sym stays i }) (some_after kept (declare c.args.join.now) c.self.invariant free)
+    subst IsOfSome (λ i. record { joins = sym joins i; length = at; floor = inside.floor; changed_at_floor = inside.changed_at_floor; stays = sym stays i }) (some_after kept (declare c.args.join.now) c.self.invariant free)

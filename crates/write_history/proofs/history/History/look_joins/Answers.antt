@@ -1,13 +1,15 @@
-use Rattle.std.proofs.Common.{◌≡◌, IfOk, OnErr, ◌∙◌, sym, ap, subst}
+use Rattle.std.proofs.Common.{◌≡◌, ◌≤◌, length, IfOk, OnErr, ◌∙◌, sym, ap, subst}
 use Rattle.std.proofs.lemmas.Result.{IfOk-weaker}
 use Rattle.semantics.specs.Histories.{History}
 use Rattle.write_history.specs.Stored.{Stored}
 use Rattle.write_history.specs.Passes.{PassView, GoesOn, own}
 use Rattle.write_history.specs.declared.known.Mark.TheVariants.{Pinned}
 use Rattle.write_history.specs.declared.looked.Looked.{Looked}
-use Rattle.write_history.specs.Steps.{Sat, HasLog}
+use Rattle.write_history.specs.Marks.{before}
+use Rattle.write_history.specs.Steps.{Sat, HasLog, held_by}
 use Rattle.write_history.specs.Looks.{TellsJoins}
 use Rattle.write_history.proofs.Appending.{taken_log, pass_of}
+use Rattle.write_history.proofs.Telling.{tells_higher}
 use Rattle.write_history.proofs.Pinning.{LooksOn, looks_on, log_either}
 use Rattle.write_history.proofs.history.History.look_joins.Given.{Over}
 use Rattle.write_history.proofs.history.History.look_joins.Goals as goal
@@ -43,10 +45,13 @@ returns-clause-told g c =
     let m = c.pass.inside.place.me in
     let now = c.take_turn.new.place.me in
     let turn = c.take_turn.ensures.taken in
+    let low : now.0.lacks ≤ before (length turn.history) = subst (λ (h : History). now.0.lacks ≤ before (length h)) (ap (λ (x : Sat). held_by x.0) turn.is) c.look_and_pin-looked.ensures.above in
     IfOk-weaker c.look_and_pin-looked.result
-    (λ looked. (h : History) (log : Stored) → HasLog h log now → TellsJoins h known looked.joins)
-    (λ looked. TellsJoins c.free_turn.new.place.me.0.seen known looked.joins)
-    (λ looked each. subst (λ (h : History). TellsJoins h known looked.joins) (sym (looked_on g c).seen) (each turn.history turn.log (taken_log m now turn c.pass.invariant.empty)))
+    (λ looked. (h : History) (log : Stored) → HasLog h log now → TellsJoins now.0.lacks h known looked.joins)
+    (λ looked. TellsJoins (before (length c.free_turn.new.place.me.0.seen)) c.free_turn.new.place.me.0.seen known looked.joins)
+    (λ looked each.
+    subst (λ (h : History). TellsJoins (before (length h)) h known looked.joins) (sym (looked_on g c).seen)
+    (tells_higher now.0.lacks (before (length turn.history)) turn.history known looked.joins low (each turn.history turn.log (taken_log m now turn c.pass.invariant.empty))))
     c.look_and_pin-looked.ensures.told
 
 pub returns-clause-goes_on : goal.returns-clause-goes_on

@@ -12,5 +12,6 @@ returns-then-changed_at-known c = λ h floor is.
 pub returns : goal.returns
 returns c = λ h floor is.
     let kept : c.joins-joins.result.now ≡ c.args.self.now.summary.joins = c.joins-joins.ensures.joins ∙ ap (λ (l : Stored). l.summary.joins) c.self.view_is in
-    told_all h floor c.args.self.now _ c.args.known is (c.in_ok-copy.ensures ∙ kept)
+    let settled = sym (ap (λ (l : Stored). l.summary.floor) c.self.view_is) ∙ c.self.invariant.2 ∙ ap (λ (l : Stored). l.lacks) c.self.view_is ∙ is.lacked in
+    told_all h floor c.args.self.now _ c.args.known is settled (c.in_ok-copy.ensures ∙ kept)
     (λ e. c.if-changed_at-known.false (c.changed_at.ensures.changed ∙ ap (λ (j : Joins). j.changed) (sym c.in_ok-copy.ensures) ∙ e))

@@ -1,5 +1,5 @@
 -- Reading base pairs after some entries.
-use Rattle.std.proofs.Common.{◌≡◌, ◌==◌, ℕ, zero, suc, ◌+◌, ◌-◌, ◌%◌, ◌≤◌, ◌⊎◌, inl, inr, true, false, cond, not, List, [], ◌∷◌, ◌++◌, length, take, drop, Contains, None, refl, sym, ap, ◌∙◌, subst, arith, Bool, sum, Result, Ok, Err, OnOk, OnErr}
+use Rattle.std.proofs.Common.{◌≡◌, ◌==◌, ℕ, zero, suc, ◌+◌, ◌-◌, ◌%◌, ◌≤◌, ◌⊎◌, inl, inr, true, false, cond, not, List, [], ◌∷◌, ◌++◌, length, take, drop, Contains, None, refl, sym, ap, ◌∙◌, subst, arith, Bool, Result, Ok, Err, OnOk, OnErr}
 use Rattle.std.proofs.lemmas.List.{take_all, take-append-drop, length-drop}
 use Rattle.semantics.specs.Texts.{Text, Table, value_at, is_range, Range, within, pairs_within, pairs_where}
 use Rattle.semantics.specs.Histories.{Entry, History, IsPrefix, joins_of, changed_at, base_of, is_computed}
@@ -22,17 +22,9 @@ use Rattle.join_eval.specs.declared.reading.Changed.{Changed}
 use Rattle.join_eval.specs.declared.reading.Changed.TheVariants.{Keys, All}
 use Rattle.join_eval.specs.Answers.{AnswersChanges, ListsChanges, ListsExactly, TellsBetween}
 use Rattle.base_reader.specs.Reaching.{AnswersKeys}
-use Rattle.base_versions.specs.Kept.{Kept, has_table, StandsFor, HasEnteredInPart}
+use Rattle.base_versions.specs.Kept.{Kept, StandsFor, HasEnteredInPart}
 
--- ---- the versions of all tables
-
-one_shard : (n : ℕ) → n % 1 ≡ 0
-one_shard n = omega arith
-
--- of one shard alone each table is its own
-pub own_table : (kept : Kept) (table : Text) → kept.shard ≡ 0 → kept.shards ≡ 1 → has_table kept table ≡ true
-own_table kept table shard shards =
-    (λ i. (sum table % shards i) == shard i) ∙ ap (λ n. n == 0) (one_shard (sum table))
+-- ---- the first entries
 
 take_nothing : (m : ℕ) → take {A = Entry} m [] ≡ []
 take_nothing zero = refl

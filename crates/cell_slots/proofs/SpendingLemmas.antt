@@ -12,7 +12,7 @@ use Rattle.range_state.specs.Held.{forgotten}
 use Rattle.cell_slots.specs.declared.slot.Part.{Part}
 use Rattle.cell_slots.specs.declared.slot.Slot.TheVariants.{Free, Held}
 use Rattle.cell_slots.specs.Slots.{Holdings, HoldsReady, IsReadySlot, StandsAs}
-use Rattle.cell_slots.specs.Spending.{row_count, Covers, JoinsSpend, KeepsJust, MayKeep, OneSpends, ReachesOnly, Spends, Took}
+use Rattle.cell_slots.specs.Spending.{row_count, Covers, JoinsSpend, KeepsJust, MayKeep, OneSpends, ReachesOnly, Spends, StaysReady, Took}
 use Rattle.cell_slots.proofs.FrameLemmas.{get-set_same}
 
 -- ---- one join
@@ -29,15 +29,21 @@ same_part : (x y : Part) → ◌≡◌ {A = List Part} (x ∷ []) (y ∷ []) →
 same_part x y e = cc
 
 -- what is spent where a range was covered by one part and that was read
-pub cost_of_part : (h : History) (a b c : Holdings) (at rank p : ℕ) (range : Range) (part : Part) (j : Join) (n m : ℕ) → StandsAs h p at rank j → n ≡ row_count h p range rank j →
-    Covers h a b at rank p range (part ∷ []) → Took b c at rank p part n m → OneSpends h a c p range rank at j m
-cost_of_part h a b c at rank p range part j n m stands rows covers took = record {
+pub cost_of_part : (h more : History) (a b c : Holdings) (at rank p : ℕ) (range : Range) (part : Part) (j : Join) (n m : ℕ) → StandsAs h p at rank j → n ≡ row_count h p range rank j →
+    Covers h a b at rank p range (part ∷ []) → Took more b c at rank p part n m → OneSpends h a c p range rank at j m
+cost_of_part h more a b c at rank p range part j n m stands rows covers took = record {
   used = λ opened holds.
       let ready = covers.ready holds.id holds.state opened holds.is in
       let is = same_part part (record { range = range; cell = Some holds.id }) ready.one in
       let costs = took.ready holds.id holds.state (ap (λ (x : Part). x.cell) is) (covers.ranked holds.id holds.state holds.is)
       (subst (λ r. IsReadySlot b.slots holds.id at p r holds.state) (sym (ap (λ (x : Part). x.range) is)) (subst (λ (cells : Holdings). IsReadySlot cells.slots holds.id at p range holds.state) (sym ready.still) holds.is)) in
       omega (arith, costs, rows);
+  stays = λ id s opened is.
+      let ready = covers.ready id s opened is in
+      let one = same_part part (record { range = range; cell = Some id }) ready.one in
+      let here = subst (λ r. IsReadySlot b.slots id at p r s) (sym (ap (λ (x : Part). x.range) one)) (subst (λ (cells : Holdings). IsReadySlot cells.slots id at p range s) (sym ready.still) is) in
+      let left = took.stays id s (ap (λ (x : Part). x.cell) one) (covers.ranked id s is) here in
+      subst (λ (cells : Holdings). StaysReady cells c id at p range s) ready.still (subst (λ r. StaysReady b c id at p r s) (ap (λ (x : Part). x.range) one) left);
   kept = λ opened may.
       let reserves = covers.reserved j stands opened may in
       let is = same_part part (record { range = range; cell = Some reserves.id }) reserves.one in
@@ -54,6 +60,7 @@ pub cost_of_parts : (h : History) (a b c : Holdings) (at rank p : ℕ) (range : 
     Covers h a b at rank p range parts → (length parts ≡ 1 → ⊥) → OneSpends h a c p range rank at j m
 cost_of_parts h a b c at rank p range parts j m stands covers several = record {
   used = λ opened holds. absurd (several (ap length (covers.ready holds.id holds.state opened holds.is).one));
+  stays = λ id s opened is. absurd (several (ap length (covers.ready id s opened is).one));
   kept = λ opened may. absurd (several (ap length (covers.reserved j stands opened may).one));
 }
 
@@ -62,6 +69,7 @@ one_spends_over : (h more : History) (before after : Holdings) (p : ℕ) (range 
     OneSpends more before after p range rank at j added → OneSpends h before after p range rank at j added
 one_spends_over h more before after p range rank at j added same one = record {
   used = λ opened holds. subst (λ l. added ≤ 1 + length (pairs_within range (out j (below l rank)))) same (one.used opened holds);
+  stays = one.stays;
   kept = one.kept;
 }
 
@@ -99,6 +107,16 @@ next_spends h a b c p range rank n m k sum first joins = record {
         let here = none_take h b c p range rank m (reached range rank (joins_of (take p h))) (only.alone rank (omega arith) (λ e. apart (sym e))) joins in
         let lower = first.used rk s (lower_only rk s only apart) opened holds in
         omega (arith, here.0, lower, sum)
+  ];
+  stays = λ rk s only opened id kept is. elim (cases_eq rk rank) [
+    | inl e ↦
+        let none = lower_none rk s only e in
+        let one : OneSpends h b c p range rank s.position s.join m = one_of h b c p range rank m (reached range rank (joins_of (take p h))) s (subst (λ r. reached range r (joins_of (take p h)) ≡ s ∷ []) e only.one) joins in
+        subst (λ cells. StaysReady cells c id s.position p range kept) (first.still none)
+        (one.stays id kept opened (subst (λ cells. IsReadySlot cells.slots id s.position p range kept) (sym (first.still none)) is))
+    | inr apart ↦
+        let here = none_take h b c p range rank m (reached range rank (joins_of (take p h))) (only.alone rank (omega arith) (λ e. apart (sym e))) joins in
+        subst (λ cells. StaysReady a cells id s.position p range kept) (sym here.1) (first.stays rk s (lower_only rk s only apart) opened id kept is)
   ];
   kept = λ rk s only opened may. elim (cases_eq rk rank) [
     | inl e ↦

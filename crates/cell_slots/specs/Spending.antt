@@ -7,8 +7,12 @@ use Rattle.semantics.specs.Outputs.{out}
 use Rattle.semantics.specs.States.{below}
 use Rattle.key_ranges.specs.Ranges.{is_open}
 use Rattle.layering.specs.Reached.{reached, ReachesNoneBelow}
+use Rattle.layering.specs.Parts.{IsWithin}
 use Rattle.kept_ranges.specs.Sound.{KeptRange}
 use Rattle.range_state.specs.Held.{forgotten}
+use Rattle.range_state.specs.Ready.{StandsAt}
+use Rattle.source_changes.specs.Asking.{AreBareThroughout}
+use Rattle.range_serving.specs.Serving.{WasAdvanced}
 use Rattle.cell_slots.specs.declared.slot.Part.{Part}
 use Rattle.cell_slots.specs.declared.slot.Slot.{Slot}
 use Rattle.cell_slots.specs.declared.slot.Slot.TheVariants.{Free, Held}
@@ -44,26 +48,49 @@ pub record KeepsJust (before after : Holdings) (rank at p : ℕ) (range : Range)
   pub is : HoldsWhole after.slots id at p range
   pub alone : rank ≡ 0 → after.used ≡ before.used ++ id ∷ []
 
+-- a cell that could be read over a range can still be, with what it held, and it alone was used
+pub record StaysReady (before after : Holdings) (id at p : ℕ) (range : Range) (s : KeptRange) : Type 0 where
+  pub is : IsReadySlot after.slots id at p range s
+  pub used : after.used ≡ before.used ++ id ∷ []
+
+-- a slot holds a kept range of the join at a position that stood at q, below p, when the ranges of its needs were bare from there on to p, and that holds a part
+pub record StandsBehind (h : History) (slots : List Slot) (id at q p : ℕ) (part : Range) (s : KeptRange) : Type 0 where
+  pub held : slice_get slots id ≡ Some (Held at s)
+  pub whole : IsWithin part s.range
+  pub stands : StandsAt q s
+  pub behind : q < p
+  pub bare : AreBareThroughout h q p s.kept.needs
+
+-- what such a slot held was advanced, and mended where something pending met the part: the slot holds what that leaves
+pub record HoldsAdvanced (h : History) (slots : List Slot) (id at q p : ℕ) (part : Range) (s : KeptRange) (before after : ℕ) : Type 0 where
+  pub state : KeptRange
+  pub held : slice_get slots id ≡ Some (Held at state)
+  pub was : WasAdvanced h q p part s state before after
+
 -- a range may be kept: its join is a push join, a cell is free, and none keeps a part of the range
 pub record MayKeep (slots : List Slot) (at : ℕ) (j : Join) (range : Range) : Type 0 where
   pub pushed : j.kind ≡ push
   pub free : HasFree slots
   pub apart : MeetsNone slots at range
 
--- reading what one join gives in a range: where a cell can be read over it, it costs one step and its rows; where it may be kept, a cell holds it afterwards
+-- reading what one join gives in a range: where a cell can be read over it, it costs one step and its rows, and the cell stays; where it may be kept, a cell holds it afterwards
 pub record OneSpends (h : History) (before after : Holdings) (p : ℕ) (range : Range) (rank at : ℕ) (j : Join) (added : ℕ) : Type 0 where
   pub used : is_open range ≡ true → HoldsReady before.slots at p range → added ≤ 1 + row_count h p range rank j
+  pub stays : (id : ℕ) (s : KeptRange) → is_open range ≡ true → IsReadySlot before.slots id at p range s → StaysReady before after id at p range s
   pub kept : is_open range ≡ true → MayKeep before.slots at j range → KeepsJust before after rank at p range
 
--- a range is covered by parts: by the cell alone that can be read over it, and where it may be kept by a cell that was free
+-- a range is covered by parts: by the cell alone that can be read over it, and where it may be kept by a cell that was free; for a pull join no cell changes
 pub record Covers (h : History) (before after : Holdings) (at rank p : ℕ) (range : Range) (parts : List Part) : Type 0 where
   pub ready : (id : ℕ) (s : KeptRange) → is_open range ≡ true → IsReadySlot before.slots id at p range s → CoversReady before after id range parts
   pub ranked : (id : ℕ) (s : KeptRange) → IsReadySlot before.slots id at p range s → s.rank ≡ rank
   pub reserved : (j : Join) → StandsAs h p at rank j → is_open range ≡ true → MayKeep before.slots at j range → Reserves before after at rank j range parts
+  pub pulled : (j : Join) → StandsAs h p at rank j → (j.kind ≡ push → ⊥) → after ≡ before
 
--- a part is read: with one step and its rows where its cell can be read over it, and a cell that was reserved for it holds it afterwards
-pub record Took (before after : Holdings) (at rank p : ℕ) (part : Part) (rows added : ℕ) : Type 0 where
+-- a part is read: with one step and its rows where its cell can be read over it, which stays then; what its cell holds is advanced where it stands behind; and a cell that was reserved for it holds it afterwards
+pub record Took (h : History) (before after : Holdings) (at rank p : ℕ) (part : Part) (rows added : ℕ) : Type 0 where
   pub ready : (id : ℕ) (s : KeptRange) → part.cell ≡ Some id → s.rank ≡ rank → IsReadySlot before.slots id at p part.range s → added ≡ 1 + rows
+  pub stays : (id : ℕ) (s : KeptRange) → part.cell ≡ Some id → s.rank ≡ rank → IsReadySlot before.slots id at p part.range s → StaysReady before after id at p part.range s
+  pub behind : (id q : ℕ) (s : KeptRange) → part.cell ≡ Some id → s.rank ≡ rank → StandsBehind h before.slots id at q p part.range s → HoldsAdvanced h after.slots id at q p part.range s (1 + rows) added
   pub held : (id : ℕ) (j : Join) → part.cell ≡ Some id → slice_get before.slots id ≡ Some (Held at (forgotten j rank part.range)) → KeepsJust before after rank at p part.range
 
 -- reading what joins give: nothing where there are none, and of one alone, by the position of its declaration, what that one costs and leaves
@@ -78,11 +105,13 @@ pub record ReachesOnly (joins : List DeclaredJoin) (range : Range) (top rank : �
   pub one : reached range rank joins ≡ s ∷ []
   pub alone : (r : ℕ) → r < top → (r ≡ rank → ⊥) → reached range r joins ≡ []
 
--- reading a range below a rank: where no join below the rank reaches it, it costs at most one step and the base pairs, and no cell changes; where one alone does, it costs that and what reading of this one costs
+-- reading a range below a rank: where no join below the rank reaches it, it costs at most one step and the base pairs, and no cell changes; where one alone does, it costs that and what reading of this one costs, and leaves what that leaves
 pub record Spends (h : History) (before after : Holdings) (p : ℕ) (range : Range) (top added : ℕ) : Type 0 where
   pub none : ReachesNoneBelow range top (joins_of (take p h)) → added ≤ 1 + base_count h p range
   pub still : ReachesNoneBelow range top (joins_of (take p h)) → after ≡ before
   pub used : (rank : ℕ) (s : DeclaredJoin) → ReachesOnly (joins_of (take p h)) range top rank s → is_open range ≡ true → HoldsReady before.slots s.position p range →
       added ≤ 2 + base_count h p range + row_count h p range rank s.join
+  pub stays : (rank : ℕ) (s : DeclaredJoin) → ReachesOnly (joins_of (take p h)) range top rank s → is_open range ≡ true → (id : ℕ) (kept : KeptRange) → IsReadySlot before.slots id s.position p range kept →
+      StaysReady before after id s.position p range kept
   pub kept : (rank : ℕ) (s : DeclaredJoin) → ReachesOnly (joins_of (take p h)) range top rank s → is_open range ≡ true → MayKeep before.slots s.position s.join range →
       KeepsJust before after rank s.position p range

@@ -1,7 +1,7 @@
 // What a layer asks of the cells.
 ghost use Rattle.std.specs.Prelude.{◌≡◌, ℕ, ◌+◌, ◌-◌, ◌≤◌, List, length, map, take, slice_get, slice_set, true, MatchOption, IfOk, OnErr, Some, None};
 ghost use Rattle.semantics.specs.Texts.{Range as Bounds};
-ghost use Rattle.semantics.specs.Joins.{Join as PlainJoin};
+ghost use Rattle.semantics.specs.Joins.{Join as PlainJoin, push};
 ghost use Rattle.semantics.specs.Histories.{History, joins_of};
 ghost use Rattle.key_ranges.specs.Ranges.{is_open};
 ghost use Rattle.layering.specs.Reached.{reached};
@@ -51,7 +51,7 @@ pub trait Cells: Reader {
 
     /// The range, which reaches the join's output, in parts, in order, each with the cell that holds it, where one does. For
     /// a push join the gaps between what is held are reserved: the lowest free cell holds each of them from now on, while
-    /// there is one, with nothing kept yet.
+    /// there is one, with nothing kept yet. For a pull join no cell changes.
     fn cover(&mut self, at: u64, rank: u8, p: u64, range: &Range) -> Result<Vec<Part>, OutOfMemory>
         requires within { p ≤ length (Self.list self.old) }
         requires reached { IsReached (Self.list self.old) p at rank range.now }
@@ -60,6 +60,7 @@ pub trait Cells: Reader {
         ensures ranked { (id : ℕ) (s : KeptRange) → IsReadySlot (holdings self.old).slots id at p range.now s → s.rank ≡ rank }
         ensures reserved { IfOk result (λ parts. (j : PlainJoin) → StandsAs (Self.list self.old) p at rank j → is_open range.now ≡ true → MayKeep (holdings self.old).slots at j range.now →
             Reserves (holdings self.old) (holdings self.new) at rank j range.now parts.items) }
+        ensures pulled { (j : PlainJoin) → StandsAs (Self.list self.old) p at rank j → (j.kind ≡ push → ⊥) → holdings self.new ≡ holdings self.old }
         ensures frame { Frame 0 (holdings self.old) (holdings self.new) }
         ensures list { Self.list self.new ≡ Self.list self.old }
         ensures same_floor { Self.floor self.new ≡ Self.floor self.old };

@@ -1,3 +1,4 @@
 pub mod ServingLemmas
+pub mod AdvancedLemmas
 pub mod MergingLemmas
 pub mod TellingLemmas

@@ -3,7 +3,8 @@
 //
 // The layers above may use all that is public here: `serve` a piece from a kept range, or `serve_alone` from one of its own
 // that is let go; `reach` a position alone, or `catch_up` with it where nothing is to be filled, and whether a kept range
-// `is_past` one; `renew` a kept range with another rank; `tell` what changed of a kept range's output; and `merge` pairs.
+// `is_past` one, or `stands_from` one; `renew` a kept range with another rank; `tell` what changed of a kept range's output; and
+// `merge` pairs.
 #![tactic(auto)]
 
 pub mod merging;
@@ -11,5 +12,5 @@ pub mod serving;
 pub mod telling;
 
 pub use merging::merge;
-pub use serving::{is_past, reach, renew, serve, serve_alone};
+pub use serving::{is_past, reach, renew, serve, serve_alone, stands_from};
 pub use telling::{catch_up, tell};

@@ -1,5 +1,5 @@
 // Pieces of ranges, from kept ranges.
-ghost use Rattle.std.specs.Prelude.{◌≡◌, ◌+◌, ◌≤◌, ◌<◌, [], length, take, false, true, IfOk, OnOk, None, Some};
+ghost use Rattle.std.specs.Prelude.{◌≡◌, ℕ, ◌+◌, ◌≤◌, ◌<◌, [], length, take, false, true, IfOk, OnOk, None, Some};
 ghost use Rattle.semantics.specs.Texts.{pairs_within};
 ghost use Rattle.semantics.specs.Histories.{joins_of};
 ghost use Rattle.semantics.specs.Outputs.{out};
@@ -9,7 +9,9 @@ ghost use Rattle.join_eval.specs.Moves.{Moves};
 ghost use Rattle.kept_ranges.specs.Sound.{IsSound};
 ghost use Rattle.range_state.specs.Held.{forgotten};
 ghost use Rattle.range_state.specs.Ready.{HasSameSubject, IsReady, StandsAt, pending_meets};
-ghost use Rattle.range_serving.specs.Serving.{IsPast, StandsFrom, output_within};
+ghost use Rattle.source_changes.specs.Asking.{AreBareThroughout};
+ghost use Rattle.range_state.specs.Work.{advance_steps, TouchesLittle};
+ghost use Rattle.range_serving.specs.Serving.{IsPast, StandsFrom, WasAdvanced, output_within};
 
 use join_eval::Reader;
 use join_types::{Join, Pair};
@@ -32,6 +34,17 @@ pub fn is_past(state: &RangeState, p: u64) -> bool
     }
 }
 
+/// Says whether it stands nowhere, or not below a floor. Constant.
+pub fn stands_from(state: &RangeState, floor: u64) -> bool
+    ensures yes { result ≡ true → StandsFrom floor state.now }
+    ensures no { result ≡ false → StandsFrom floor state.now → ⊥ }
+{
+    match state.position() {
+        None => true,
+        Some(at) => floor <= at,
+    }
+}
+
 /// Makes a kept range anew with a rank of its join: nothing is kept for it yet. Linear in the join.
 pub fn renew(alloc: Global, state: &RangeState, rank: u8) -> Result<RangeState, OutOfMemory>
     ensures { IfOk result (λ made. made ≡ forgotten state.now.join rank state.now.range) }
@@ -41,7 +54,9 @@ pub fn renew(alloc: Global, state: &RangeState, rank: u8) -> Result<RangeState, 
     Ok(RangeState::new(alloc, join, rank, range))
 }
 
-/// Brings it to where p entries stand: fills it where it is forgotten, and advances it where it stands below.
+/// Brings it to where p entries stand: fills it where it is forgotten, and advances it where it stands below. Where it stands
+/// below and the ranges of its needs are bare from there on, what no changed key touches is left, and it takes no more steps than
+/// an advance: one for each need, and three for each changed key of its range.
 ///
 /// On `OutOfMemory` it stands where it stood, or at p, or is forgotten, and is right for the reader's list. The reader may
 /// have gone on and steps may have been taken.
@@ -62,12 +77,16 @@ pub fn reach<R: Reader, L: Ledger>(
     ensures same { HasSameSubject state.old state.new }
     ensures at { OnOk result (StandsAt p state.new) }
     ensures filled { state.old.position ≡ None → OnOk result (state.new.kept.pending ≡ []) }
+    ensures little { (q : ℕ) → StandsAt q state.old → q < p → AreBareThroughout (R.list reader.old) q p state.old.kept.needs →
+        OnOk result (TouchesLittle (R.list reader.old) q p state.old state.new) }
     ensures still { StandsAt p state.old → state.new ≡ state.old }
     ensures unused { StandsAt p state.old → reader.new ≡ reader.old }
     ensures free { StandsAt p state.old → steps.new ≡ steps.old }
     ensures sound { IsSound state.new (R.list reader.new) }
     ensures moves { Moves R.list R.floor R.went reader.old reader.new }
     ensures counted { steps.old ≤ steps.new }
+    ensures cost { (q : ℕ) → StandsAt q state.old → q < p → AreBareThroughout (R.list reader.old) q p state.old.kept.needs →
+        OnOk result (steps.new ≤ steps.old + advance_steps (R.list reader.old) q p state.old.kept.needs) }
 {
     match state.position() {
         None => state.fill(p, reader, steps),
@@ -101,6 +120,8 @@ fn make_ready<R: Reader, G: Gate, L: Ledger>(
     ensures same { HasSameSubject state.old state.new }
     ensures ready { OnOk result (IsReady p range.now state.new) }
     ensures filled { state.old.position ≡ None → OnOk result (state.new.kept.pending ≡ []) }
+    ensures behind { (q : ℕ) → StandsAt q state.old → q < p → AreBareThroughout (R.list reader.old) q p state.old.kept.needs →
+        OnOk result (WasAdvanced (R.list reader.old) q p range.now state.old state.new steps.old steps.new) }
     ensures still { IsReady p range.now state.old → state.new ≡ state.old }
     ensures unused { IsReady p range.now state.old → reader.new ≡ reader.old }
     ensures free { IsReady p range.now state.old → steps.new ≡ steps.old }
@@ -124,7 +145,8 @@ fn make_ready<R: Reader, G: Gate, L: Ledger>(
 /// pending meets the piece it is mended there. Then it is read. The gate is passed before a fill and before a mend.
 ///
 /// Where it is ready, that is, at p with nothing pending that meets the piece, it takes one step and one for each pair, and
-/// neither it nor the reader changes. Otherwise it takes these and those of the calls that make it ready.
+/// neither it nor the reader changes. Otherwise it takes these and those of the calls that make it ready: where it stands below p
+/// and the ranges of its needs are bare from there on, those of an advance and a mend, and it is not filled again.
 ///
 /// On `OutOfMemory` it stands where it stood, or at p, or is forgotten, and is right for the reader's list. The reader may
 /// have gone on and steps may have been taken.
@@ -155,6 +177,8 @@ pub fn serve<R: Reader, G: Gate, L: Ledger>(
     ensures counted { steps.old ≤ steps.new }
     ensures cost { IfOk result (λ pairs. steps.old + 1 + length pairs.items ≤ steps.new) }
     ensures at_once { IsReady p range.now state.old → IfOk result (λ pairs. steps.new ≡ steps.old + 1 + length pairs.items) }
+    ensures behind { (q : ℕ) → StandsAt q state.old → q < p → AreBareThroughout (R.list reader.old) q p state.old.kept.needs →
+        IfOk result (λ pairs. WasAdvanced (R.list reader.old) q p range.now state.old state.new (steps.old + 1 + length pairs.items) steps.new) }
 {
     make_ready(state, p, range, gate, reader, steps)?;
     state.read(range, steps)

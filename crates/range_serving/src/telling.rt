@@ -1,13 +1,13 @@
 // What changed in the output of a kept range.
-ghost use Rattle.std.specs.Prelude.{◌≡◌, ℕ, ◌<◌, ◌≤◌, length, take, IfOk, OnOk, OnErr, None};
+ghost use Rattle.std.specs.Prelude.{◌≡◌, ℕ, ◌+◌, ◌<◌, ◌≤◌, length, take, IfOk, OnOk, OnErr, None};
 ghost use Rattle.semantics.specs.Histories.{joins_of};
 ghost use Rattle.growing_history.specs.Entered.{HasEntered, HasRank};
 ghost use Rattle.join_eval.specs.Moves.{Moves};
 ghost use Rattle.kept_ranges.specs.Sound.{IsSound};
 ghost use Rattle.range_state.specs.Ready.{HasSameSubject, StandsAt, StandsOrIsForgotten};
-ghost use Rattle.range_state.specs.Since.{AnswersSince};
-ghost use Rattle.range_state.specs.Work.{TouchesLittle};
+ghost use Rattle.range_state.specs.Since.{AnswersSince, told_count};
 ghost use Rattle.source_changes.specs.Asking.{AreBareThroughout};
+ghost use Rattle.range_state.specs.Work.{advance_steps, TouchesLittle};
 ghost use Rattle.range_serving.specs.Serving.{IsBroughtTo, StandsFrom};
 ghost use Rattle.range_serving.specs.Telling.{TellsOutput};
 
@@ -46,6 +46,8 @@ pub fn catch_up<R: Reader, L: Ledger>(
     ensures sound { IsSound state.new (R.list reader.new) }
     ensures moves { Moves R.list R.floor R.went reader.old reader.new }
     ensures counted { steps.old ≤ steps.new }
+    ensures cost { (at : ℕ) → StandsAt at state.old → at < p → AreBareThroughout (R.list reader.old) at p state.old.kept.needs →
+        OnOk result (steps.new ≤ steps.old + advance_steps (R.list reader.old) at p state.old.kept.needs) }
 {
     match state.position() {
         None => Ok(()),
@@ -64,6 +66,8 @@ pub fn catch_up<R: Reader, L: Ledger>(
 ///
 /// `All` comes exactly where it then does not know: nothing is kept, its notes start after q, or slots meet the piece that
 /// are pending or were noted since.
+///
+/// It takes one step and one for each key that it lists, beside those of the advance.
 ///
 /// On `OutOfMemory` it stands where it stood, or at p, or is forgotten, and is right for the reader's list. The reader may
 /// have gone on and steps may have been taken.
@@ -88,13 +92,18 @@ pub fn tell<R: Reader, L: Ledger>(
     ensures brought { OnOk result (IsBroughtTo p state.old state.new) }
     ensures still { StandsFrom p state.old → state.new ≡ state.old }
     ensures unused { StandsFrom p state.old → reader.new ≡ reader.old }
-    ensures free { StandsFrom p state.old → steps.new ≡ steps.old }
+    ensures free { StandsFrom p state.old → IfOk result (λ answer. steps.new ≡ steps.old + 1 + told_count answer) }
     ensures little { (at : ℕ) → StandsAt at state.old → at < p → AreBareThroughout (R.list reader.old) at p state.old.kept.needs →
         OnOk result (TouchesLittle (R.list reader.old) at p state.old state.new) }
     ensures sound { IsSound state.new (R.list reader.new) }
     ensures moves { Moves R.list R.floor R.went reader.old reader.new }
     ensures counted { steps.old ≤ steps.new }
+    ensures cost { (at : ℕ) → StandsAt at state.old → at < p → AreBareThroughout (R.list reader.old) at p state.old.kept.needs →
+        IfOk result (λ answer. steps.new ≤ steps.old + advance_steps (R.list reader.old) at p state.old.kept.needs + 1 + told_count answer) }
 {
     catch_up(state, p, reader, steps)?;
-    state.changed_since(q, range)
+    match state.touched_since(q, range, steps)? {
+        Some(keys) => Ok(Changed::Keys(keys)),
+        None => Ok(Changed::All),
+    }
 }

@@ -10,13 +10,13 @@ use Rattle.key_ranges.specs.Ranges.{just}
 use Rattle.range_evaluation.specs.Trees.{Need}
 use Rattle.kept_ranges.specs.Rules.{Application, is_left, applications}
 use Rattle.kept_ranges.specs.Sound.{KeptRange}
-use Rattle.source_changes.specs.Asking.{HaveRanges, AreListed, asking_steps}
+use Rattle.source_changes.specs.Asking.{HaveRanges, AreBareThroughout, AreListed, asking_steps}
 use Rattle.source_changes.specs.Laws.{AdvanceIsCheap, AppliedAreBare}
 use Rattle.source_changes.specs.Setting.{AreBareAt}
 use Rattle.range_state.specs.Advanced.{touched_by, applied_by, IsAdvancedTo}
 use Rattle.range_state.specs.Held.{range_kept}
 use Rattle.range_state.specs.Ready.{StandsAt}
-use Rattle.range_state.specs.Work.{AreBareThroughout, advance_steps}
+use Rattle.range_state.specs.Work.{advance_steps}
 use Rattle.range_state.specs.declared.holding.Holding.{Holding}
 use Rattle.range_state.specs.declared.subject.Subject.{Subject}
 

@@ -24,9 +24,9 @@ use Rattle.range_evaluation.specs.TreeLaws.{AreOutputSlots}
 use Rattle.range_evaluation.proofs.AskedLemmas.{binds_with_part, shared_are_output_slots}
 
 -- a key of the range that fits the output binds under the range's slots
-shared_binds : (j : Join) (range : Range) (slots : Slots) (key : Text) → is_join j ≡ true → is_range range.low range.high ≡ true → range_slots j.output range ≡ Some slots → within range key ≡ true → fits j.output key ≡ true
+binds_under : (j : Join) (range : Range) (slots : Slots) (key : Text) → is_join j ≡ true → is_range range.low range.high ≡ true → range_slots j.output range ≡ Some slots → within range key ≡ true → fits j.output key ≡ true
     → is_some (bind j.output key slots) ≡ true
-shared_binds j range slots key ok bounds shared inside fit =
+binds_under j range slots key ok bounds shared inside fit =
     let pattern = output_of_join j ok in
     let segments = segments_of_pattern j.output pattern in
     let found = some_by (bind j.output key no_slots) fit in
@@ -57,15 +57,15 @@ asked_is_within j range slots table ok bounds shared =
     at q (Some v) there true e =
         let fit = (out_keys_fit_short j table q ok (ap is_some there)).0 in
         ap (λ c. cond (c && is_some (bind j.output q slots)) (value_at q (out j table)) None) e
-        ∙ ap (λ c. cond c (value_at q (out j table)) None) (shared_binds j range slots q ok bounds shared e fit)
+        ∙ ap (λ c. cond c (value_at q (out j table)) None) (binds_under j range slots q ok bounds shared e fit)
         ∙ sym (ap (λ c. cond c (value_at q (out j table)) None) e)
     at q (Some v) there false e =
         ap (λ c. cond (c && is_some (bind j.output q slots)) (value_at q (out j table)) None) e
         ∙ sym (ap (λ c. cond c (value_at q (out j table)) None) e)
 
 -- the slots of a range are slots of the output
-pub shared_slots : (j : Join) (range : Range) (slots : Slots) → is_join j ≡ true → range_slots j.output range ≡ Some slots → AreOutputSlots j slots
-shared_slots j range slots ok shared = subst (λ o. IfSome o (AreOutputSlots j)) shared (shared_are_output_slots j range ok)
+pub slots_of_output : (j : Join) (range : Range) (slots : Slots) → is_join j ≡ true → range_slots j.output range ≡ Some slots → AreOutputSlots j slots
+slots_of_output j range slots ok shared = subst (λ o. IfSome o (AreOutputSlots j)) shared (shared_are_output_slots j range ok)
 
 -- a join that stands after entries that entered is one
 pub standing_join : (h : History) (p rank : ℕ) (j : Join) → HasEntered h → HasRank (joins_of (take p h)) j rank → is_join j ≡ true

@@ -70,7 +70,8 @@ refilled_sound s h here more p held first last bounds entered place stands fille
 
 -- ---- what is pending
 
-no_element : (xs : List Slots) → ((x : Slots) → Has xs x → ⊥) → xs ≡ []
+-- a list in which nothing stands is empty
+pub no_element : {A : Type 0} (xs : List A) → ((x : A) → Has xs x → ⊥) → xs ≡ []
 no_element [] none = refl
 no_element (x ∷ xs) none = absurd (none x (inl refl))
 

@@ -9,5 +9,7 @@ pub mod MendLemmas
 pub mod NotingLemmas
 pub mod AdvanceLemmas
 pub mod CostLemmas
+pub mod CountedLemmas
+pub mod MarkLemmas
 pub mod LittleLemmas
 pub mod GoneOnLemmas

@@ -23,10 +23,11 @@ use Rattle.source_changes.specs.Laws.{is_check_source, is_value_source, check_ne
 use Rattle.range_state.specs.Advanced.{touch_notes, key_notes, touched_by, applied_by, IsAdvancedTo}
 use Rattle.range_state.specs.Held.{range_kept}
 use Rattle.range_state.specs.Ready.{StandsAt}
-use Rattle.range_state.specs.Work.{changes_of, IsTouchedBy, IsTouched, AreTouchedSlots, TouchesLittle}
+use Rattle.range_state.specs.Work.{IsTouchedBy, IsTouched, AreTouchedSlots, TouchesLittle}
 use Rattle.range_state.specs.declared.holding.Holding.{Holding}
 use Rattle.range_state.specs.declared.subject.Subject.{Subject}
 use Rattle.range_state.proofs.CostLemmas.{same_place}
+use Rattle.range_state.proofs.MarkLemmas.{notes_are_marks}
 use Rattle.range_state.proofs.NotingLemmas.{noted_start}
 
 -- ---- touched keys
@@ -129,7 +130,7 @@ key_count p (a ∷ others) = ap suc (key_count p others)
 
 -- there are no more notes than changed keys in the ranges of the needs
 notes_count : FewTouches → FewApplications → (s : Subject) (held made : Holding) (h : History) (p : ℕ) (reported : List Text) → AreListed held.position p h held.rows.needs reported → IsAdvancedTo s p reported held made
-    → length (touch_notes p (touched_by s reported held) ++ key_notes p (applied_by s reported made)) ≤ sum_by (changes_of h held.position p) held.rows.needs
+    → length (touch_notes p (touched_by s reported held) ++ key_notes p (applied_by s reported made)) ≤ sum_by (changed_count held.position p h) held.rows.needs
 notes_count few_touches few_applications s held made h p reported listed advanced =
     let q = held.position in
     let needs = held.rows.needs in
@@ -155,6 +156,11 @@ little_here few_touches few_applications s held made h p reported listed advance
   pending = λ slots has. ⊎_elim (λ (old : Contains held.pending.noted slots). inl old) (λ (new : Contains (map (λ t. t.slots) (touched_by s reported held)) slots). inr (touched_slots s held h p reported slots listed new)) ((advanced.pending slots).0 has);
   needs = λ need has untouched. subst (λ (ns : List Need). Contains ns need) (sym advanced.needs)
       (contains_from_has (filter (is_left (touched_by s reported held)) held.rows.needs) need (needs_stay s held h p reported need listed (has_from_contains held.rows.needs need has) untouched));
+  no_more = λ need has.
+      let test = is_left (touched_by s reported held) in
+      contains_from_has held.rows.needs need
+      (has_filter test held.rows.needs need (has_from_contains (filter test held.rows.needs) need (subst (λ (ns : List Need). Contains ns need) advanced.needs has))).1;
+  notes = notes_are_marks s held made h p reported (λ given has. touched_slots s held h p reported given listed has) listed advanced;
   start = λ room. ap (λ n. n.start) advanced.notes ∙ noted_start held.notes (touch_notes p (touched_by s reported held) ++ key_notes p (applied_by s reported made)) (fits _ _ _ _ room (notes_count few_touches few_applications s held made h p reported listed advanced));
 }
   where
@@ -176,5 +182,7 @@ pub little_same : (h : History) (q p : ℕ) (v : KeptRange) → TouchesLittle h 
 little_same h q p v = record {
   pending = λ slots has. inl has;
   needs = λ need has untouched. has;
+  no_more = λ need has. has;
+  notes = λ note has. inl has;
   start = λ room. refl;
 }

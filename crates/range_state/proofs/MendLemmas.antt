@@ -3,7 +3,7 @@ use Rattle.std.proofs.Common.{◌≡◌, ◌↔◌, ◌⊎◌, ◌&&◌, ℕ, ze
 use Rattle.std.specs.List.{AllByRecursion, list_any}
 use Rattle.std.proofs.lemmas.Bool.{false≢true, and_parts, and_from}
 use Rattle.std.proofs.lemmas.Option.{same_Some}
-use Rattle.semantics.specs.Texts.{Text, Range, is_range, same, pairs_where}
+use Rattle.semantics.specs.Texts.{Text, Table, Range, is_range, same, pairs_where}
 use Rattle.semantics.specs.Patterns.{Slots, bind}
 use Rattle.semantics.specs.Joins.{copy, is_aggregate, Join, value_operator}
 use Rattle.semantics.specs.Histories.{History, IsPrefix, joins_of}
@@ -29,10 +29,11 @@ use Rattle.lazy_log.specs.Pending.{meets_output}
 use Rattle.range_state.specs.Held.{range_kept}
 use Rattle.range_state.specs.Mended.{AreAllBare, AreBareFor, steps_for, steps_under, with_pending}
 use Rattle.range_state.specs.Ready.{StandsAt}
-use Rattle.range_state.specs.Work.{AreBareUnder, mend_steps}
+use Rattle.range_state.specs.Work.{AddsNeeds, AreBareUnder, meeting, mend_notes, mend_steps, needs_under_each}
 use Rattle.range_state.specs.declared.holding.Holding.{Holding}
 use Rattle.range_state.specs.declared.subject.Subject.{Subject}
 use Rattle.range_state.proofs.FillLemmas.{copies_by}
+use Rattle.range_state.proofs.NotingLemmas.{noted_none}
 
 -- ---- other pending slots
 
@@ -289,3 +290,79 @@ mending_takes s held h range taken old new is cost q stands bare =
     let here : P held.position = λ b.
     subst (λ (ts : List Slots). new ≤ old + steps_under s h held.position ts) is (cost (subst (λ (ts : List Slots). AreAllBare s h held.position ts) (sym is) b)) in
     subst P e here bare
+
+-- and what it takes at least
+pub mending_counts : (s : Subject) (held : Holding) (h : History) (range : Range) (taken : List Slots) (old new : ℕ) → taken ≡ filter (meets_output s.join.output range) held.pending.noted
+    → old + steps_under s h held.position taken ≤ new
+    → (q : ℕ) → StandsAt q (range_kept s held) → old + mend_steps (range_kept s held) (below (take q h) s.rank) range ≤ new
+mending_counts s held h range taken old new is least q stands =
+    let e : held.position ≡ q = same_Some held.position q stands in
+    let P : ℕ → Type 0 = λ p. old + mend_steps (range_kept s held) (below (take p h) s.rank) range ≤ new in
+    let here : P held.position = subst (λ (ts : List Slots). old + steps_under s h held.position ts ≤ new) is least in
+    subst P e here
+
+-- which needs it adds
+pub mending_adds : (s : Subject) (held : Holding) (h : History) (range : Range) (taken : List Slots) (new : List Need) → taken ≡ filter (meets_output s.join.output range) held.pending.noted
+    → AddsNeeds (needs_under_each s.join s.range (below (take held.position h) s.rank) taken) held.rows.needs new
+    → (q : ℕ) → StandsAt q (range_kept s held) → AddsNeeds (needs_under_each s.join s.range (below (take q h) s.rank) (meeting (range_kept s held) range)) held.rows.needs new
+mending_adds s held h range taken new is adds q stands =
+    let e : held.position ≡ q = same_Some held.position q stands in
+    subst (λ (w : ℕ × List Slots). AddsNeeds (needs_under_each s.join s.range (below (take w.0 h) s.rank) w.1) held.rows.needs new) (λ i. (e i, is i)) adds
+
+-- and which notes it makes
+pub mending_notes : (s : Subject) (held : Holding) (range : Range) (taken : List Slots) (new : Notes) → taken ≡ filter (meets_output s.join.output range) held.pending.noted
+    → new ≡ noted held.notes (mend_notes held.position taken)
+    → (q : ℕ) → StandsAt q (range_kept s held) → new ≡ noted held.notes (mend_notes q (meeting (range_kept s held) range))
+mending_notes s held range taken new is made q stands =
+    let e : held.position ≡ q = same_Some held.position q stands in
+    made ∙ (λ i. noted held.notes (mend_notes (e i) (is i)))
+
+-- ---- slot by slot
+
+-- the needs so far, with those that are found under the slots that are left, are the old ones with those under all
+abbrev pub AddsLeft : Join → Range → Table → List Slots → List Slots → List Need → List Need → Type 0
+AddsLeft j range table taken rest old now =
+    (need : Need) → (Contains now need ⊎ Contains (needs_under_each j range table rest) need) ↔ (Contains old need ⊎ Contains (needs_under_each j range table taken) need)
+
+-- needs that are added each once, with others behind them
+added_before : (own others now next : List Need) → AddsEach own now next → (need : Need) → (Contains next need ⊎ Contains others need) ↔ (Contains now need ⊎ Contains (own ++ others) need)
+added_before own others now next adds need = (forth, back)
+  where
+    forth : Contains next need ⊎ Contains others need → Contains now need ⊎ Contains (own ++ others) need
+    forth (inl found) = ⊎_elim
+        (λ (there : Contains now need). inl there)
+        (λ (added : Contains own need). inr (contains_from_has (own ++ others) need (has_append_left own others need (has_from_contains own need added))))
+        ((adds_each own now next adds need).0 found)
+    forth (inr later) = inr (contains_from_has (own ++ others) need (has_append_right own others need (has_from_contains others need later)))
+
+    back : Contains now need ⊎ Contains (own ++ others) need → Contains next need ⊎ Contains others need
+    back (inl there) = inl ((adds_each own now next adds need).1 (inl there))
+    back (inr both) = ⊎_elim
+        (λ (added : Has own need). inl ((adds_each own now next adds need).1 (inr (contains_from_has own need added))))
+        (λ (later : Has others need). inr (contains_from_has others need later))
+        (has_append_cases own others need (has_from_contains (own ++ others) need both))
+
+-- one of the slots that are left is mended
+pub needs_next : (j : Join) (range : Range) (table here : Table) (given : Slots) (taken all rest : List Slots) (old now next : List Need) → here ≡ table → all ≡ given ∷ rest → AddsEach (tree j given range here) now next
+    → AddsLeft j range table taken all old now → AddsLeft j range table taken rest old next
+needs_next j range table here given taken all rest old now next at first adds so_far need =
+    let left : AddsLeft j range table taken (given ∷ rest) old now = subst (λ (ss : List Slots). AddsLeft j range table taken ss old now) first so_far in
+    let one : AddsEach (tree j given range table) now next = subst (λ (t : Table). AddsEach (tree j given range t) now next) at adds in
+    let both = added_before (tree j given range table) (needs_under_each j range table rest) now next one need in
+    (λ has. (left need).0 (both.0 has), λ has. both.1 ((left need).1 has))
+
+-- once none is left, the needs under all are added
+pub needs_end : (j : Join) (range : Range) (table : Table) (taken rest : List Slots) (old new : List Need) → length rest ≡ 0 → AddsLeft j range table taken rest old new → AddsNeeds (needs_under_each j range table taken) old new
+needs_end j range table taken [] old new none all need =
+    (λ has. (all need).0 (inl has), λ has. ⊎_elim (λ (there : Contains new need). there) (λ (left : Contains [] need). absurd (has_from_contains [] need left)) ((all need).1 has))
+needs_end j range table taken (x ∷ xs) old new none all need = absurd (omega arith)
+
+-- nothing more is read
+pub steps_end : (s : Subject) (h : History) (q : ℕ) (rest : List Slots) → length rest ≡ 0 → steps_under s h q rest ≡ 0
+steps_end s h q [] none = refl
+steps_end s h q (x ∷ xs) none = absurd (omega arith)
+
+-- and the notes of all are made
+pub notes_end : (now old : Notes) (q : ℕ) (rest taken : List Slots) → length rest ≡ 0 → length now.list ≤ note_limit → noted now (mend_notes q rest) ≡ noted old (mend_notes q taken) → now ≡ noted old (mend_notes q taken)
+notes_end now old q [] taken none few all = sym (noted_none now few) ∙ all
+notes_end now old q (x ∷ xs) taken none few all = absurd (omega arith)

@@ -31,17 +31,12 @@ abbrev pub ListsAllSince : KeptRange → History → ℕ → ℕ → Range → C
 ListsAllSince s h u q range (Keys keys) = IsSameBut s h u q range keys.items
 ListsAllSince s h u q range All = Unit {0}
 
--- the keys that were touched since a position: none where that is not known
-abbrev pub TouchedSince : ℕ → Range → KeptRange → Option (Vec Text Global) → Type 0
-TouchedSince u range s (Some keys) = (is_unknown_since u range s s.position ≡ false) × (keys.items ≡ keys_since u range s.notes.list)
-TouchedSince u range s None = is_unknown_since u range s s.position ≡ true
+-- keys that are handed out, or none, as an answer
+abbrev pub as_changed : Option (Vec Text Global) → Changed
+as_changed (Some keys) = Keys keys
+as_changed None = All
 
--- where keys are handed out, the output is the same at all others
-abbrev pub ListsAllTouched : KeptRange → History → ℕ → ℕ → Range → Option (Vec Text Global) → Type 0
-ListsAllTouched s h u q range (Some keys) = IsSameBut s h u q range keys.items
-ListsAllTouched s h u q range None = Unit {0}
-
--- how many keys are handed out
-abbrev pub touched_count : Option (Vec Text Global) → ℕ
-touched_count (Some keys) = length keys.items
-touched_count None = 0
+-- how many keys an answer lists
+abbrev pub told_count : Changed → ℕ
+told_count (Keys keys) = length keys.items
+told_count All = 0

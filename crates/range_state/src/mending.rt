@@ -11,10 +11,11 @@ ghost use Rattle.range_evaluation.specs.Trees.{is_asked, tree};
 ghost use Rattle.range_evaluation.specs.TreeLaws.{AreOutputSlots};
 ghost use Rattle.join_rows.specs.Kept.{AddsEach};
 ghost use Rattle.join_eval.specs.Moves.{Moves};
-ghost use Rattle.kept_ranges.specs.Notes.{note_limit};
+ghost use Rattle.kept_ranges.specs.Notes.{note_limit, noted};
 ghost use Rattle.kept_ranges.specs.Sound.{IsSoundAt};
 ghost use Rattle.range_state.specs.Held.{FitsJoin, range_kept};
 ghost use Rattle.range_state.specs.Mended.{AreAllBare, AreBareFor, KeepsPlace, steps_for, steps_under, with_pending};
+ghost use Rattle.range_state.specs.Work.{AddsNeeds, mend_notes, needs_under_each};
 
 use crate::holding::Holding;
 use crate::subject::Subject;
@@ -50,6 +51,7 @@ fn mend_slots<R: Reader, L: Ledger>(
     ensures needs { OnOk result (AddsEach (tree subject.now.join slots.now subject.now.range (below (take position (R.list reader.old)) subject.now.rank)) rows.old.needs rows.new.needs) }
     ensures moves { Moves R.list R.floor R.went reader.old reader.new }
     ensures counted { steps.old ≤ steps.new }
+    ensures least { OnOk result (steps.old + steps_for subject.now (R.list reader.old) position slots.now ≤ steps.new) }
     ensures cost { AreBareFor subject.now (R.list reader.old) position slots.now → OnOk result (steps.new ≤ steps.old + steps_for subject.now (R.list reader.old) position slots.now) }
 {
     let slots = slots.lend();
@@ -85,9 +87,13 @@ pub fn mend_all<R: Reader, L: Ledger>(
     ensures fits { OnOk result (FitsJoin subject.now.join held.new) }
     ensures stays { KeepsPlace held.old held.new }
     ensures sound { OnOk result (IsSoundAt (range_kept subject.now held.new) (R.list reader.new) held.old.position) }
+    ensures needs { OnOk result (AddsNeeds (needs_under_each subject.now.join subject.now.range (below (take held.old.position (R.list reader.old)) subject.now.rank) taken.items)
+        held.old.rows.needs held.new.rows.needs) }
+    ensures notes { OnOk result (held.new.notes ≡ noted held.old.notes (mend_notes held.old.position taken.items)) }
     ensures start { length held.old.notes.list + length taken.items ≤ note_limit → OnOk result (held.new.notes.start ≡ held.old.notes.start) }
     ensures moves { Moves R.list R.floor R.went reader.old reader.new }
     ensures counted { steps.old ≤ steps.new }
+    ensures least { OnOk result (steps.old + steps_under subject.now (R.list reader.old) held.old.position taken.items ≤ steps.new) }
     ensures cost { AreAllBare subject.now (R.list reader.old) held.old.position taken.items →
         OnOk result (steps.new ≤ steps.old + steps_under subject.now (R.list reader.old) held.old.position taken.items) }
 {

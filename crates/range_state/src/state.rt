@@ -1,5 +1,5 @@
 // A kept range.
-ghost use Rattle.std.specs.Prelude.{◌≡◌, ℕ, ◌+◌, ◌≤◌, [], length, filter, take, false, not, IfOk, IsSome, OnOk, OnErr};
+ghost use Rattle.std.specs.Prelude.{◌≡◌, ℕ, ◌+◌, ◌<◌, ◌≤◌, [], length, filter, take, false, not, IfOk, IsSome, OnOk, OnErr};
 ghost use Rattle.std.specs.Option.{IsSomeAnd};
 ghost use Rattle.semantics.specs.Texts.{pairs_within};
 ghost use Rattle.semantics.specs.Joins.{checks_of};
@@ -11,12 +11,14 @@ ghost use Rattle.range_evaluation.specs.Trees.{reading_steps};
 ghost use Rattle.lazy_log.specs.Pending.{meets_output};
 ghost use Rattle.join_eval.specs.Moves.{Moves};
 ghost use Rattle.join_eval.specs.Walks.{AreBare};
-ghost use Rattle.kept_ranges.specs.Notes.{note_limit};
+ghost use Rattle.kept_ranges.specs.Notes.{note_limit, noted};
 ghost use Rattle.kept_ranges.specs.Sound.{IsSound};
+ghost use Rattle.source_changes.specs.Asking.{AreBareThroughout};
 ghost use Rattle.range_state.specs.Held.{forgotten};
 ghost use Rattle.range_state.specs.Ready.{HasSameSubject, pending_meets, StandsAt, StandsOrIsForgotten};
-ghost use Rattle.range_state.specs.Since.{AnswersSince, ListsAllSince, ListsAllTouched, TouchedSince, touched_count};
-ghost use Rattle.range_state.specs.Work.{AreBareThroughout, advance_steps, AreBareUnder, fill_needs, mend_steps, TouchesLittle};
+ghost use Rattle.range_state.specs.Since.{AnswersSince, ListsAllSince, as_changed, told_count};
+ghost use Rattle.range_state.specs.Work.{AddsNeeds, advance_steps, AreBareUnder, CountsAdvance, IsFilledAfresh, TouchesLittle};
+ghost use Rattle.range_state.specs.Work.{fill_needs, meeting, mend_notes, mend_steps, needs_under_each};
 
 use crate::advancing::advance_held;
 use crate::filling::fill_at;
@@ -136,7 +138,8 @@ impl RangeState {
     /// On `OutOfMemory` nothing is kept. The reader may have gone on and steps may have been taken, here and in the other
     /// calls over a reader.
     ///
-    /// Where the ranges that are read are all bare, it takes at most one step for each of them and one for each pair in it.
+    /// It takes one step for each of the ranges that are read and one for each pair in it, at least; where they are all bare, no
+    /// more.
     pub fn fill<R: Reader, L: Ledger>(
         &mut self,
         p: u64,
@@ -152,10 +155,12 @@ impl RangeState {
         ensures same { HasSameSubject self.old self.new }
         ensures at { OnOk result (StandsAt p self.new) }
         ensures clear { OnOk result (self.new.kept.pending ≡ []) }
+        ensures filled { OnOk result (IsFilledAfresh p (below (take p (R.list reader.old)) self.old.rank) self.old self.new) }
         ensures err { OnErr result (self.new.position ≡ None) }
         ensures sound { IsSound self.new (R.list reader.new) }
         ensures moves { Moves R.list R.floor R.went reader.old reader.new }
         ensures counted { steps.old ≤ steps.new }
+        ensures least { OnOk result (steps.old + reading_steps (fill_needs self.old.join self.old.range (below (take p (R.list reader.old)) self.old.rank)) (below (take p (R.list reader.old)) self.old.rank) ≤ steps.new) }
         ensures cost { AreBare (joins_of (take p (R.list reader.old))) (fill_needs self.old.join self.old.range (below (take p (R.list reader.old)) self.old.rank)) →
             OnOk result (steps.new ≤ steps.old + reading_steps (fill_needs self.old.join self.old.range (below (take p (R.list reader.old)) self.old.rank)) (below (take p (R.list reader.old)) self.old.rank)) }
     {
@@ -172,6 +177,7 @@ impl RangeState {
     /// then takes work that is logarithmic in the rows, and what `LazyLog::covers` takes; for each need of a check, each changed
     /// key takes what `LazyLog::note` does. These keys are put in order once, and looked for among those by which a need came.
     ///
+    /// Brought to a later position it takes one step at least for each need; or else it was filled, and takes what `fill` does.
     /// Where the ranges of its needs are bare from its position on to p, it takes at most one step for each need and three
     /// for each key of its range that was put or removed in between.
     ///
@@ -195,6 +201,7 @@ impl RangeState {
         ensures unchecked { checks_of self.old.join.sources ≡ [] → self.old.kept.pending ≡ [] → self.new.kept.pending ≡ [] }
         ensures moves { Moves R.list R.floor R.went reader.old reader.new }
         ensures counted { steps.old ≤ steps.new }
+        ensures least { (q : ℕ) → StandsAt q self.old → q < p → OnOk result (CountsAdvance p (below (take p (R.list reader.old)) self.old.rank) self.old self.new steps.old steps.new) }
         ensures cost { (q : ℕ) → StandsAt q self.old → AreBareThroughout (R.list reader.old) q p self.old.kept.needs →
             OnOk result (steps.new ≤ steps.old + advance_steps (R.list reader.old) q p self.old.kept.needs) }
         ensures little { (q : ℕ) → StandsAt q self.old → AreBareThroughout (R.list reader.old) q p self.old.kept.needs →
@@ -235,7 +242,8 @@ impl RangeState {
     ///
     /// On `OutOfMemory` it is unchanged, or nothing is kept.
     ///
-    /// Where the ranges that are read are all bare, it takes at most one step for each of them and one for each pair in it.
+    /// It takes one step for each of the ranges that are read and one for each pair in it, at least; where they are all bare, no
+    /// more. It adds no need but those of what is read, and one note for each of the slots.
     pub fn mend<R: Reader, L: Ledger>(
         &mut self,
         range: &Range,
@@ -252,9 +260,13 @@ impl RangeState {
         ensures left { OnOk result (self.new.kept.pending ≡ filter (λ slots. not (meets_output self.old.join.output range.now slots)) self.old.kept.pending) }
         ensures err { OnErr result (StandsOrIsForgotten self.old self.new) }
         ensures sound { IsSound self.new (R.list reader.new) }
+        ensures needs { (q : ℕ) → StandsAt q self.old →
+            OnOk result (AddsNeeds (needs_under_each self.old.join self.old.range (below (take q (R.list reader.old)) self.old.rank) (meeting self.old range.now)) self.old.kept.needs self.new.kept.needs) }
+        ensures notes { (q : ℕ) → StandsAt q self.old → OnOk result (self.new.notes ≡ noted self.old.notes (mend_notes q (meeting self.old range.now))) }
         ensures start { length self.old.notes.list + length (filter (meets_output self.old.join.output range.now) self.old.kept.pending) ≤ note_limit → OnOk result (self.new.notes.start ≡ self.old.notes.start) }
         ensures moves { Moves R.list R.floor R.went reader.old reader.new }
         ensures counted { steps.old ≤ steps.new }
+        ensures least { (q : ℕ) → StandsAt q self.old → OnOk result (steps.old + mend_steps self.old (below (take q (R.list reader.old)) self.old.rank) range.now ≤ steps.new) }
         ensures cost { (q : ℕ) → StandsAt q self.old → AreBareUnder self.old (R.list reader.old) q range.now →
             OnOk result (steps.new ≤ steps.old + mend_steps self.old (below (take q (R.list reader.old)) self.old.rank) range.now) }
     {
@@ -324,10 +336,10 @@ impl RangeState {
         range: &Range,
         steps: &mut Steps<L>,
     ) -> Result<Option<Vec<Key>>, OutOfMemory>
-        ensures touched { IfOk result (TouchedSince since range.now self.now) }
-        ensures same { IfOk result (λ touched. (h : History) (q : ℕ) → HasEntered h → StandsAt q self.now → IsSound self.now h → ListsAllTouched self.now h since q range.now touched) }
+        ensures touched { IfOk result (λ touched. AnswersSince since range.now self.now (as_changed touched)) }
+        ensures same { IfOk result (λ touched. (h : History) (q : ℕ) → HasEntered h → StandsAt q self.now → IsSound self.now h → ListsAllSince self.now h since q range.now (as_changed touched)) }
         ensures counted { steps.old ≤ steps.new }
-        ensures cost { IfOk result (λ touched. steps.new ≡ steps.old + 1 + touched_count touched) }
+        ensures cost { IfOk result (λ touched. steps.new ≡ steps.old + 1 + told_count (as_changed touched)) }
     {
         match self.changed_since(since, range)? {
             Changed::Keys(keys) => {

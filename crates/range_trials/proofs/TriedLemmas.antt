@@ -13,9 +13,9 @@ use Rattle.range_state.specs.Held.{forgotten}
 use Rattle.range_trials.specs.Tried.{IsTried}
 
 -- a kept range of a join of a history with nothing kept, whose rank is the join's, is tried from the last declaration or drop on
-pub tried_start : SameJoinsSince → (h read : History) (joins : Joins) (j : Join) (place rank n : ℕ) (range : Range) (s : KeptRange) → read ≡ h → HasEntered read → AreJoins 0 joins h → n ≡ length h →
+pub tried_start : SameJoinsSince → (floor : ℕ) (h read : History) (joins : Joins) (j : Join) (place rank n : ℕ) (range : Range) (s : KeptRange) → read ≡ h → HasEntered read → AreJoins floor joins h → n ≡ length h →
     option_map (λ t. t.join) (slice_get joins.standing place) ≡ Some j → rank ≡ slice_index (ranks_of joins.standing) place → rank ≤ 7 → s ≡ forgotten j rank range → IsTried read joins.changed n s
-tried_start stay h read joins j place rank n range s same entered are long is ranked small fresh =
+tried_start stay floor h read joins j place rank n range s same entered are long is ranked small fresh =
     subst (λ (v : KeptRange). IsTried read joins.changed n v) (sym fresh) (record {
       entered = entered;
       long = let e = ap length same in omega arith;

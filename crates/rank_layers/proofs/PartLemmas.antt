@@ -1,5 +1,6 @@
 -- One part of a range that is read from a cell.
-use Rattle.std.proofs.Common.{◌≡◌, ℕ, ◌+◌, ◌-◌, [], length, take, slice_get, Some, None, Result, Ok, Err, IfOk, OnOk, sym, ap, ◌∙◌, subst, arith}
+use Rattle.std.proofs.Common.{◌≡◌, ℕ, ◌+◌, ◌-◌, ◌<◌, ◌≤◌, List, [], ◌∷◌, ◌++◌, length, take, slice_get, Some, None, Result, Ok, Err, IfOk, OnOk, sym, ap, ◌∙◌, subst, arith}
+use Rattle.std.specs.Option.{IsSomeAnd}
 use Rattle.semantics.specs.Texts.{Table, Range, pairs_within}
 use Rattle.semantics.specs.Joins.{Join}
 use Rattle.semantics.specs.Histories.{History, IsPrefix, joins_of}
@@ -13,12 +14,13 @@ use Rattle.layering.proofs.PartLemmas.{part_of_range, within_is_kept}
 use Rattle.join_eval.specs.Moves.{Moves}
 use Rattle.kept_ranges.specs.Sound.{KeptRange, IsSound}
 use Rattle.range_state.specs.Held.{forgotten}
-use Rattle.range_state.specs.Ready.{HasSameSubject, IsReady}
-use Rattle.range_serving.specs.Serving.{output_within}
+use Rattle.range_state.specs.Ready.{HasSameSubject, IsReady, StandsAt}
+use Rattle.range_serving.specs.Serving.{IsPast, WasAdvanced, output_within}
 use Rattle.cell_slots.specs.declared.slot.Part.{Part}
+use Rattle.cell_slots.specs.declared.slot.Slot.{Slot}
 use Rattle.cell_slots.specs.declared.slot.Slot.TheVariants.{Lent, Held}
-use Rattle.cell_slots.specs.Slots.{Holdings, with_slot, Frame, HoldsWhole, IsReadySlot, IsDeclared, IsRightFor, StandsAs, Takes}
-use Rattle.cell_slots.specs.Spending.{KeepsJust, Took}
+use Rattle.cell_slots.specs.Slots.{Holdings, with_slot, with_lent, Frame, HoldsWhole, IsReadySlot, IsDeclared, IsRightFor, StandsAs, Takes}
+use Rattle.cell_slots.specs.Spending.{HoldsAdvanced, KeepsJust, StandsBehind, StaysReady, Took}
 use Rattle.cell_slots.proofs.DeclaredLemmas.{declared_over_longer, declared_once, rank_declared}
 use Rattle.cell_slots.proofs.FrameLemmas.{frame_weaker, frame_around, still_lent, given_back}
 use Rattle.rank_layers.proofs.MoveLemmas.{moves_as}
@@ -112,15 +114,72 @@ keeps_from h floor before lent mid after id at rank p part state s takes frame s
   alone = λ none. ap (λ (c : Holdings). c.used) set ∙ frame.unused none ∙ ap (λ (c : Holdings). c.used) takes.lent;
 }
 
+-- a kept range that stands at a position does not stand past it
+pub not_past : (p : ℕ) (s : KeptRange) → StandsAt p s → IsPast p s → ⊥
+not_past p s stands past = let less : p < p = subst (λ o. IsSomeAnd o (λ q. p < q)) stands past in omega (arith, less)
+
+-- what is so whether a call succeeds or not
+pub on_ok : {A E : Type 0} {P : Type 0} (r : Result A E) → P → OnOk r P
+on_ok (Ok a) holds = holds
+on_ok (Err e) holds = tt
+
+-- a kept range that was ready, was lent and did not change, while the reader was not called, stands in its slot again
+pub stays_ready : (before lent mid after : Holdings) (id at p : ℕ) (part place : Range) (s t : KeptRange) → lent ≡ with_lent id at place before → mid ≡ lent → slice_get mid.slots id ≡ Some (Lent at t.range) → after ≡ with_slot id (Held at t) mid →
+    t ≡ s → IsReady p part s → IsWithin part s.range → StaysReady before after id at p part s
+stays_ready before lent mid after id at p part place s t is_lent same there set own ready whole = record {
+  is = record {
+    held = given_back mid after id (Held at t) (Lent at t.range) there set ∙ ap (λ (k : KeptRange). Some (Held at k)) own;
+    ready = ready;
+    whole = whole;
+  };
+  used = ap (λ (c : Holdings). c.used) set ∙ ap (λ (c : Holdings). c.used) same ∙ ap (λ (c : Holdings). c.used) is_lent;
+}
+
+-- one that stands below a position neither
+below_not_past : (q p : ℕ) (s : KeptRange) → StandsAt q s → q < p → IsPast p s → ⊥
+below_not_past q p s stands below past = let less : p < q = subst (λ o. IsSomeAnd o (λ x. p < x)) stands past in omega (arith, less, below)
+
+-- what stands behind may be lent
+pub behind_not_past : (h : History) (slots : List Slot) (id at q p : ℕ) (part : Range) (s : KeptRange) → StandsBehind h slots id at q p part s → IsPast p s → ⊥
+behind_not_past h slots id at q p part s is = below_not_past q p s is.stands is.behind
+
+-- what was lent and served while it stood behind stands in its slot again, advanced
+pub holds_advanced : {X E : Type 0} (r : Result X E) (size : X → ℕ) (h more : History) (mid after : Holdings) (id n at q p : ℕ) (part : Range) (s lent t : KeptRange) (old new : ℕ) → more ≡ h → id ≡ n → lent ≡ s → slice_get mid.slots id ≡ Some (Lent at t.range) → after ≡ with_slot id (Held at t) mid →
+    IfOk r (λ x. WasAdvanced more q p part lent t (old + 1 + size x) new) → IfOk r (λ x. HoldsAdvanced h after.slots n at q p part s (old + 1 + size x) new)
+holds_advanced (Ok x) size h more mid after id n at q p part s lent t old new same number own there set was = record {
+  state = t;
+  held = subst (λ k. slice_get after.slots k ≡ Some (Held at t)) number (given_back mid after id (Held at t) (Lent at t.range) there set);
+  was = subst (λ (w : History × KeptRange). WasAdvanced w.0 q p part w.1 t (old + 1 + size x) new) (λ i. (same i, own i)) was;
+}
+holds_advanced (Err e) size h more mid after id n at q p part s lent t old new same number own there set was = tt
+
 -- ---- the cost
 
+-- steps that are counted from 0 on
+added_steps : (h : History) (slots : List Slot) (id at q p : ℕ) (part : Range) (s : KeptRange) (old new rows : ℕ) → HoldsAdvanced h slots id at q p part s (old + 1 + rows) new → HoldsAdvanced h slots id at q p part s (1 + rows) (new - old)
+added_steps h slots id at q p part s old new rows is = record {
+  state = is.state;
+  held = is.held;
+  was = record {
+    mid = is.was.mid;
+    little = is.was.little;
+    needs = is.was.needs;
+    start = is.was.start;
+    cost = λ bare. let up = is.was.cost bare in omega (arith, up);
+  };
+}
+
 -- a part that is read as it may be
-pub took_by : {V E : Type 0} (items : V → Table) (r : Result V E) (before after : Holdings) (at rank p : ℕ) (part : Part) (old new : ℕ) →
+pub took_by : {V E : Type 0} (items : V → Table) (r : Result V E) (h : History) (before after : Holdings) (at rank p : ℕ) (part : Part) (old new : ℕ) →
     ((id : ℕ) (s : KeptRange) → part.cell ≡ Some id → s.rank ≡ rank → IsReadySlot before.slots id at p part.range s → IfOk r (λ v. new ≡ old + 1 + length (items v))) →
+    ((id : ℕ) (s : KeptRange) → part.cell ≡ Some id → s.rank ≡ rank → IsReadySlot before.slots id at p part.range s → OnOk r (StaysReady before after id at p part.range s)) →
+    ((id q : ℕ) (s : KeptRange) → part.cell ≡ Some id → s.rank ≡ rank → StandsBehind h before.slots id at q p part.range s → IfOk r (λ v. HoldsAdvanced h after.slots id at q p part.range s (old + 1 + length (items v)) new)) →
     ((id : ℕ) (j : Join) → part.cell ≡ Some id → slice_get before.slots id ≡ Some (Held at (forgotten j rank part.range)) → OnOk r (KeepsJust before after rank at p part.range)) →
-    IfOk r (λ v. Took before after at rank p part (length (items v)) (new - old))
-took_by items (Ok v) before after at rank p part old new ready held = record {
+    IfOk r (λ v. Took h before after at rank p part (length (items v)) (new - old))
+took_by items (Ok v) h before after at rank p part old new ready stays behind held = record {
   ready = λ id s cell ranked is. let costs = ready id s cell ranked is in omega (arith, costs);
+  stays = stays;
+  behind = λ id q s cell ranked is. added_steps h after.slots id at q p part.range s old new (length (items v)) (behind id q s cell ranked is);
   held = held;
 }
-took_by items (Err e) before after at rank p part old new ready held = tt
+took_by items (Err e) h before after at rank p part old new ready stays behind held = tt

@@ -36,7 +36,7 @@ impl<R: Cells> RangeCache<R> for OwnCells {
 
     ghost covered = { λ a b at rank p range parts. Covers (R.list a) (R.holdings a) (R.holdings b) at rank p range parts };
 
-    ghost took = { λ a b at rank p part rows added. Took (R.holdings a) (R.holdings b) at rank p part rows added };
+    ghost took = { λ a b at rank p part rows added. Took (R.list a) (R.holdings a) (R.holdings b) at rank p part rows added };
 
     ghost cost_one = { λ a b at rank p range j added. OneSpends (R.list a) (R.holdings a) (R.holdings b) p range rank at j added };
 
@@ -50,7 +50,7 @@ impl<R: Cells> RangeCache<R> for OwnCells {
 
     ghost left_looked = { λ rank a b same. frame_of_same R.holdings rank a b same };
 
-    ghost cost_of_part = { λ a b c at rank p range part j n m stands rows covers took. cost_of_part (R.list a) (R.holdings a) (R.holdings b) (R.holdings c) at rank p range part j n m stands rows covers took };
+    ghost cost_of_part = { λ a b c at rank p range part j n m stands rows covers took. cost_of_part (R.list a) (R.list b) (R.holdings a) (R.holdings b) (R.holdings c) at rank p range part j n m stands rows covers took };
 
     ghost cost_of_parts = { λ a b c at rank p range parts j m stands covers several. cost_of_parts (R.list a) (R.holdings a) (R.holdings b) (R.holdings c) at rank p range parts j m stands covers several };
 

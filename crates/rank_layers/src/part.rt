@@ -8,7 +8,7 @@ ghost use Rattle.range_state.specs.Held.{forgotten};
 ghost use Rattle.range_state.specs.Since.{AnswersSince};
 ghost use Rattle.cell_slots.specs.declared.slot.Slot.TheVariants.{Held};
 ghost use Rattle.cell_slots.specs.Slots.{Frame, IsOutput, IsReadySlot, StandsAs};
-ghost use Rattle.cell_slots.specs.Spending.{KeepsJust};
+ghost use Rattle.cell_slots.specs.Spending.{HoldsAdvanced, KeepsJust, StandsBehind, StaysReady};
 ghost use Rattle.rank_layers.specs.Telling.{CanTell, HoldsBrought, TellsJoin};
 
 use crate::query::Query;
@@ -50,7 +50,8 @@ fn read_alone<R: Cells, L: Ledger>(
 /// Reads what the join gives in the part: from the cell that holds it, while it does and does not stand past the position, and
 /// otherwise from a kept range of its own.
 ///
-/// Where the cell can be read over the part at once, it takes one step and one for each pair.
+/// Where the cell can be read over the part at once, it takes one step and one for each pair, and the cell stays as it is.
+/// Where it stands behind and the ranges of its needs are bare from there on, it is advanced and mended, and not filled again.
 pub fn read_part<R: Cells, L: Ledger>(
     alloc: Global,
     query: Query,
@@ -69,6 +70,10 @@ pub fn read_part<R: Cells, L: Ledger>(
     ensures cost { IfOk result (λ pairs. steps.old + 1 + length pairs.items ≤ steps.new) }
     ensures ready { (id : ℕ) (s : KeptRange) → part.now.cell ≡ Some id → s.rank ≡ query.rank → IsReadySlot (R.holdings reader.old).slots id query.at query.p part.now.range s →
         IfOk result (λ pairs. steps.new ≡ steps.old + 1 + length pairs.items) }
+    ensures stays { (id : ℕ) (s : KeptRange) → part.now.cell ≡ Some id → s.rank ≡ query.rank → IsReadySlot (R.holdings reader.old).slots id query.at query.p part.now.range s →
+        OnOk result (StaysReady (R.holdings reader.old) (R.holdings reader.new) id query.at query.p part.now.range s) }
+    ensures behind { (id q : ℕ) (s : KeptRange) → part.now.cell ≡ Some id → s.rank ≡ query.rank → StandsBehind (R.list reader.old) (R.holdings reader.old).slots id query.at q query.p part.now.range s →
+        IfOk result (λ pairs. HoldsAdvanced (R.list reader.old) (R.holdings reader.new).slots id query.at q query.p part.now.range s (steps.old + 1 + length pairs.items) steps.new) }
     ensures held { (id : ℕ) (j : PlainJoin) → part.now.cell ≡ Some id → slice_get (R.holdings reader.old).slots id ≡ Some (Held query.at (forgotten j query.rank part.now.range)) →
         OnOk result (KeepsJust (R.holdings reader.old) (R.holdings reader.new) query.rank query.at query.p part.now.range) }
 {

@@ -1,5 +1,5 @@
 -- Cells that let go of what they hold for former joins and former ranks.
-use Rattle.std.proofs.Common.{◌≡◌, ◌⊎◌, ℕ, ◌+◌, ◌≤◌, false, List, take, slice_get, slice_set, Option, Some, None, IfSome, inl, inr, refl, sym, ap, ◌∙◌, subst}
+use Rattle.std.proofs.Common.{◌≡◌, ◌⊎◌, ℕ, ◌+◌, ◌≤◌, false, List, length, take, slice_get, slice_set, Option, Some, None, IfSome, inl, inr, refl, sym, ap, ◌∙◌, subst}
 use Rattle.std.proofs.lemmas.Bool.{cases_eq}
 use Rattle.std.proofs.lemmas.Option.{none-some, same_Some, slice_get_within}
 use Rattle.std.proofs.lemmas.List.{length-set}
@@ -12,7 +12,7 @@ use Rattle.growing_history.proofs.EnteredLemmas.{has_entered_taken}
 use Rattle.kept_ranges.specs.Sound.{KeptRange, IsSoundAt}
 use Rattle.cell_slots.specs.declared.slot.Slot.{Slot}
 use Rattle.cell_slots.specs.declared.slot.Slot.TheVariants.{Free, Lent, Held}
-use Rattle.cell_slots.specs.Slots.{Holdings, with_slot, place_of, Frame, HasFree, HoldsReady, IsRankAt, IsRightFor, MeetsNone, StandsAs}
+use Rattle.cell_slots.specs.Slots.{Holdings, with_slot, place_of, Frame, HasFree, IsReadySlot, HoldsReady, IsRankAt, IsRightFor, MeetsNone, StandsAs}
 use Rattle.cell_slots.specs.Spending.{row_count}
 use Rattle.cell_slots.proofs.DeclaredLemmas.{declared_once, has_rank, rank_declared, stands_as}
 use Rattle.cell_slots.proofs.FrameLemmas.{get-set_same, get-set_other}
@@ -111,20 +111,24 @@ ready_by h p a b id at s stands held (inr g) =
     let place = held_at_same at g.at s g.state (sym held ∙ g.held) in
     absurd (g.former (subst (λ (n : ℕ). IsRankAt h p n (Some g.state.rank)) place (subst (λ (x : KeptRange). IsRankAt h p at (Some x.rank)) same stands)))
 
--- a cell can be read over a range, where one could and its join stands: what is right where it stands has its join's rank there
-pub still_ready : (h : History) (p at rank : ℕ) (j : Join) (range : Range) (a b : Holdings) → HasEntered h → AreRight h a.slots → StandsAs h p at rank j → LetsGo h p a b → HoldsReady a.slots at p range → HoldsReady b.slots at p range
-still_ready h p at rank j range a b entered right stands goes ready =
-    let s = ready.state in
-    let is : IsRightFor h at s = right.held ready.id (Held at s) ready.is.held in
-    let sound : IsSoundAt s h p = subst (λ o. IfSome o (IsSoundAt s h)) ready.is.ready.stands is.sound in
+-- a cell can be read over a range, where it could and its join stands: what is right where it stands has its join's rank there
+still_ready_slot : (h : History) (p at rank : ℕ) (j : Join) (range : Range) (a b : Holdings) (id : ℕ) (s : KeptRange) → HasEntered h → AreRight h a.slots → StandsAs h p at rank j → LetsGo h p a b → IsReadySlot a.slots id at p range s →
+    IsReadySlot b.slots id at p range s
+still_ready_slot h p at rank j range a b id s entered right stands goes ready =
+    let is : IsRightFor h at s = right.held id (Held at s) ready.held in
+    let sound : IsSoundAt s h p = subst (λ o. IfSome o (IsSoundAt s h)) ready.ready.stands is.sound in
     let join : s.join ≡ j = declared_once h at s.join j is.declared stands.declared in
     let same : s.rank ≡ rank = one_rank (take p h) j s.rank rank (has_entered_taken p h entered) (subst (λ k. HasRank (joins_of (take p h)) k s.rank) join sound.stands) (has_rank h p at rank j stands) in
     let here : IsRankAt h p at (Some s.rank) = subst (λ (r : ℕ). IsRankAt h p at (Some r)) (sym same) (j, stands.stands) in
-    record {
-      id = ready.id;
-      state = s;
-      is = record { held = ready_by h p a.slots b.slots ready.id at s here ready.is.held (goes.each ready.id); ready = ready.is.ready; whole = ready.is.whole };
-    }
+    record { held = ready_by h p a.slots b.slots id at s here ready.held (goes.each id); ready = ready.ready; whole = ready.whole }
+
+-- so some can, where some could
+pub still_ready : (h : History) (p at rank : ℕ) (j : Join) (range : Range) (a b : Holdings) → HasEntered h → AreRight h a.slots → StandsAs h p at rank j → LetsGo h p a b → HoldsReady a.slots at p range → HoldsReady b.slots at p range
+still_ready h p at rank j range a b entered right stands goes ready = record {
+  id = ready.id;
+  state = ready.state;
+  is = still_ready_slot h p at rank j range a b ready.id ready.state entered right stands goes ready.is;
+}
 
 -- ---- a piece
 
@@ -137,6 +141,10 @@ piece_over h before gone after p range added entered right goes spends = record 
   used = λ place s reach not_empty ready.
       let stands = stands_as h p _ s (record { place = place; stands = reach.one.stands; ranked = refl }) in
       spends.used place s reach not_empty (still_ready h p s.position _ s.join range before gone entered right stands goes ready);
+  stays = λ place s reach not_empty id held is_ready few.
+      let stands = stands_as h p _ s (record { place = place; stands = reach.one.stands; ranked = refl }) in
+      spends.stays place s reach not_empty id held (still_ready_slot h p s.position _ s.join range before gone id held entered right stands goes is_ready)
+      (subst (λ (n : ℕ). length held.kept.rows + 1 ≤ n) (sym (ap (λ x. x.room) goes.same_setting)) few);
 }
 
 unlent_by : (a b : List Slot) (id at : ℕ) (range : Range) → (slice_get b id ≡ slice_get a id) ⊎ IsEvicted a b id → slice_get b id ≡ Some (Lent at range) → slice_get a id ≡ Some (Lent at range)

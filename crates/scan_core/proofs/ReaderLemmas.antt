@@ -1,5 +1,5 @@
 -- What the reader of all ranks leaves of what cells hold, where one is taken out, worked on and put back.
-use Rattle.std.proofs.Common.{◌≡◌, ◌⊎◌, ℕ, ◌≤◌, [], true, false, take, slice_get, List, Option, Some, None, IfSome, is_some, Result, Ok, Err, OnOk, inl, inr, sym, ap, ◌∙◌, subst, arith}
+use Rattle.std.proofs.Common.{◌≡◌, ◌⊎◌, ℕ, ◌<◌, ◌≤◌, [], true, false, take, slice_get, List, Option, Some, None, IfSome, is_some, Result, Ok, Err, OnOk, inl, inr, sym, ap, ◌∙◌, subst, arith}
 use Rattle.std.proofs.lemmas.Bool.{cases_eq, false≢true}
 use Rattle.std.proofs.lemmas.Option.{slice_get_within}
 use Rattle.semantics.specs.Texts.{is_range, Range}
@@ -11,18 +11,21 @@ use Rattle.semantics.proofs.AdmissibleSets.{entered_is_admissible_lem}
 use Rattle.growing_history.specs.Entered.{HasEntered, HasRank}
 use Rattle.growing_history.proofs.EnteredLemmas.{has_entered_taken}
 use Rattle.kept_ranges.specs.Sound.{KeptRange, IsSound, IsSoundAt}
-use Rattle.range_state.specs.Ready.{pending_meets}
+use Rattle.range_state.specs.Ready.{StandsAt, pending_meets}
+use Rattle.source_changes.specs.Asking.{AreBareThroughout}
+use Rattle.range_state.specs.Work.{TouchesLittle}
 use Rattle.cell_slots.specs.declared.slot.Slot.{Slot}
 use Rattle.cell_slots.specs.declared.slot.Slot.TheVariants.{Lent, Held}
-use Rattle.cell_slots.specs.Slots.{Holdings, with_slot, Frame, HasFree, MeetsNone, HoldsReady, IsDeclared, IsRightFor}
+use Rattle.cell_slots.specs.Slots.{Holdings, with_slot, Frame, HasFree, MeetsNone, IsReadySlot, HoldsReady, IsDeclared, IsRightFor}
 use Rattle.cell_slots.specs.Spending.{Spends}
 use Rattle.cell_slots.proofs.DeclaredLemmas.{declared_over_longer}
 use Rattle.cell_slots.proofs.FrameLemmas.{get-set_same, get-set_other}
 use Rattle.scan_core.specs.Bringing.{HasSamePlace}
 use Rattle.scan_core.specs.Cells.{HoldsAt, IsTaken, IsTakenOut, KeepsLast}
 use Rattle.scan_core.specs.Rights.{AreRight, Contents}
-use Rattle.scan_core.specs.Worlds.{NoneLent, IsMendedIn, PieceSpends}
-use Rattle.scan_core.proofs.SpendLemmas.{index_stands, rank_within, kept_after, used_after}
+use Rattle.scan_core.specs.Worlds.{NoneLent, IsBroughtIn, IsMendedIn, PieceSpends}
+use Rattle.scan_core.proofs.RightLemmas.{one_rank}
+use Rattle.scan_core.proofs.SpendLemmas.{index_stands, rank_within, kept_after, used_after, stays_after}
 
 -- what was found is what was taken out
 pub taken_out : (h : History) (id : ℕ) (before after : Holdings) (found : Option (ℕ × KeptRange)) (at : ℕ) (s : KeptRange) → found ≡ Some (at, s) → IsTaken h id before after found → IsTakenOut h id before after at s
@@ -86,6 +89,23 @@ none_lent_back before taken mid after id at s t lent frame there put none other 
         let in_taken = frame.lent other from range in_mid in
         none other from range (sym (ap (λ (c : Holdings). slice_get c.slots other) lent ∙ get-set_other before.slots id other (Lent at s.range) apart) ∙ in_taken)
 
+-- where a kept range is brought forward, its cell is
+pub brought_from : {X E : Type 0} (r : Result X E) (h more : History) (before after : List Slot) (id at to rank : ℕ) (s t : KeptRange) → HasEntered more → more ≡ h → HoldsAt before id at s → HoldsAt after id at t → t.range ≡ s.range →
+    HasRank (joins_of (take to more)) s.join rank → OnOk r (StandsAt to t) →
+    ((q : ℕ) → s.rank ≡ rank → StandsAt q s → q < to → AreBareThroughout more q to s.kept.needs → OnOk r (TouchesLittle more q to s t)) → OnOk r (IsBroughtIn h before after id to)
+brought_from (Ok x) h more before after id at to rank s t entered same was held range has stands little =
+    subst (λ (l : History). IsBroughtIn l before after id to) same (record {
+      at = at;
+      was = s;
+      kept = t;
+      held_before = was;
+      held = held;
+      stands = stands;
+      range = range;
+      little = λ q ranked there less bare. little q (one_rank (take to more) s.join s.rank rank (has_entered_taken to more entered) ranked has) there less bare;
+    })
+brought_from (Err e) h more before after id at to rank s t entered same was held range has stands little = tt
+
 -- where mending succeeds, the cell is mended
 pub mended_from : {X E : Type 0} (r : Result X E) (before after : List Slot) (id at : ℕ) (part : Range) (s t : KeptRange) → HoldsAt before id at s → HoldsAt after id at t → t.range ≡ s.range →
     OnOk r (t.position ≡ s.position) → OnOk r (pending_meets t part ≡ false) → OnOk r (IsMendedIn before after id part)
@@ -116,4 +136,7 @@ piece_from h read before cleared mid after p range added same slots unused setti
           stands (subst HasFree (sym slots) free) (subst (λ xs. MeetsNone xs s.position range) (sym slots) apart) few;
       used = λ place s reach not_empty ready.
           used_after h p range place s cleared mid.cells added entered_h is spends_h reach not_empty (subst (λ xs. HoldsReady xs s.position p range) (sym slots) ready);
+      stays = λ place s reach not_empty id held is_ready few.
+          stays_after h p range place s cleared mid after.slots before.setting.room added entered_h unused (ap (λ x. x.room) (setting_mid ∙ setting)) spends_h keeps reach not_empty
+          id held (subst (λ xs. IsReadySlot xs id s.position p range held) (sym slots) is_ready) few;
     }

@@ -16,11 +16,11 @@ use Rattle.growing_history.proofs.EnteredLemmas.{has_entered_taken}
 use Rattle.layering.proofs.AloneLemmas.{one_reached_in_rank, none_reached_in_others}
 use Rattle.layering.proofs.LayerLemmas.{one_reached_length}
 use Rattle.kept_ranges.specs.Kept.{Kept, IsRight, IsRowKey, is_covered}
-use Rattle.kept_ranges.specs.Sound.{IsSoundAt}
+use Rattle.kept_ranges.specs.Sound.{KeptRange, IsSoundAt}
 use Rattle.kept_ranges.proofs.ReadLemmas.{rows_are_output}
 use Rattle.cell_slots.specs.declared.slot.Slot.{Slot}
 use Rattle.cell_slots.specs.declared.slot.Slot.TheVariants.{Held}
-use Rattle.cell_slots.specs.Slots.{Holdings, IsDeclared, StandsAs, HasFree, MeetsNone, HoldsReady, HoldsJust, IsRightFor}
+use Rattle.cell_slots.specs.Slots.{Holdings, IsDeclared, StandsAs, HasFree, MeetsNone, IsReadySlot, HoldsReady, HoldsJust, IsRightFor}
 use Rattle.cell_slots.specs.Spending.{base_count, row_count, ReachesOnly, Spends}
 use Rattle.cell_slots.proofs.DeclaredLemmas.{declared_once, has_rank}
 use Rattle.scan_core.specs.Rights.{AreRight, Contents}
@@ -117,3 +117,16 @@ used_after h p range place s before after added entered is spends reach not_empt
     let cost = spends.used rank s (reaches_only h p range place s entered reach) not_empty ready in
     let whole = one_reached_length (take p h) range place s (has_entered_taken p h entered) is reach.one in
     omega (arith, cost, whole)
+
+-- a cell that could be read over the range holds the same afterwards, where that fits the limit by itself
+pub stays_after : (h : History) (p : ℕ) (range : Range) (place : ℕ) (s : DeclaredJoin) (before : Holdings) (mid : Contents) (after : List Slot) (limit added : ℕ) → HasEntered h → before.used ≡ [] → mid.cells.setting.room ≡ limit →
+    Spends h before mid.cells p range 8 added → KeepsLast mid after → ReachesPush (joins_of (take p h)) range place s → is_open range ≡ true →
+    (id : ℕ) (held : KeptRange) → IsReadySlot before.slots id s.position p range held → length held.kept.rows + 1 ≤ limit → IsReadySlot after id s.position p range held
+stays_after h p range place s before mid after limit added entered unused same_limit spends keeps reach not_empty id held is few =
+    let stays = spends.stays (slice_index (ranks_of (joins_of (take p h))) place) s (reaches_only h p range place s entered reach) not_empty id held is in
+    let used : mid.cells.used ≡ id ∷ [] = stays.used ∙ ap (λ used. used ++ id ∷ []) unused in
+    record {
+      held = keeps id s.position held used stays.is.held (omega (arith, few, same_limit));
+      ready = stays.is.ready;
+      whole = stays.is.whole;
+    }

@@ -1,11 +1,13 @@
 // What is done to one cell's kept range.
-ghost use Rattle.std.specs.Prelude.{◌≡◌, ◌≤◌, length, take, false, IsSome, OnOk};
+ghost use Rattle.std.specs.Prelude.{◌≡◌, ℕ, ◌+◌, ◌<◌, ◌≤◌, length, take, false, IsSome, OnOk};
 ghost use Rattle.semantics.specs.Histories.{joins_of};
 ghost use Rattle.growing_history.specs.Entered.{HasEntered, HasRank};
 ghost use Rattle.join_eval.specs.Moves.{Moves};
 ghost use Rattle.kept_ranges.specs.Sound.{IsSound};
 ghost use Rattle.range_serving.specs.Serving.{IsPast};
 ghost use Rattle.range_state.specs.Ready.{StandsAt, pending_meets};
+ghost use Rattle.source_changes.specs.Asking.{AreBareThroughout};
+ghost use Rattle.range_state.specs.Work.{advance_steps, TouchesLittle};
 ghost use Rattle.scan_core.specs.Bringing.{HasSamePlace};
 
 use join_eval::Reader;
@@ -18,7 +20,8 @@ use std::sync::ledger::Ledger;
 use steps::Steps;
 
 /// Brings a kept range that does not stand past a position to it: it is filled where it stands nowhere, or where its join
-/// has another rank there, and advanced where it stands below.
+/// has another rank there, and advanced where it stands below. Where it has that rank and stands below, and the ranges of its needs
+/// are bare from there on, what no changed key touches is left, and it takes no more steps than an advance.
 ///
 /// On `OutOfMemory` it stands where it stood, or nowhere, and is right for the reader's list.
 pub fn bring<R: Reader, L: Ledger>(
@@ -38,9 +41,13 @@ pub fn bring<R: Reader, L: Ledger>(
     requires sound { IsSound state.old (R.list reader.old) }
     ensures same { HasSamePlace state.old state.new }
     ensures at { OnOk result (StandsAt to state.new) }
+    ensures little { (q : ℕ) → state.old.rank ≡ rank → StandsAt q state.old → q < to → AreBareThroughout (R.list reader.old) q to state.old.kept.needs →
+        OnOk result (TouchesLittle (R.list reader.old) q to state.old state.new) }
     ensures sound { IsSound state.new (R.list reader.new) }
     ensures moves { Moves R.list R.floor R.went reader.old reader.new }
     ensures counted { steps.old ≤ steps.new }
+    ensures cost { (q : ℕ) → state.old.rank ≡ rank → StandsAt q state.old → q < to → AreBareThroughout (R.list reader.old) q to state.old.kept.needs →
+        OnOk result (steps.new ≤ steps.old + advance_steps (R.list reader.old) q to state.old.kept.needs) }
 {
     if state.rank() != rank {
         *state = renew(alloc, state, rank)?;

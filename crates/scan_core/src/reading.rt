@@ -88,7 +88,7 @@ pub fn advance_cell<L: Ledger>(
     requires before { (at : ℕ) (s : KeptRange) → HoldsAt reader.old.cells.slots id at s → IsPast to s → ⊥ }
     requires stands { (at : ℕ) (s : KeptRange) → HoldsAt reader.old.cells.slots id at s → HasRank (joins_of (take to reader.old.history)) s.join rank }
     requires small { rank ≤ 8 }
-    ensures brought { OnOk result (IsBroughtIn reader.old.cells.slots reader.new.cells.slots id to) }
+    ensures brought { OnOk result (IsBroughtIn reader.old.history reader.old.cells.slots reader.new.cells.slots id to) }
     ensures counted { steps.old ≤ steps.new }
     ensures history { reader.new.history ≡ reader.old.history }
     ensures unlent { NoneLent reader.old.cells.slots → NoneLent reader.new.cells.slots }

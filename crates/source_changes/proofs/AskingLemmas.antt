@@ -12,6 +12,7 @@ use Rattle.growing_history.specs.ChangeLaws.{IsWrittenBetween}
 use Rattle.growing_history.proofs.ElementLemmas.{all_from_has, has_of_all}
 use Rattle.growing_history.proofs.EnteredLemmas.{all_more}
 use Rattle.growing_history.proofs.ChangeLemmas.{changed_keys_ascend, changed_keys_are_written}
+use Rattle.growing_history.proofs.SortedLemmas.{same_sorted}
 use Rattle.key_space.specs.declared.key.Key.{Key}
 use Rattle.range_evaluation.specs.Trees.{Need}
 use Rattle.kept_ranges.specs.SoundLaws.{AreReportedBetween}
@@ -20,7 +21,6 @@ use Rattle.join_eval.specs.declared.reading.Changed.TheVariants.{Keys, All}
 use Rattle.join_eval.specs.Answers.{ListsChanges, AnswersChanges, ListsExactly}
 use Rattle.source_changes.specs.Asking.{LieInRanges, AreBareThroughout, AreListed, ListsWritten, changed_count, asking_steps}
 use Rattle.source_changes.proofs.LongerLemmas.{same_before, changed_longer, bare_longer}
-use Rattle.source_changes.proofs.OrderLemmas.{same_sorted}
 
 -- ---- one answer after another
 

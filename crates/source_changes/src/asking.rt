@@ -56,6 +56,7 @@ fn gather_answers<R: Reader, L: Ledger>(
     ensures bare_cost { AreBareThroughout (R.list reader.old) q p needs.now → IfOk result (λ _. steps.new ≡ steps.old + asking_steps q p (R.list reader.old) needs.now) }
     ensures moves { Moves R.list R.floor R.went reader.old reader.new }
     ensures counted { steps.old ≤ steps.new }
+    ensures least { IfOk result (λ found. IfSome found (λ _. steps.old + length needs.now ≤ steps.new)) }
 {
     let mut answers = Vec::new(alloc);
     for need in needs {
@@ -73,8 +74,8 @@ fn gather_answers<R: Reader, L: Ledger>(
 /// rank. At a key of a need's range that is not among the keys the same stands at all positions from q to p. Where the ranges
 /// of all needs are bare from q to p, the keys are those in them that the entries between put or remove.
 ///
-/// It asks once for each need, and sorts what is answered. The steps are those of the reader: where the ranges are bare,
-/// one for each need and one for each changed key of its range.
+/// It asks once for each need, and sorts what is answered. The steps are those of the reader: where keys are handed out, one for
+/// each need at least; where the ranges are bare, one for each need and one for each changed key of its range.
 ///
 /// On `OutOfMemory` the reader may have gone on and steps may have been taken.
 pub fn ask_needs<R: Reader, L: Ledger>(
@@ -99,6 +100,7 @@ pub fn ask_needs<R: Reader, L: Ledger>(
     ensures ranges { HaveRanges needs.now }
     ensures moves { Moves R.list R.floor R.went reader.old reader.new }
     ensures counted { steps.old ≤ steps.new }
+    ensures least { IfOk result (λ found. IfSome found (λ _. steps.old + length needs.now ≤ steps.new)) }
 {
     look_at_ranges(needs);
     let Some(answers) = gather_answers(alloc, needs, rank, q, p, reader, steps)? else {

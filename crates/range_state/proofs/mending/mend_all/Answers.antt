@@ -1,15 +1,20 @@
-use Rattle.std.proofs.Common.{◌≡◌, ℕ, ◌+◌, ◌≤◌, List, [], ◌∷◌, ◌++◌, length, sym, ap, ◌∙◌, subst, arith}
+use Rattle.std.proofs.Common.{◌≡◌, ℕ, ◌+◌, ◌≤◌, List, [], ◌∷◌, ◌++◌, length, take, sym, ap, ◌∙◌, subst, arith}
 use Rattle.std.specs.List.{AllByRecursion}
 use Rattle.std.proofs.lemmas.List.Sums.{sum_by-cons}
 use Rattle.semantics.specs.Patterns.{Slots}
+use Rattle.semantics.specs.Histories.{History}
+use Rattle.semantics.specs.States.{below}
+use Rattle.growing_history.proofs.PrefixLemmas.{take_prefix}
 use Rattle.range_evaluation.specs.TreeLaws.{AreOutputSlots}
+use Rattle.join_rows.specs.Kept.{KeptRows}
 use Rattle.join_eval.proofs.MovesLemmas.{moves_trans}
 use Rattle.kept_ranges.specs.Notes.{Note, Notes, note_limit, noted}
 use Rattle.kept_ranges.specs.Sound.{KeptRange, IsSoundAt}
 use Rattle.range_state.specs.Held.{HasPlaces, range_kept}
 use Rattle.range_state.specs.Mended.{AreAllBare, steps_for, steps_under, with_pending}
-use Rattle.range_state.proofs.MendLemmas.{pending_copies, mend_step, slots_note, noted_all, noted_room, bare_longer, steps_longer}
-use Rattle.range_state.proofs.NotingLemmas.{noted_few}
+use Rattle.range_state.specs.Work.{AddsNeeds, mend_notes, needs_under_each}
+use Rattle.range_state.proofs.MendLemmas.{pending_copies, mend_step, slots_note, noted_all, noted_room, bare_longer, steps_longer, needs_next, needs_end, steps_end, notes_end}
+use Rattle.range_state.proofs.NotingLemmas.{noted_few, noted_next}
 use Rattle.range_state.proofs.mending.mend_all.Goals as goal
 
 pub mend_slots-requires-clause-copies : goal.mend_slots-requires-clause-copies
@@ -59,6 +64,14 @@ loop-slots-preserved g c =
       entered = moved.entered before.entered;
       moves = moves_trans g.R.Reader.list g.R.Reader.floor g.R.Reader.went c.args.reader.now c.loop-slots.reader c.mend_slots.new.reader (g.met.R.Reader.went_trans c.args.reader.now c.loop-slots.reader c.mend_slots.new.reader) before.moves moved;
       counted = let one = c.in_ok-mend_slots.ensures.counted in let so_far = before.counted in omega arith;
+      needs = needs_next s.join s.range (below (take q h) s.rank) (below (take q here) s.rank) given c.args.taken.items all rest c.args.held.now.rows.needs held.rows.needs c.mend_slots.new.rows.needs
+          (ap (λ (es : History). below es s.rank) (take_prefix q h here c.requires.sound.place before.moves.kept)) first c.in_ok-mend_slots.ensures.needs before.needs;
+      notes = noted_next held.notes c.add.new.self note (mend_notes q rest) added ∙ ap (λ (ss : List Slots). noted held.notes (mend_notes q ss)) (sym first) ∙ before.notes;
+      least =
+          let one = c.in_ok-mend_slots.ensures.least in
+          let same : steps_for s here q given ≡ steps_for s h q given = steps_longer s h here q given before.moves.kept c.requires.sound.place in
+          let total : steps_under s h q all ≡ steps_for s h q given + steps_under s h q rest = ap (steps_under s h q) first ∙ sum_by-cons (steps_for s h q) given rest in
+          omega (arith, before.least, one, same, total);
       start = λ room.
           let b = before.start room in
           let long : length all ≡ length rest + 1 = ap length first ∙ omega arith in
@@ -72,3 +85,22 @@ loop-slots-preserved g c =
           let total : steps_under s h q all ≡ steps_for s h q given + steps_under s h q rest = ap (steps_under s h q) first ∙ sum_by-cons (steps_for s h q) given rest in
           (bares.1, omega (arith, b.1, one, same, total));
     }
+
+pub returns-clause-needs : goal.returns-clause-needs
+returns-clause-needs g c =
+    let s = c.args.subject.now in
+    let table = below (take c.args.held.now.position (g.R.Reader.list c.args.reader.now)) s.rank in
+    let none : length c.loop-slots.slots-iterator.rest.items ≡ 0 = sym c.loop-slots.slots-iterator.rest.ok.0 ∙ c.in-None.ensures.steps.0 in
+    subst (λ (r : KeptRows). AddsNeeds (needs_under_each s.join s.range table c.args.taken.items) c.args.held.now.rows.needs r.needs) (sym c.forget_order.ensures)
+    (needs_end s.join s.range table c.args.taken.items c.loop-slots.slots-iterator.rest.items c.args.held.now.rows.needs c.loop-slots.held.rows.needs none c.loop-slots.invariant.needs)
+
+pub returns-clause-notes : goal.returns-clause-notes
+returns-clause-notes g c =
+    let none : length c.loop-slots.slots-iterator.rest.items ≡ 0 = sym c.loop-slots.slots-iterator.rest.ok.0 ∙ c.in-None.ensures.steps.0 in
+    notes_end c.loop-slots.held.notes c.args.held.now.notes c.args.held.now.position c.loop-slots.slots-iterator.rest.items c.args.taken.items none c.loop-slots.invariant.few c.loop-slots.invariant.notes
+
+pub returns-clause-least : goal.returns-clause-least
+returns-clause-least g c =
+    let none : length c.loop-slots.slots-iterator.rest.items ≡ 0 = sym c.loop-slots.slots-iterator.rest.ok.0 ∙ c.in-None.ensures.steps.0 in
+    let left = steps_end c.args.subject.now (g.R.Reader.list c.args.reader.now) c.args.held.now.position c.loop-slots.slots-iterator.rest.items none in
+    omega (arith, c.loop-slots.invariant.least, left)

@@ -1,4 +1,4 @@
-use Rattle.std.proofs.Common.{◌≡◌, ℕ, List, [], Some, take, true, Option, MatchOption, IfSome, refl, sym, ap, ◌∙◌, subst, arith}
+use Rattle.std.proofs.Common.{◌≡◌, ℕ, List, [], Some, take, true, Option, MatchOption, refl, sym, ap, ◌∙◌, subst, arith}
 use Rattle.std.specs.List.{AllByRecursion}
 use Rattle.std.proofs.lemmas.List.{take_all}
 use Rattle.semantics.specs.Texts.{is_range, Range, pairs_within}
@@ -14,19 +14,13 @@ use Rattle.growing_history.proofs.ElementLemmas.{all_from_has, has_of_all}
 use Rattle.growing_history.proofs.EnteredLemmas.{rank_of_place, has_entered_taken, keeps_rules}
 use Rattle.growing_history.proofs.KeyLemmas.{has_keys_below}
 use Rattle.range_evaluation.specs.Trees.{Need, tree}
-use Rattle.range_evaluation.specs.TreeLaws.{AreOutputSlots, SharedAreOutputSlots}
 use Rattle.join_set.specs.Sets.{Joins}
 use Rattle.kept_ranges.specs.Kept.{Kept, CameBy}
 use Rattle.kept_ranges.proofs.FillLemmas.{filled_is_right}
 use Rattle.source_changes.specs.Filling.{CanFill}
 use Rattle.source_changes.specs.Laws.{NeedCanFill}
+use Rattle.list_reader.proofs.RangeSlotLemmas.{slots_of_range}
 use Rattle.range_trials.proofs.advances.fill_first.Goals as goal
-
--- the slots of a range are slots of the output
-slots_of_range : (j inside : Join) (range : Range) (slots : Slots) (o : Option Slots) → SharedAreOutputSlots → inside ≡ j → is_join inside ≡ true → o ≡ range_slots inside.output range → o ≡ Some slots → AreOutputSlots j slots
-slots_of_range j inside range slots o shared view ok binds is =
-    subst (λ (found : Option Slots). IfSome found (AreOutputSlots j)) (ap (λ (join : Join). range_slots join.output range) (sym view) ∙ sym binds ∙ is)
-    (shared j range (ap is_join (sym view) ∙ ok))
 
 pub evaluate-requires-clause-own_slots : goal.evaluate-requires-clause-own_slots
 evaluate-requires-clause-own_slots g c =

@@ -1,8 +1,7 @@
 use Rattle.std.proofs.Common.{take, sym, subst}
-use Rattle.std.proofs.lemmas.Result.{on_ok_weaker}
 use Rattle.semantics.specs.Histories.{IsPrefix, joins_of}
 use Rattle.growing_history.specs.Entered.{HasRank}
-use Rattle.scan_core.proofs.ReaderLemmas.{taken_out, still_there, right_same, held_back, none_lent_back}
+use Rattle.scan_core.proofs.ReaderLemmas.{taken_out, still_there, right_same, held_back, none_lent_back, brought_from}
 use Rattle.scan_core.proofs.reading.advance_cell.Goals as goal
 
 pub bring-brought-requires-clause-before : goal.bring-brought-requires-clause-before
@@ -30,15 +29,10 @@ pub returns-clause-brought : goal.returns-clause-brought
 returns-clause-brought g c =
     let t = taken_out c.args.reader.now.history c.args.id c.args.reader.now.cells c.take.new.self.cells c.in_ok-at.field-0 c.in-Some.at c.in-Some.state c.in-Some.is c.in_ok-at.ensures.taken in
     let there = still_there c.args.reader.now.cells c.take.new.self.cells c.bring-brought.new.reader.cells c.args.id c.in-Some.at c.in-Some.state c.bring-brought.new.state.range t.held t.lent c.bring-brought.ensures.moves.on c.bring-brought.ensures.same.range in
-    on_ok_weaker c.bring-brought.result (λ stands. record {
-      at = c.in-Some.at;
-      was = c.in-Some.state;
-      kept = c.bring-brought.new.state;
-      held_before = t.held;
-      held = held_back c.bring-brought.new.reader.cells c.give_back.new.self.cells c.args.id c.in-Some.at c.bring-brought.new.state there c.give_back.ensures.held;
-      stands = stands;
-      range = c.bring-brought.ensures.same.range;
-    }) c.bring-brought.ensures.at
+    brought_from c.bring-brought.result c.args.reader.now.history c.take.new.self.history c.args.reader.now.cells.slots c.give_back.new.self.cells.slots c.args.id c.in-Some.at c.args.to c.args.rank c.in-Some.state c.bring-brought.new.state
+    c.look.ensures.entered c.take.ensures.history t.held (held_back c.bring-brought.new.reader.cells c.give_back.new.self.cells c.args.id c.in-Some.at c.bring-brought.new.state there c.give_back.ensures.held) c.bring-brought.ensures.same.range
+    (subst (λ h. HasRank (joins_of (take c.args.to h)) c.in-Some.state.join c.args.rank) (sym c.take.ensures.history) (c.requires.stands c.in-Some.at c.in-Some.state t.held))
+    c.bring-brought.ensures.at c.bring-brought.ensures.little
 
 pub returns-clause-unlent : goal.returns-clause-unlent
 returns-clause-unlent g c =

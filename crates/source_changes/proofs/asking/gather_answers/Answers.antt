@@ -1,8 +1,8 @@
-use Rattle.std.proofs.Common.{◌≡◌, ◌+◌, ◌++◌, take, sym, ap, ◌∙◌, subst, arith}
+use Rattle.std.proofs.Common.{◌≡◌, ◌+◌, ◌≤◌, ◌++◌, take, sym, ap, ◌∙◌, subst, arith}
 use Rattle.growing_history.specs.Changes.{changed_keys}
 use Rattle.range_evaluation.specs.Trees.{Need}
 use Rattle.kept_ranges.specs.SoundLaws.{AreReportedBetween}
-use Rattle.join_eval.specs.Answers.{AnswersChanges, MayNotBeKnown}
+use Rattle.join_eval.specs.Answers.{AnswersChanges, CostsOne, MayNotBeKnown}
 use Rattle.join_eval.proofs.MovesLemmas.{moves_trans}
 use Rattle.source_changes.specs.Asking.{LieInRanges}
 use Rattle.source_changes.proofs.LongerLemmas.{unknown_before}
@@ -77,4 +77,8 @@ loop-need-preserved g c =
             on = c.in_ok-keys.ensures.on;
           });
       counted = let one = c.in_ok-keys.ensures.counted in let so_far = before.counted in omega arith;
+      least =
+          let one : c.loop-need.steps + 1 ≤ c.changed.new.steps = subst (CostsOne c.loop-need.steps c.changed.new.steps) c.in-Keys.is c.in_ok-keys.ensures.cost in
+          let so_far = before.least in
+          omega arith;
     }

@@ -13,4 +13,5 @@ invariant-loop-need g l = record {
   bare_cost : AreBareThroughout (g.R.Reader.list l.fn.reader) l.q l.p l.needs → l.steps ≡ l.fn.steps + asking_steps l.q l.p (g.R.Reader.list l.fn.reader) (take l.need-index l.needs);
   moves : Moves g.R.Reader.list g.R.Reader.floor g.R.Reader.went l.fn.reader l.reader;
   counted : l.fn.steps ≤ l.steps;
+  least : l.fn.steps + l.need-index ≤ l.steps;
 }

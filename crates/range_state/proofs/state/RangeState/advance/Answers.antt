@@ -1,8 +1,9 @@
-use Rattle.std.proofs.Common.{◌≡◌, ◌+◌, ◌≤◌, List, length, take, Option, Some, IfSome, Vec, Global, sym, ap, ◌∙◌, subst}
+use Rattle.std.proofs.Common.{◌≡◌, ◌+◌, ◌≤◌, List, length, take, Option, Some, IfSome, Vec, Global, sym, ap, ◌∙◌, subst, arith}
 use Rattle.std.specs.Option.{IsSomeAnd}
 use Rattle.std.proofs.lemmas.Option.{same_Some}
 use Rattle.semantics.specs.Texts.{Text}
 use Rattle.semantics.specs.Histories.{History, joins_of}
+use Rattle.semantics.specs.States.{below}
 use Rattle.growing_history.specs.Entered.{HasRank}
 use Rattle.growing_history.proofs.PrefixLemmas.{prefix_trans, take_prefix}
 use Rattle.key_space.specs.declared.key.Key.{Key}
@@ -11,11 +12,12 @@ use Rattle.join_eval.proofs.MovesLemmas.{moves_trans}
 use Rattle.kept_ranges.specs.Sound.{KeptRange, IsSoundAt, IsSound}
 use Rattle.kept_ranges.specs.SoundLaws.{AreReportedBetween}
 use Rattle.kept_ranges.proofs.SoundLemmas.{sound_over_longer}
-use Rattle.source_changes.specs.Asking.{AreListed}
+use Rattle.source_changes.specs.Asking.{AreBareThroughout, AreListed}
 use Rattle.range_state.specs.Held.{view_of, range_kept, FitsJoin}
-use Rattle.range_state.specs.Work.{AreBareThroughout, advance_steps, TouchesLittle}
+use Rattle.range_state.specs.Work.{advance_steps, TouchesLittle}
 use Rattle.range_state.specs.declared.holding.Holding.{Holding}
-use Rattle.range_state.proofs.CostLemmas.{bare_held, cost_held}
+use Rattle.range_state.proofs.CostLemmas.{same_place, bare_held, cost_held}
+use Rattle.range_state.proofs.CountedLemmas.{counts_filled, counts_asked}
 use Rattle.range_state.proofs.LittleLemmas.{little_held, little_same}
 use Rattle.range_state.proofs.SoundLemmas.{subject_stands}
 use Rattle.range_state.proofs.GoneOnLemmas.{held_sound, reported_held, made_sound, reached_sound, refilled_sound, unchecked_pending}
@@ -149,4 +151,30 @@ returns-clause-little g c =
           (c.in_ok-asked.ensures.bare (bare_held s c.in-Some.held c.args.self.now h q c.args.p needs view stands c.needs-needs.ensures bare)) in
           little_held c.few_touches.ensures c.few_applications.ensures s c.in-Some.held c.in-Some-replace.held w.in_ok-advanced-in-Some-asked.advanced c.match-asked.advanced c.args.self.now h q c.args.p needs w.in-Some-asked.reported.items w.as_slice.result.now
           view same stands c.needs-needs.ensures w.as_slice.ensures.value listed w.in_ok-advanced-in-Some-asked.ensures.advanced w.advanced-is
+    ]
+
+pub returns-then-held-p-clause-least : goal.returns-then-held-p-clause-least
+returns-then-held-p-clause-least g c = λ q stands less.
+    let s = c.self.inside.subject in
+    let view : range_kept s c.in-Some.held ≡ c.args.self.now = sym (ap (view_of s) c.in-Some.is) ∙ c.self.view_is in
+    let place = same_place s c.in-Some.held c.args.self.now q view stands in
+    absurd (omega (arith, place, less, c.if-held-p.true))
+
+pub returns-clause-least : goal.returns-clause-least
+returns-clause-least g c =
+    let s = c.self.inside.subject in
+    let h = g.R.Reader.list c.args.reader.now in
+    let here = g.R.Reader.list c.ask_needs.new.reader in
+    let needs = c.needs-needs.result.now in
+    let old = c.args.steps.now in
+    let mid = c.ask_needs.new.steps in
+    let v = c.args.self.now in
+    let view : range_kept s c.in-Some.held ≡ v = sym (ap (view_of s) c.in-Some.is) ∙ c.self.view_is in
+    elim c.match-asked.branch [
+      | in-None+in_ok-advanced-in-None w ↦ λ q stands less.
+          counts_filled s c.self.inside.held _ c.match-asked.advanced v h here c.args.p old mid w.fill_at.new.steps _ c.self.view_is w.advanced-is w.steps-is c.ask_needs.ensures.moves.kept c.requires.within
+          w.in_ok-advanced-in-None.ensures.filled c.in_ok-asked.ensures.counted w.in_ok-advanced-in-None.ensures.least
+      | in-Some-asked+in_ok-advanced-in-Some-asked w ↦ λ q stands less.
+          let asked : old + length needs ≤ mid = subst (λ (o : Option (Vec Key Global)). IfSome o (λ keys. old + length needs ≤ mid)) w.in-Some-asked.is c.in_ok-asked.ensures.least in
+          counts_asked s c.in-Some.held v (range_kept s c.match-asked.advanced) (below (take c.args.p h) v.rank) c.args.p needs old mid w.advance_held.new.steps _ view c.needs-needs.ensures w.steps-is asked w.in_ok-advanced-in-Some-asked.ensures.counted
     ]

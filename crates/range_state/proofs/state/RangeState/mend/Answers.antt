@@ -3,11 +3,12 @@ use Rattle.std.specs.List.{list_any}
 use Rattle.semantics.specs.Patterns.{Pattern, Slots}
 use Rattle.semantics.specs.States.{below}
 use Rattle.lazy_log.specs.Pending.{PendingSlots, meets_output}
+use Rattle.kept_ranges.specs.Notes.{noted}
 use Rattle.kept_ranges.specs.Sound.{KeptRange, IsSound, IsSoundAt}
 use Rattle.range_state.specs.Held.{FitsJoin, range_kept, view_of}
 use Rattle.range_state.specs.Ready.{StandsAt, pending_meets}
-use Rattle.range_state.specs.Work.{AreBareUnder, mend_steps}
-use Rattle.range_state.proofs.MendLemmas.{parted_sound, none_left, mending_takes}
+use Rattle.range_state.specs.Work.{AddsNeeds, AreBareUnder, meeting, mend_notes, mend_steps, needs_under_each}
+use Rattle.range_state.proofs.MendLemmas.{parted_sound, none_left, mending_takes, mending_counts, mending_adds, mending_notes}
 use Rattle.range_state.proofs.state.RangeState.mend.Goals as goal
 
 pub mend_all-requires-clause-sound : goal.mend_all-requires-clause-sound
@@ -53,3 +54,41 @@ returns-clause-cost g c =
     c.in_ok-taken.ensures.taken ∙ ap (λ (output : Pattern). filter (meets_output output c.args.range.now) held.pending.noted) fits.output in
     subst (λ (v : KeptRange). (q : ℕ) → StandsAt q v → AreBareUnder v h q c.args.range.now → c.mend_all.new.steps ≤ c.args.steps.now + mend_steps v (below (take q h) v.rank) c.args.range.now) view
     (mending_takes s held h c.args.range.now c.in_ok-taken.taken.items c.args.steps.now c.mend_all.new.steps taken c.in_ok-mend_all.ensures.cost)
+
+pub returns-clause-least : goal.returns-clause-least
+returns-clause-least g c =
+    let s = c.self.inside.subject in
+    let held = c.in-Some.held in
+    let h = g.R.Reader.list c.args.reader.now in
+    let was : c.self.inside.held ≡ Some held = sym c.replace.ensures.value ∙ c.in-Some.is in
+    let view : range_kept s held ≡ c.args.self.now = sym (ap (view_of s) was) ∙ c.self.view_is in
+    let fits : FitsJoin s.join held = subst (λ o. IfSome o (FitsJoin s.join)) was c.self.invariant in
+    let taken : c.in_ok-taken.taken.items ≡ filter (meets_output s.join.output c.args.range.now) held.pending.noted =
+    c.in_ok-taken.ensures.taken ∙ ap (λ (output : Pattern). filter (meets_output output c.args.range.now) held.pending.noted) fits.output in
+    subst (λ (v : KeptRange). (q : ℕ) → StandsAt q v → c.args.steps.now + mend_steps v (below (take q h) v.rank) c.args.range.now ≤ c.mend_all.new.steps) view
+    (mending_counts s held h c.args.range.now c.in_ok-taken.taken.items c.args.steps.now c.mend_all.new.steps taken c.in_ok-mend_all.ensures.least)
+
+pub returns-clause-needs : goal.returns-clause-needs
+returns-clause-needs g c =
+    let s = c.self.inside.subject in
+    let held = c.in-Some.held in
+    let h = g.R.Reader.list c.args.reader.now in
+    let was : c.self.inside.held ≡ Some held = sym c.replace.ensures.value ∙ c.in-Some.is in
+    let view : range_kept s held ≡ c.args.self.now = sym (ap (view_of s) was) ∙ c.self.view_is in
+    let fits : FitsJoin s.join held = subst (λ o. IfSome o (FitsJoin s.join)) was c.self.invariant in
+    let taken : c.in_ok-taken.taken.items ≡ filter (meets_output s.join.output c.args.range.now) held.pending.noted =
+    c.in_ok-taken.ensures.taken ∙ ap (λ (output : Pattern). filter (meets_output output c.args.range.now) held.pending.noted) fits.output in
+    subst (λ (v : KeptRange). (q : ℕ) → StandsAt q v → AddsNeeds (needs_under_each v.join v.range (below (take q h) v.rank) (meeting v c.args.range.now)) v.kept.needs c.mend_all.new.held.rows.needs) view
+    (mending_adds s held h c.args.range.now c.in_ok-taken.taken.items c.mend_all.new.held.rows.needs taken c.in_ok-mend_all.ensures.needs)
+
+pub returns-clause-notes : goal.returns-clause-notes
+returns-clause-notes g c =
+    let s = c.self.inside.subject in
+    let held = c.in-Some.held in
+    let was : c.self.inside.held ≡ Some held = sym c.replace.ensures.value ∙ c.in-Some.is in
+    let view : range_kept s held ≡ c.args.self.now = sym (ap (view_of s) was) ∙ c.self.view_is in
+    let fits : FitsJoin s.join held = subst (λ o. IfSome o (FitsJoin s.join)) was c.self.invariant in
+    let taken : c.in_ok-taken.taken.items ≡ filter (meets_output s.join.output c.args.range.now) held.pending.noted =
+    c.in_ok-taken.ensures.taken ∙ ap (λ (output : Pattern). filter (meets_output output c.args.range.now) held.pending.noted) fits.output in
+    subst (λ (v : KeptRange). (q : ℕ) → StandsAt q v → c.mend_all.new.held.notes ≡ noted v.notes (mend_notes q (meeting v c.args.range.now))) view
+    (mending_notes s held c.args.range.now c.in_ok-taken.taken.items c.mend_all.new.held.notes taken c.in_ok-mend_all.ensures.notes)

@@ -2,7 +2,7 @@ use Rattle.std.proofs.Common.{◌≡◌, ℕ, true, IfOk, is_some, sym, ap, subs
 use Rattle.std.specs.Option.{option_and_then}
 use Rattle.std.proofs.lemmas.Result.{IfOk-weaker}
 use Rattle.semantics.specs.Texts.{table_of}
-use Rattle.semantics.specs.Joins.{Join}
+use Rattle.semantics.specs.Joins.{Join, push}
 use Rattle.key_ranges.specs.Ranges.{is_open}
 use Rattle.key_ranges.specs.Containing.{bind_range}
 use Rattle.growing_history.proofs.EnteredLemmas.{has_entered_taken}
@@ -10,6 +10,7 @@ use Rattle.kept_ranges.specs.Sound.{KeptRange}
 use Rattle.cell_slots.specs.Slots.{Frame, IsReached, IsReadySlot, place_of, StandsAs}
 use Rattle.cell_slots.specs.Spending.{CoversReady, MayKeep, Reserves}
 use Rattle.cell_slots.proofs.DeclaredLemmas.{declared_once}
+use Rattle.cell_table.specs.Stores.{Store}
 use Rattle.scan_core.specs.Rights.{Contents, contents_of}
 use Rattle.scan_core.proofs.LendingLemmas.{ready_over, reserves_over, frame_over}
 use Rattle.scan_core.proofs.RightLemmas.{places_of_table, reached_table, ready_rank, right_reserved}
@@ -61,3 +62,11 @@ returns-clause-ranked c = λ id s ready.
     let reached = subst (λ (v : Contents). IsReached v.history c.args._p c.args.at c.args.rank c.args.range.now) (sym c.self.view_is) c.requires.reached in
     ready_rank c.self.inside.base c.self.inside.cells.holdings.slots id c.args.at c.args._p c.args.rank c.args.range.now s (has_entered_taken c.args._p c.self.inside.base c.length-entries.ensures.entered) c.self.invariant reached
     (subst (λ (v : Contents). IsReadySlot v.cells.slots id c.args.at c.args._p c.args.range.now s) (sym c.self.view_is) ready)
+
+pub returns-clause-pulled : goal.returns-clause-pulled
+returns-clause-pulled c =
+    let base = c.self.inside.base in
+    let after = (contents_of base c.cover.new.self).cells in
+    let join_of = λ (j : Join) (stands : StandsAs base c.args._p c.args.at c.args.rank j). declared_once base c.args.at c.declared-join.result.now j c.declared-join.ensures stands.declared in
+    subst (λ (v : Contents). (j : Join) → StandsAs v.history c.args._p c.args.at c.args.rank j → (j.kind ≡ push → ⊥) → after ≡ v.cells) c.self.view_is
+    (λ j stands pulled. ap (λ (t : Store). (contents_of base t).cells) (c.cover.ensures.pulled (λ pushed. pulled (subst (λ (k : Join). k.kind ≡ push) (join_of j stands) pushed))))

@@ -5,7 +5,6 @@ use Rattle.join_set.specs.Sets.{Joins, AreJoins}
 use Rattle.write_history.specs.Marks.{reach, MayAsk}
 use Rattle.write_history.specs.Passes.{HistoryId, PassView, new_pass}
 use Rattle.write_history.specs.declared.known.Mark.{Mark}
-use Rattle.write_history.specs.declared.known.Mark.TheVariants.{Pinned}
 use Rattle.write_history.proofs.Marking.{before_near, first_free}
 use Rattle.base_shards.specs.Reading.{ReachesBack}
 use Rattle.pequod_cache.specs.Sitting.{AreWriters}

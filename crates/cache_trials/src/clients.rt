@@ -1,7 +1,9 @@
 // What clients are told on their links, alone and beside others, and each call once, with ample memory.
-ghost use Rattle.std.specs.Prelude.{◌≡◌, ◌≤◌, IfOk, length};
-ghost use Rattle.pequod_cache.specs.Sitting.{AreOf, AreOfParts, AreWriters, IsFresh};
+ghost use Rattle.std.specs.Prelude.{◌≤◌};
+ghost use Rattle.pequod_cache.specs.Sitting.{IsFresh};
+ghost use Rattle.cache_trials.specs.Seated.{AreSeats};
 
+use crate::seated::make_seats;
 use base_shards::Naming;
 use join_lang::parse;
 use key_space::{Key, Range, Value};
@@ -95,19 +97,6 @@ const OF_DROPS: [Row; 11] = [
     (0, r#"["drop",3]"#, r#"["error","nojoin",5]"#),
 ];
 
-/// The seats of so many clients, and of four cells.
-pub fn make_seats(alloc: Global, clients: u32) -> Result<Seats, OutOfMemory>
-    requires some { 1 ≤ clients }
-    requires few { clients ≤ 65 }
-    ensures clients { IfOk result (λ seats. AreWriters seats.history (length seats.clients.items) seats.clients.items) }
-    ensures shards { IfOk result (λ seats. AreOfParts seats.history seats.shards.items) }
-    ensures cells { IfOk result (λ seats. AreOf seats.history (length seats.cells.items) seats.cells.items) }
-    ensures count { IfOk result (λ seats. length seats.cells.items ≡ 4) }
-    ensures updater { IfOk result (λ seats. IsFresh seats.history seats.updater) }
-{
-    Seats::make(alloc, clients, 4)
-}
-
 /// The service answers a line on a link with this line.
 pub fn expect_line<S: Service, R: Abort>(
     rt: &R,
@@ -125,6 +114,24 @@ pub fn expect_line<S: Service, R: Abort>(
     Ok(())
 }
 
+/// The services of the clients of a new cache that may keep so many rows.
+pub fn services<'a, 'g, N: Naming, R>(
+    rt: &'a R,
+    alloc: Global,
+    gate: &'g OpenGate,
+    seats: Seats,
+    rows: u64,
+) -> Result<Vec<ClientService<'a, 'g, R, N, OpenGate>>, OutOfMemory>
+    requires seats { AreSeats N.history seats }
+    requires some_rows { 1 ≤ rows }
+{
+    let mut services = Vec::new(alloc);
+    for client in Cache::<N>::make(alloc, seats, rows, gate)? {
+        services.push(ClientService { rt, client })?;
+    }
+    Ok(services)
+}
+
 /// Each row is a link of its client, one after another.
 pub fn run<N: Naming, R: Wait + Abort>(
     rt: &R,
@@ -133,16 +140,9 @@ pub fn run<N: Naming, R: Wait + Abort>(
     seats: Seats,
     rows: &[Row],
 ) -> Result<(), Fail>
-    requires named { seats.history ≡ N.history }
-    requires clients { AreWriters N.history (length seats.clients.items) seats.clients.items }
-    requires shards { AreOfParts N.history seats.shards.items }
-    requires cells { AreOf N.history (length seats.cells.items) seats.cells.items }
-    requires count { length seats.cells.items ≡ 4 }
+    requires { AreSeats N.history seats }
 {
-    let mut services = Vec::new(alloc);
-    for client in Cache::<N>::make(alloc, seats, 1_000, gate)? {
-        services.push(ClientService { rt, client })?;
-    }
+    let mut services = services::<N, R>(rt, alloc, gate, seats, 1_000)?;
     for (number, line, wanted) in rows {
         let service = services.get_mut(*number).expect(rt, "a client");
         expect_line(rt, alloc, service, line, wanted)?;
@@ -153,28 +153,28 @@ pub fn run<N: Naming, R: Wait + Abort>(
 #[test]
 fn one_client_reads_a_join(rt: HostRuntime) -> Result<(), Fail> {
     let alloc = rt.alloc();
-    let seats = make_seats(alloc, 1)?;
+    let seats = make_seats(alloc, 1, 4)?;
     run::<Brand, _>(&rt, alloc, &OpenGate, seats, &OF_A_JOIN)
 }
 
 #[test]
 fn each_client_reads_what_the_other_wrote(rt: HostRuntime) -> Result<(), Fail> {
     let alloc = rt.alloc();
-    let seats = make_seats(alloc, 2)?;
+    let seats = make_seats(alloc, 2, 4)?;
     run::<Brand, _>(&rt, alloc, &OpenGate, seats, &OF_A_LOOK)
 }
 
 #[test]
 fn writes_are_refused_after_what_others_wrote(rt: HostRuntime) -> Result<(), Fail> {
     let alloc = rt.alloc();
-    let seats = make_seats(alloc, 2)?;
+    let seats = make_seats(alloc, 2, 4)?;
     run::<Brand, _>(&rt, alloc, &OpenGate, seats, &OF_REFUSALS)
 }
 
 #[test]
 fn joins_are_declared_and_dropped_after_puts(rt: HostRuntime) -> Result<(), Fail> {
     let alloc = rt.alloc();
-    let seats = make_seats(alloc, 2)?;
+    let seats = make_seats(alloc, 2, 4)?;
     run::<Brand, _>(&rt, alloc, &OpenGate, seats, &OF_DROPS)
 }
 
@@ -234,11 +234,7 @@ fn two_put_and_meet<N: Naming + Send + Sync, R: Threads + Wait + Abort + Sync>(
     gate: &OpenGate,
     seats: Seats,
 ) -> Result<(), Fail>
-    requires named { seats.history ≡ N.history }
-    requires clients { AreWriters N.history (length seats.clients.items) seats.clients.items }
-    requires shards { AreOfParts N.history seats.shards.items }
-    requires cells { AreOf N.history (length seats.cells.items) seats.cells.items }
-    requires count { length seats.cells.items ≡ 4 }
+    requires { AreSeats N.history seats }
 {
     let mut clients = Cache::<N>::make(alloc, seats, 1_000, gate)?;
     let second = clients.pop().expect(rt, "a client");
@@ -257,7 +253,7 @@ fn two_put_and_meet<N: Naming + Send + Sync, R: Threads + Wait + Abort + Sync>(
 #[test]
 fn two_threads_put_and_meet(rt: HostRuntime) -> Result<(), Fail> {
     let alloc = rt.alloc();
-    let seats = make_seats(alloc, 2)?;
+    let seats = make_seats(alloc, 2, 4)?;
     two_put_and_meet::<Brand, _>(&rt, alloc, &OpenGate, seats)
 }
 
@@ -299,11 +295,7 @@ fn make_and_put<N: Naming, R: Wait + Abort>(
     seats: Seats,
     count: u64,
 ) -> Result<(), Fail>
-    requires named { seats.history ≡ N.history }
-    requires clients { AreWriters N.history (length seats.clients.items) seats.clients.items }
-    requires shards { AreOfParts N.history seats.shards.items }
-    requires cells { AreOf N.history (length seats.cells.items) seats.cells.items }
-    requires count { length seats.cells.items ≡ 4 }
+    requires { AreSeats N.history seats }
 {
     let mut clients = Cache::<N>::make(alloc, seats, 1_000, gate)?;
     let mut client = clients.pop().expect(rt, "a client");
@@ -314,7 +306,7 @@ fn make_and_put<N: Naming, R: Wait + Abort>(
 #[test]
 fn one_client_puts_70_000_times(rt: HostRuntime) -> Result<(), Fail> {
     let alloc = rt.alloc();
-    let seats = make_seats(alloc, 1)?;
+    let seats = make_seats(alloc, 1, 4)?;
     make_and_put::<Brand, _>(&rt, alloc, &OpenGate, seats, 70_000)
 }
 
@@ -366,11 +358,7 @@ fn make_and_turn<N: Naming, R: Wait + Abort>(
     gate: &OpenGate,
     seats: Seats,
 ) -> Result<(), Fail>
-    requires named { seats.history ≡ N.history }
-    requires clients { AreWriters N.history (length seats.clients.items) seats.clients.items }
-    requires shards { AreOfParts N.history seats.shards.items }
-    requires cells { AreOf N.history (length seats.cells.items) seats.cells.items }
-    requires count { length seats.cells.items ≡ 4 }
+    requires seats { AreSeats N.history seats }
     requires updater { IsFresh N.history seats.updater }
 {
     let (mut clients, mut updater) = Cache::<N>::make_with_updater(alloc, seats, 1_000, gate)?;
@@ -382,6 +370,6 @@ fn make_and_turn<N: Naming, R: Wait + Abort>(
 #[test]
 fn an_updater_brings_a_kept_range_forward(rt: HostRuntime) -> Result<(), Fail> {
     let alloc = rt.alloc();
-    let seats = make_seats(alloc, 1)?;
+    let seats = make_seats(alloc, 1, 4)?;
     make_and_turn::<Brand, _>(&rt, alloc, &OpenGate, seats)
 }

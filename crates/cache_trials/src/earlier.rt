@@ -1,8 +1,8 @@
 // Scans at earlier positions and change feeds, held to worked answers: what they tell of joins, and how far back they reach.
-ghost use Rattle.std.specs.Prelude.{◌≡◌, length};
-ghost use Rattle.pequod_cache.specs.Sitting.{AreOf, AreOfParts, AreWriters};
+ghost use Rattle.cache_trials.specs.Seated.{AreSeats};
 
-use crate::clients::{Row, expect_line, make_seats, put_at, run};
+use crate::clients::{Row, expect_line, put_at, run};
+use crate::seated::make_seats;
 use base_shards::Naming;
 use pequod_cache::{Cache, ClientService, Seats};
 use pq_io::OpenGate;
@@ -14,8 +14,9 @@ use std::sync::Wait;
 use std::test::Fail;
 
 /// A timeline of which one client reads what the other writes: scans at positions before, at and after the last, and what changed
-/// since, also where a post came and went between, and where the join was dropped and a pair of its output is put.
-const OF_A_TIMELINE: [Row; 21] = [
+/// since, also where a post came and went between, where a pair that no join gives stands among those of the timeline, and where
+/// the join was dropped and a pair of its output is put.
+const OF_A_TIMELINE: [Row; 23] = [
     (
         0,
         r#"["join","t|<user>|<time>|<poster> = check s|<user>|<poster> copy p|<poster>|<time>"]"#,
@@ -67,12 +68,18 @@ const OF_A_TIMELINE: [Row; 21] = [
         r#"["error","ahead",5]"#,
     ),
     (0, r#"["put","p|bob|130","No"]"#, r#"["ok",6]"#),
-    (0, r#"["drop",1]"#, r#"["ok",7]"#),
-    (0, r#"["put","t|ann|100|bob","own"]"#, r#"["ok",8]"#),
+    (0, r#"["put","t|ann|own","x"]"#, r#"["ok",7]"#),
+    (
+        1,
+        r#"["changes","t|","t}",4]"#,
+        r#"["changes",4,7,[["t|ann|100|bob"],["t|ann|120|bob"],["t|ann|own","x"]]]"#,
+    ),
+    (0, r#"["drop",1]"#, r#"["ok",8]"#),
+    (0, r#"["put","t|ann|100|bob","own"]"#, r#"["ok",9]"#),
     (
         1,
         r#"["changes","t|ann|","t|ann}",4]"#,
-        r#"["changes",4,8,[["t|ann|100|bob","own"],["t|ann|120|bob"]]]"#,
+        r#"["changes",4,9,[["t|ann|100|bob","own"],["t|ann|120|bob"],["t|ann|own","x"]]]"#,
     ),
     (
         1,
@@ -81,20 +88,20 @@ const OF_A_TIMELINE: [Row; 21] = [
     ),
     (
         1,
-        r#"["scan","t|ann|","t|ann}",8]"#,
-        r#"["pairs",8,[["t|ann|100|bob","own"]]]"#,
+        r#"["scan","t|ann|","t|ann}",9]"#,
+        r#"["pairs",9,[["t|ann|100|bob","own"],["t|ann|own","x"]]]"#,
     ),
     (
         1,
         r#"["changes","p|bob|","p|bob}",4]"#,
-        r#"["changes",4,8,[["p|bob|130","No"]]]"#,
+        r#"["changes",4,9,[["p|bob|130","No"]]]"#,
     ),
 ];
 
 #[test]
 fn a_timeline_is_told_as_it_stood(rt: HostRuntime) -> Result<(), Fail> {
     let alloc = rt.alloc();
-    let seats = make_seats(alloc, 2)?;
+    let seats = make_seats(alloc, 2, 4)?;
     run::<Brand, _>(&rt, alloc, &OpenGate, seats, &OF_A_TIMELINE)
 }
 
@@ -146,11 +153,7 @@ fn put_and_ask<N: Naming, R: Wait + Abort>(
     seats: Seats,
     rows: &[(&str, &str)],
 ) -> Result<(), Fail>
-    requires named { seats.history ≡ N.history }
-    requires clients { AreWriters N.history (length seats.clients.items) seats.clients.items }
-    requires shards { AreOfParts N.history seats.shards.items }
-    requires cells { AreOf N.history (length seats.cells.items) seats.cells.items }
-    requires count { length seats.cells.items ≡ 4 }
+    requires { AreSeats N.history seats }
 {
     let mut clients = Cache::<N>::make(alloc, seats, 1_000, gate)?;
     let mut client = clients.pop().expect(rt, "a client");
@@ -164,6 +167,6 @@ fn put_and_ask<N: Naming, R: Wait + Abort>(
 #[test]
 fn what_lies_65_536_entries_back_is_told(rt: HostRuntime) -> Result<(), Fail> {
     let alloc = rt.alloc();
-    let seats = make_seats(alloc, 1)?;
+    let seats = make_seats(alloc, 1, 4)?;
     put_and_ask::<Brand, _>(&rt, alloc, &OpenGate, seats, &OF_THE_REACH)
 }

@@ -1,16 +1,16 @@
 // Scans at drawn positions and what changed since, over small histories that are drawn: each is held to plain evaluation at both
 // positions, and setting and taking out what changed turns the one scan into the other.
-ghost use Rattle.std.specs.Prelude.{◌≡◌, length};
-ghost use Rattle.pequod_cache.specs.Sitting.{AreOf, AreOfParts, AreWriters};
+ghost use Rattle.cache_trials.specs.Seated.{AreSeats};
 
 use crate::asking::{Ask, FIRST_JOINS, answer_afresh, draw_position, line_of, position_told};
-use crate::clients::make_seats;
+use crate::clients::services;
+use crate::seated::make_seats;
 use base_shards::Naming;
 use change_lists::Change;
 use join_rows::Table;
 use join_types::Pair;
 use out_of_memory::OutOfMemory;
-use pequod_cache::{Cache, ClientService, Seats};
+use pequod_cache::{ClientService, Seats};
 use plain_history::PlainHistory;
 use pq_io::OpenGate;
 use rand_core::SeedableRng;
@@ -176,16 +176,9 @@ fn play<N: Naming, R: Wait + Abort>(
     seats: Seats,
     number: u64,
 ) -> Result<(), Fail>
-    requires named { seats.history ≡ N.history }
-    requires clients { AreWriters N.history (length seats.clients.items) seats.clients.items }
-    requires shards { AreOfParts N.history seats.shards.items }
-    requires cells { AreOf N.history (length seats.cells.items) seats.cells.items }
-    requires count { length seats.cells.items ≡ 4 }
+    requires { AreSeats N.history seats }
 {
-    let mut clients = Vec::new(alloc);
-    for client in Cache::<N>::make(alloc, seats, 1 + number % 24, gate)? {
-        clients.push(ClientService { rt, client })?;
-    }
+    let clients = services::<N, R>(rt, alloc, gate, seats, 1 + number % 24)?;
     let mut trial = Trial {
         alloc,
         clients,
@@ -199,7 +192,7 @@ fn play<N: Naming, R: Wait + Abort>(
 
 /// Plays the history that is drawn from a number.
 fn play_drawn<R: Wait + Abort>(rt: &R, alloc: Global, number: u64) -> Result<(), Fail> {
-    let seats = make_seats(alloc, 2)?;
+    let seats = make_seats(alloc, 2, 4)?;
     play::<Brand, R>(rt, alloc, &OpenGate, seats, number)
 }
 

@@ -1,11 +1,11 @@
 // Two threads read where the ranks of two joins stand the other way round. One is held at the gate with the cell of the one join
 // until the other has the cell of the other.
-ghost use Rattle.std.specs.Prelude.{◌≡◌, ◌≤◌, All, length};
-ghost use Rattle.pequod_cache.specs.Sitting.{AreOf, AreOfParts};
 ghost use Rattle.cache_trials.specs.Passes.{IsWriter};
+ghost use Rattle.cache_trials.specs.Seated.{AreSeats};
 
 use crate::course::{Course, FEW_LOOKS, Stage, begin, come_to, wait_for};
-use crate::kept::{Kept, keep, make_seats, pop_pass, read_at, write};
+use crate::kept::{Kept, keep_seats, pop_pass, read_at, write};
+use crate::seated::make_seats;
 use base_shards::Naming;
 use key_space::Range;
 use pequod_cache::Seats;
@@ -104,21 +104,15 @@ fn cross<N: Naming + Send + Sync, G: Gate + Sync, R: Threads + Wait + Abort + Sy
     rt: &R,
     alloc: Global,
     gate: &G,
-    mut seats: Seats,
+    seats: Seats,
     course: &Course,
 ) -> Result<(), Fail>
-    requires named { seats.history ≡ N.history }
-    requires writers { All (λ p. IsWriter N.history p) seats.clients.items }
-    requires shards { AreOfParts N.history seats.shards.items }
-    requires some { 1 ≤ length seats.cells.items }
-    requires few { length seats.cells.items ≤ 65536 }
-    requires cells { AreOf N.history (length seats.cells.items) seats.cells.items }
+    requires { AreSeats N.history seats }
 {
-    let mut first = pop_pass(rt, &seats.history, &mut seats.clients);
-    let second = pop_pass(rt, &seats.history, &mut seats.clients);
-    let history = Arc::new(alloc, seats.history)?;
-    let kept: Kept<N> = keep(alloc, history, seats.shards, seats.cells, 100)?;
+    let (kept, mut passes) = keep_seats::<N>(alloc, seats, 100)?;
     let kept = &kept;
+    let mut first = pop_pass::<N, R>(rt, &mut passes);
+    let second = pop_pass::<N, R>(rt, &mut passes);
     write_all(rt, alloc, &kept.history, &mut first);
     thread::join(
         rt,

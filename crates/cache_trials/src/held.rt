@@ -1,9 +1,10 @@
 // Two clients on two threads, of which one is held at the gate in the midst of a scan while the other is answered.
-ghost use Rattle.std.specs.Prelude.{◌≡◌, ◌≤◌, length};
-ghost use Rattle.pequod_cache.specs.Sitting.{AreOf, AreOfParts, AreWriters};
+ghost use Rattle.std.specs.Prelude.{◌≤◌};
+ghost use Rattle.cache_trials.specs.Seated.{AreSeats};
 
-use crate::clients::{make_seats, put_at};
+use crate::clients::put_at;
 use crate::course::{Course, FEW_LOOKS, MANY_LOOKS, Stage, begin, come_to, wait_for};
+use crate::seated::make_seats;
 use base_shards::Naming;
 use join_lang::parse;
 use key_space::Range;
@@ -142,11 +143,7 @@ fn hold_and_pass<N: Naming + Send + Sync, G: Gate + Sync, R: Threads + Wait + Ab
     count: u64,
 ) -> Result<(), Fail>
     requires few { count ≤ 100000 }
-    requires named { seats.history ≡ N.history }
-    requires clients { AreWriters N.history (length seats.clients.items) seats.clients.items }
-    requires shards { AreOfParts N.history seats.shards.items }
-    requires cells { AreOf N.history (length seats.cells.items) seats.cells.items }
-    requires count { length seats.cells.items ≡ 4 }
+    requires seats { AreSeats N.history seats }
 {
     let mut clients = Cache::<N>::make(alloc, seats, 1_000, gate)?;
     let other = clients.pop().expect(rt, "a client");
@@ -175,7 +172,7 @@ fn hold_while<R: Threads + Wait + Abort + Sync>(
         rt,
         course: Arc::try_clone(&course)?,
     };
-    let seats = make_seats(alloc, 2)?;
+    let seats = make_seats(alloc, 2, 4)?;
     hold_and_pass::<Brand, _, _>(rt, alloc, &gate, seats, &course, count)?;
     assert!(rt; !course.lock(rt).gave_up);
     Ok(())

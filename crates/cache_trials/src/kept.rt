@@ -1,13 +1,14 @@
 // The parts of a cache as a test has them, with reads at any position, and two threads that read and evict at once. All with ample
 // memory.
-ghost use Rattle.std.specs.Prelude.{◌≡◌, ◌+◌, ◌<◌, ◌≤◌, All, length, take, IfOk};
+ghost use Rattle.std.specs.Prelude.{◌≡◌, ◌+◌, ◌<◌, ◌≤◌, All, take, IfOk};
 ghost use Rattle.std.specs.Arc.{arc_value};
 ghost use Rattle.join_set.specs.Sets.{AreJoins};
 ghost use Rattle.write_history.specs.Marks.{reach};
 ghost use Rattle.write_history.specs.declared.known.Mark.TheVariants.{Pinned};
-ghost use Rattle.pequod_cache.specs.Sitting.{AreOf, AreOfParts};
 ghost use Rattle.cache_trials.specs.Passes.{IsAtEnd, IsWriter};
+ghost use Rattle.cache_trials.specs.Seated.{AreSeats};
 
+use crate::seated::make_seats;
 use base_shards::{BaseShards, Naming};
 use join_lang::parse;
 use join_set::JoinSet;
@@ -28,25 +29,11 @@ use std::thread::Threads;
 use steps::Steps;
 use write_history::{History, Pass};
 
-/// The seats of so many clients and so many cells, of whose passes a test reads and writes itself.
-pub fn make_seats(alloc: Global, writers: u32, cells: u32) -> Result<Seats, OutOfMemory>
-    requires some { 1 ≤ writers }
-    requires few_writers { writers ≤ 65 }
-    requires few_cells { cells ≤ 65536 }
-    ensures writers { IfOk result (λ seats. All (λ p. IsWriter seats.history p) seats.clients.items) }
-    ensures shards { IfOk result (λ seats. AreOfParts seats.history seats.shards.items) }
-    ensures cells { IfOk result (λ seats. AreOf seats.history (length seats.cells.items) seats.cells.items) }
-    ensures cell_count { IfOk result (λ seats. length seats.cells.items ≡ cells) }
-{
-    let seats = Seats::make(alloc, writers, cells)?;
-    Ok(seats)
-}
-
 /// Takes out the last pass.
-pub fn pop_pass(rt: &impl Abort, history: &History, passes: &mut Vec<Pass>) -> Pass
-    requires { All (λ p. IsWriter history.now p) passes.old.items }
-    ensures pass { IsWriter history.now result }
-    ensures each { All (λ p. IsWriter history.now p) passes.new.items }
+pub fn pop_pass<N: Naming, R: Abort>(rt: &R, passes: &mut Vec<Pass>) -> Pass
+    requires { All (λ p. IsWriter N.history p) passes.old.items }
+    ensures pass { IsWriter N.history result }
+    ensures each { All (λ p. IsWriter N.history p) passes.new.items }
 {
     passes.pop().expect(rt, "a pass")
 }
@@ -63,31 +50,29 @@ pub struct Kept<N: Naming> {
     ghost named: { arc_value history ≡ N.history },
 }
 
-/// Nothing is kept yet, and this much may be.
-pub fn keep<N: Naming>(
+/// What is kept over seats, which is nothing yet and this much at most, and the passes of the clients, with which a test reads and
+/// writes itself.
+pub fn keep_seats<N: Naming>(
     alloc: Global,
-    history: Arc<History>,
-    shards: Vec<Pass>,
-    cells: Vec<Pass>,
+    seats: Seats,
     limit: u64,
-) -> Result<Kept<N>, OutOfMemory>
-    requires named { arc_value history ≡ N.history }
-    requires shards { AreOfParts N.history shards.items }
-    requires some { 1 ≤ length cells.items }
-    requires few { length cells.items ≤ 65536 }
-    requires cells { AreOf N.history (length cells.items) cells.items }
+) -> Result<(Kept<N>, Vec<Pass>), OutOfMemory>
+    requires seats { AreSeats N.history seats }
     requires limit { 1 ≤ limit }
+    ensures { IfOk result (λ made. All (λ p. IsWriter N.history p) made.1.items) }
 {
-    let ids = cells.len() as u32;
-    let shards = BaseShards::new(alloc, Arc::try_clone(&history)?, shards, ids)?;
+    let ids = seats.cells.len() as u32;
+    let history = Arc::new(alloc, seats.history)?;
+    let shards = BaseShards::new(alloc, Arc::try_clone(&history)?, seats.shards, ids)?;
     let shards = Arc::new(alloc, shards)?;
     let own = Arc::try_clone(&shards)?;
-    let cells = RangeCells::new(alloc, Arc::try_clone(&history)?, own, cells, limit)?;
-    Ok(Kept {
+    let cells = RangeCells::new(alloc, Arc::try_clone(&history)?, own, seats.cells, limit)?;
+    let kept = Kept {
         history,
         shards,
         cells,
-    })
+    };
+    Ok((kept, seats.clients))
 }
 
 /// The write that a text is: the text of a join, `drop` and a position, `key=value` for a put, or a key for a remove.
@@ -140,6 +125,20 @@ pub fn pin<R: Wait + Abort>(rt: &R, history: &History, pass: &mut Pass) -> u64
     history.look_joins(rt, pass, 0).expect(rt, "memory").length
 }
 
+/// Looks, and pins the pass there, which is after the first p entries and at most 65,536 more. Says after how many.
+pub fn pin_near<R: Wait + Abort>(rt: &R, history: &History, pass: &mut Pass, p: u64) -> u64
+    requires { IsWriter history.now pass.old }
+    ensures at_end { IsAtEnd history.now pass.new result }
+    ensures within { p ≤ result }
+    ensures near { result ≤ p + 65536 }
+{
+    let at = pin(rt, history, pass);
+    assert!(rt; p <= at);
+    let back = at - p;
+    assert!(rt; back <= 65_536);
+    at
+}
+
 /// Takes away the pin, which is after so many entries.
 pub fn unpin<R: Wait>(rt: &R, history: &History, pass: Pass, _at: u64) -> Pass
     requires same_history { pass.history ≡ history.now }
@@ -187,10 +186,7 @@ pub fn read_at<N: Naming, G: Gate, L: Ledger, R: Wait + Abort>(
     ensures { IsWriter N.history result.0 }
 {
     let history = &*kept.history;
-    let at = pin(rt, history, &mut pass);
-    assert!(rt; p <= at);
-    let back = at - p;
-    assert!(rt; back <= 65_536);
+    let at = pin_near(rt, history, &mut pass, p);
     let joins = joins_near(rt, history, &mut pass, p, at).expect(rt, "memory");
     let mut steps: Steps<L> = Steps::open(blank);
     let cells = &kept.cells;
@@ -274,20 +270,14 @@ fn timeline(rt: &impl Abort, alloc: Global, user: &str) -> Range {
 fn two_read<N: Naming + Send + Sync, R: Threads + Wait + Abort + Sync>(
     rt: &R,
     alloc: Global,
-    mut seats: Seats,
+    seats: Seats,
 ) -> Result<(), Fail>
-    requires named { seats.history ≡ N.history }
-    requires writers { All (λ p. IsWriter N.history p) seats.clients.items }
-    requires shards { AreOfParts N.history seats.shards.items }
-    requires some { 1 ≤ length seats.cells.items }
-    requires few { length seats.cells.items ≤ 65536 }
-    requires cells { AreOf N.history (length seats.cells.items) seats.cells.items }
+    requires { AreSeats N.history seats }
 {
-    let mut first = pop_pass(rt, &seats.history, &mut seats.clients);
-    let second = pop_pass(rt, &seats.history, &mut seats.clients);
-    let history = Arc::new(alloc, seats.history)?;
-    let kept: Kept<N> = keep(alloc, history, seats.shards, seats.cells, 100)?;
+    let (kept, mut passes) = keep_seats::<N>(alloc, seats, 100)?;
     let kept = &kept;
+    let mut first = pop_pass::<N, R>(rt, &mut passes);
+    let second = pop_pass::<N, R>(rt, &mut passes);
     let join = "t|<user>|<time>|<poster> = check s|<user>|<poster> copy p|<poster>|<time>";
     write(rt, alloc, &kept.history, &mut first, join);
     let (first, _) = thread::join(

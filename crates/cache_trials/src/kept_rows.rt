@@ -1,7 +1,8 @@
 // What one thread writes, evicts and reads, how often each read passes the gate, and how many steps some may take.
 
 /// How many cells there may be, how much may be kept, lines, and what those that read add: how often the gate was passed, and
-/// the pairs. A line that begins with `most` or `least` reads with so many steps, and one that begins with `often` writes so often.
+/// the pairs. A line that begins with `most` or `least` reads with so many steps, one that begins with `often` writes so often, and
+/// one that begins with `changes` adds what changed.
 #[derive(Drop)]
 pub struct Row {
     /// The cells.

@@ -32,6 +32,8 @@ mod earlier;
 #[cfg(test)]
 mod far_rows;
 #[cfg(test)]
+mod fed_rows;
+#[cfg(test)]
 mod feed_cost;
 #[cfg(test)]
 mod feeds;
@@ -45,6 +47,8 @@ mod kept;
 mod kept_rows;
 #[cfg(test)]
 mod playing;
+#[cfg(test)]
+mod seated;
 #[cfg(test)]
 mod threads;
 #[cfg(test)]

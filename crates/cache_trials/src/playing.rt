@@ -1,12 +1,16 @@
 // What is kept, evicted and read again, seen by a gate that counts and by the steps of reads. All with ample memory.
-ghost use Rattle.std.specs.Prelude.{◌≡◌, ◌≤◌, All, length, IfOk};
-ghost use Rattle.pequod_cache.specs.Sitting.{AreOf, AreOfParts};
+ghost use Rattle.std.specs.Prelude.{◌≤◌, IfOk};
 ghost use Rattle.cache_trials.specs.Passes.{IsWriter};
+ghost use Rattle.cache_trials.specs.Seated.{AreSeats};
 
 use crate::far_rows::FAR_ROWS;
-use crate::kept::{Kept, Seen, keep, make_seats, pop_pass, read_at, turn_at_end, write};
+use crate::fed_rows::FED_ROWS;
+use crate::feed_cost::feed_since;
+use crate::kept::{Kept, Seen, keep_seats, pop_pass, read_at, turn_at_end, write};
 use crate::kept_rows::{ROWS, Row};
+use crate::seated::make_seats;
 use base_shards::Naming;
+use change_lists::Change;
 use join_types::Pair;
 use key_space::Range;
 use pequod_cache::Seats;
@@ -16,8 +20,8 @@ use std::alloc::Global;
 use std::cell::Cell;
 use std::marker::Brand;
 use std::process::Abort;
+use std::sync::Wait;
 use std::sync::ledger::Blank;
-use std::sync::{Arc, Wait};
 use std::test::Fail;
 use write_history::Pass;
 
@@ -63,6 +67,21 @@ fn show(alloc: Global, text: &mut String, passed: u64, pairs: Vec<Pair>) -> Resu
         text.push_str(pair.key.text())?;
         text.push('=')?;
         text.push_str(pair.value.text())?;
+    }
+    text.push('\n')?;
+    Ok(())
+}
+
+/// Adds what changed, as a line: each key with its value, or alone where its pair has gone.
+fn show_changes(text: &mut String, changes: Vec<Change>) -> Result<(), Fail> {
+    text.push_str("changed:")?;
+    for change in changes {
+        text.push(' ')?;
+        text.push_str(change.key.text())?;
+        if let Some(value) = &change.value {
+            text.push('=')?;
+            text.push_str(value.text())?;
+        }
     }
     text.push('\n')?;
     Ok(())
@@ -137,9 +156,9 @@ fn settle<N: Naming, R: Wait + Abort>(
     Ok(())
 }
 
-/// Does what a line says: it writes, once or often, settles the base pairs, which adds a line, evicts a cell, makes room, which adds a
-/// line, takes a turn, which adds a line, reads a range after so many entries, which adds a line, or reads it with `most` or `least`
-/// so many steps.
+/// Does what a line says: it writes, once or often, settles the base pairs, which adds a line, evicts a cell, makes room, which
+/// adds a line, takes a turn, which adds a line, asks what changed in a range since so many entries, which adds a line, reads a
+/// range after so many, which adds a line, or reads it with `most` or `least` so many steps.
 fn play_line<N: Naming, R: Wait + Abort>(
     rt: &R,
     alloc: Global,
@@ -182,6 +201,13 @@ fn play_line<N: Naming, R: Wait + Abort>(
             show_turn(alloc, text, turn)?;
             Ok(pass)
         }
+        "changes" => {
+            let (q, range) = read_place(rt, alloc, about);
+            let blank = Blank::new(1);
+            let (pass, fed) = feed_since::<N, Brand, R>(rt, kept, pass, q, &range, blank);
+            show_changes(text, fed.changes)?;
+            Ok(pass)
+        }
         "read" => {
             let gate = Counter::new();
             let (pass, seen) = read_there(rt, alloc, kept, pass, about, &gate);
@@ -201,20 +227,14 @@ fn play_line<N: Naming, R: Wait + Abort>(
 fn play<N: Naming, R: Wait + Abort>(
     rt: &R,
     alloc: Global,
-    mut seats: Seats,
+    seats: Seats,
     row: &Row,
 ) -> Result<String, Fail>
-    requires named { seats.history ≡ N.history }
-    requires writers { All (λ p. IsWriter N.history p) seats.clients.items }
-    requires shards { AreOfParts N.history seats.shards.items }
-    requires some { 1 ≤ length seats.cells.items }
-    requires few { length seats.cells.items ≤ 65536 }
-    requires cells { AreOf N.history (length seats.cells.items) seats.cells.items }
+    requires seats { AreSeats N.history seats }
     requires limit { 1 ≤ row.now.limit }
 {
-    let mut pass = pop_pass(rt, &seats.history, &mut seats.clients);
-    let history = Arc::new(alloc, seats.history)?;
-    let kept: Kept<N> = keep(alloc, history, seats.shards, seats.cells, row.limit)?;
+    let (kept, mut passes) = keep_seats::<N>(alloc, seats, row.limit)?;
+    let mut pass = pop_pass::<N, R>(rt, &mut passes);
     let mut text = String::new(alloc);
     for line in row.lines.lines() {
         pass = play_line(rt, alloc, &kept, pass, line, &mut text)?;
@@ -246,4 +266,9 @@ fn one_thread_reads_what_is_kept(rt: HostRuntime) -> Result<(), Fail> {
 #[test]
 fn one_thread_reads_what_is_far_behind(rt: HostRuntime) -> Result<(), Fail> {
     play_all(&rt, rt.alloc(), &FAR_ROWS)
+}
+
+#[test]
+fn one_thread_is_told_what_changed(rt: HostRuntime) -> Result<(), Fail> {
+    play_all(&rt, rt.alloc(), &FED_ROWS)
 }

@@ -1,8 +1,8 @@
 // How much threads do together, each with a client and tables of its own: `bench/threads.sh` runs these and takes the time.
-ghost use Rattle.std.specs.Prelude.{◌≡◌, length};
-ghost use Rattle.pequod_cache.specs.Sitting.{AreOf, AreOfParts, AreWriters};
+ghost use Rattle.cache_trials.specs.Seated.{AreSeats};
 
-use crate::clients::{make_seats, table};
+use crate::clients::table;
+use crate::seated::make_seats;
 use base_shards::Naming;
 use join_lang::parse;
 use key_space::{Key, Value};
@@ -65,11 +65,7 @@ fn share_the_work<N: Naming + Send + Sync, R: Threads + Wait + Abort + Sync>(
     gate: &OpenGate,
     seats: Seats,
 ) -> Result<(), Fail>
-    requires named { seats.history ≡ N.history }
-    requires clients { AreWriters N.history (length seats.clients.items) seats.clients.items }
-    requires shards { AreOfParts N.history seats.shards.items }
-    requires cells { AreOf N.history (length seats.cells.items) seats.cells.items }
-    requires count { length seats.cells.items ≡ 4 }
+    requires { AreSeats N.history seats }
 {
     let mut clients = Cache::<N>::make(alloc, seats, 1_000, gate)?;
     let share = TOGETHER / clients.len().max(1);
@@ -92,20 +88,20 @@ fn share_the_work<N: Naming + Send + Sync, R: Threads + Wait + Abort + Sync>(
 #[test]
 fn one_thread_puts_and_looks_40_000(rt: HostRuntime) -> Result<(), Fail> {
     let alloc = rt.alloc();
-    let seats = make_seats(alloc, 1)?;
+    let seats = make_seats(alloc, 1, 4)?;
     share_the_work::<Brand, _>(&rt, alloc, &OpenGate, seats)
 }
 
 #[test]
 fn two_threads_put_and_look_40_000(rt: HostRuntime) -> Result<(), Fail> {
     let alloc = rt.alloc();
-    let seats = make_seats(alloc, 2)?;
+    let seats = make_seats(alloc, 2, 4)?;
     share_the_work::<Brand, _>(&rt, alloc, &OpenGate, seats)
 }
 
 #[test]
 fn four_threads_put_and_look_40_000(rt: HostRuntime) -> Result<(), Fail> {
     let alloc = rt.alloc();
-    let seats = make_seats(alloc, 4)?;
+    let seats = make_seats(alloc, 4, 4)?;
     share_the_work::<Brand, _>(&rt, alloc, &OpenGate, seats)
 }

@@ -1,9 +1,10 @@
 // Four clients of one cache, each on a thread of its own.
-ghost use Rattle.std.specs.Prelude.{◌≡◌, ◌≤◌, length};
-ghost use Rattle.pequod_cache.specs.Sitting.{AreOf, AreOfParts, AreWriters};
+ghost use Rattle.std.specs.Prelude.{◌≤◌};
+ghost use Rattle.cache_trials.specs.Seated.{AreSeats};
 
 use crate::asking::{Ask, FIRST_JOINS, TABLES, position_told};
 use crate::checking::{Afresh, Answered, expect_ascending};
+use crate::seated::make_seats;
 use base_shards::Naming;
 use pequod_cache::{Cache, ClientService, Seats};
 use pq_io::OpenGate;
@@ -122,12 +123,7 @@ fn begin<'a, 'g, N: Naming, R: Wait + Abort>(
     seats: Seats,
     rows: u64,
 ) -> Result<Vec<Talk<ClientService<'a, 'g, R, N, OpenGate>>>, Fail>
-    requires named { seats.history ≡ N.history }
-    requires clients { AreWriters N.history (length seats.clients.items) seats.clients.items }
-    requires shards { AreOfParts N.history seats.shards.items }
-    requires cells { AreOf N.history (length seats.cells.items) seats.cells.items }
-    requires some_cells { 1 ≤ length seats.cells.items }
-    requires few_cells { length seats.cells.items ≤ 65536 }
+    requires seats { AreSeats N.history seats }
     requires some_rows { 1 ≤ rows }
 {
     let mut talks = Vec::new(alloc);
@@ -230,12 +226,7 @@ fn hold<N: Naming + Send + Sync, R: Threads + Wait + Abort + Sync>(
     rows: u64,
     asked: Asked,
 ) -> Result<(), Fail>
-    requires named { seats.history ≡ N.history }
-    requires clients { AreWriters N.history (length seats.clients.items) seats.clients.items }
-    requires shards { AreOfParts N.history seats.shards.items }
-    requires cells { AreOf N.history (length seats.cells.items) seats.cells.items }
-    requires some_cells { 1 ≤ length seats.cells.items }
-    requires few_cells { length seats.cells.items ≤ 65536 }
+    requires seats { AreSeats N.history seats }
     requires some_rows { 1 ≤ rows }
 {
     let talks = begin::<N, R>(rt, alloc, gate, seats, rows)?;
@@ -254,7 +245,7 @@ fn hold<N: Naming + Send + Sync, R: Threads + Wait + Abort + Sync>(
 #[test]
 fn few_cells_and_rows(rt: HostRuntime) -> Result<(), Fail> {
     let alloc = rt.alloc();
-    let seats = Seats::make(alloc, CLIENTS, 3)?;
+    let seats = make_seats(alloc, CLIENTS, 3)?;
     let asked = Asked {
         count: 20_000,
         per_look_back: 512,
@@ -267,7 +258,7 @@ fn few_cells_and_rows(rt: HostRuntime) -> Result<(), Fail> {
 #[test]
 fn many_cells_and_rows(rt: HostRuntime) -> Result<(), Fail> {
     let alloc = rt.alloc();
-    let seats = Seats::make(alloc, CLIENTS, 64)?;
+    let seats = make_seats(alloc, CLIENTS, 64)?;
     let asked = Asked {
         count: 5_000,
         per_look_back: 128,
@@ -281,7 +272,7 @@ fn many_cells_and_rows(rt: HostRuntime) -> Result<(), Fail> {
 #[test]
 fn more_entries_than_are_kept(rt: HostRuntime) -> Result<(), Fail> {
     let alloc = rt.alloc();
-    let seats = Seats::make(alloc, CLIENTS, 64)?;
+    let seats = make_seats(alloc, CLIENTS, 64)?;
     let asked = Asked {
         count: 100,
         per_look_back: 16,

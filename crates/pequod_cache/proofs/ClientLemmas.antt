@@ -1,11 +1,12 @@
 -- A client between calls, and the passes of new ones.
-use Rattle.std.proofs.Common.{◌≡◌, ℕ, zero, suc, ◌+◌, ◌-◌, ◌<◌, Option, Some, List, [], ◌∷◌, ◌++◌, length, get_or, refl, ap, sym, ◌∙◌, subst, arith}
-use Rattle.std.specs.Prelude.{slice_get}
+use Rattle.std.proofs.Common.{◌≡◌, ℕ, ◌+◌, ◌-◌, ◌<◌, Option, Some, Result, Ok, Err, IfOk, List, [], ◌∷◌, ◌++◌, length, get_or, refl, ap, sym, ◌∙◌, subst, arith}
+use Rattle.std.specs.Prelude.{slice_get, IsOkAnd}
 use Rattle.std.proofs.lemmas.List.{length-append}
 use Rattle.std.proofs.lemmas.Option.{same_Some}
+use Rattle.semantics.specs.Histories.{IsPrefix}
 use Rattle.semantics.proofs.EnteredLemmas.{AllEntered-nil}
 use Rattle.growing_history.proofs.PrefixLemmas.{prefix_trans}
-use Rattle.write_history.specs.Passes.{HistoryId, PassView, GoesOn, new_pass}
+use Rattle.write_history.specs.Passes.{HistoryId, PassView, GoesOn, new_pass, own}
 use Rattle.write_history.specs.Marks.{IsLow}
 use Rattle.write_history.specs.declared.known.Mark.{Mark}
 use Rattle.write_history.specs.declared.known.Mark.TheVariants.{Free, Pinned}
@@ -14,7 +15,7 @@ use Rattle.write_history.specs.Entries.{IsRecorded}
 use Rattle.base_shards.specs.Reading.{ReadsOn}
 use Rattle.base_shards.proofs.ReadingLemmas.{reads_on-refl}
 use Rattle.join_set.specs.Sets.{Joins}
-use Rattle.pequod_cache.specs.Clients.{KeepsJoins, IsClient, IsUpdater}
+use Rattle.pequod_cache.specs.Clients.{KeepsJoins, IsSeated, IsClient, pass_of}
 use Rattle.pequod_cache.specs.Sitting.{AreWriters, IsFresh}
 use Rattle.pequod_cache.proofs.JoinsLemmas.{keeps_longer}
 
@@ -59,86 +60,90 @@ pinned_goes_on old looked new n free goes on = record {
   low = tt;
 }
 
--- ---- a client between calls
+-- ---- a pass and joins between calls
 
--- its pass is not pinned
-pub client_is_free : (history : HistoryId) (pass : Option PassView) (old : PassView) (joins : Joins) → IsClient history pass joins → pass ≡ Some old → old.mark ≡ Free
-client_is_free history pass old joins client is = subst (λ (p : PassView). p.mark ≡ Free) (same_Some client.has old (sym client.is ∙ is)) client.free
+-- the pass is not pinned
+pub is_free : (history : HistoryId) (pass : Option PassView) (old : PassView) (joins : Joins) → IsSeated history pass joins → pass ≡ Some old → old.mark ≡ Free
+is_free history pass old joins seated is = subst (λ (p : PassView). p.mark ≡ Free) (same_Some seated.has old (sym seated.is ∙ is)) seated.free
 
 -- and may have seen what it has
-pub client_is_recorded : (history : HistoryId) (pass : Option PassView) (old : PassView) (joins : Joins) → IsClient history pass joins → pass ≡ Some old → IsRecorded old.writers old.view
-client_is_recorded history pass old joins client is = subst (λ (p : PassView). IsRecorded p.writers p.view) (same_Some client.has old (sym client.is ∙ is)) client.recorded
+pub is_recorded : (history : HistoryId) (pass : Option PassView) (old : PassView) (joins : Joins) → IsSeated history pass joins → pass ≡ Some old → IsRecorded old.writers old.view
+is_recorded history pass old joins seated is = subst (λ (p : PassView). IsRecorded p.writers p.view) (same_Some seated.has old (sym seated.is ∙ is)) seated.recorded
 
 -- so it goes on where nothing is done
-pub client_goes_nowhere : (history : HistoryId) (pass : Option PassView) (old : PassView) (joins : Joins) → IsClient history pass joins → pass ≡ Some old → GoesOn old old
-client_goes_nowhere history pass old joins client is = free_goes_on old old (client_is_free history pass old joins client is) (client_is_recorded history pass old joins client is) (reads_on-refl old)
+pub goes_nowhere : (history : HistoryId) (pass : Option PassView) (old : PassView) (joins : Joins) → IsSeated history pass joins → pass ≡ Some old → GoesOn old old
+goes_nowhere history pass old joins seated is = free_goes_on old old (is_free history pass old joins seated is) (is_recorded history pass old joins seated is) (reads_on-refl old)
 
--- it has other joins, which its pass has seen
-client_has : (history : HistoryId) (pass : Option PassView) (now : PassView) (before joins : Joins) → IsClient history pass before → pass ≡ Some now → KeepsJoins joins now.view → IsClient history (Some now) joins
-client_has history pass now before joins client is kept =
-    let same : client.has ≡ now = same_Some client.has now (sym client.is ∙ is) in
-    record {
-      has = now;
-      is = refl;
-      same_history = subst (λ (p : PassView). p.history ≡ history) same client.same_history;
-      writer = subst (λ (p : PassView). p.number < p.writers) same client.writer;
-      free = subst (λ (p : PassView). p.mark ≡ Free) same client.free;
-      recorded = subst (λ (p : PassView). IsRecorded p.writers p.view) same client.recorded;
-      kept = kept;
-    }
-
--- with a pass that has gone on
-pub client_goes_on : (history : HistoryId) (pass : Option PassView) (old new : PassView) (joins : Joins) → IsClient history pass joins → pass ≡ Some old → GoesOn old new → IsClient history (Some new) joins
-client_goes_on history pass old new joins client is goes =
-    let same : client.has ≡ old = same_Some client.has old (sym client.is ∙ is) in
-    record {
-      has = new;
-      is = refl;
-      same_history = goes.same_history ∙ sym (ap (λ (p : PassView). p.history) same) ∙ client.same_history;
-      writer = omega (arith, goes.same_number, goes.same_writers, client.writer, ap (λ (p : PassView). p.number) same, ap (λ (p : PassView). p.writers) same);
-      free = goes.same_mark ∙ client_is_free history pass old joins client is;
-      recorded = goes.recorded;
-      kept = keeps_longer joins old.view new.view goes.begins (subst (λ (p : PassView). KeepsJoins joins p.view) same client.kept);
-    }
-
--- with a pass that looked, was pinned there, read on and is not pinned any more, and with joins that were brought where it looked
-pub client_reads_on : (history : HistoryId) (pass : Option PassView) (old looked new : PassView) (n : ℕ) (before joins : Joins) → IsClient history pass before → pass ≡ Some old →
-    GoesOn (record old { mark = Pinned n }) looked → KeepsJoins joins looked.view → ReadsOn looked new → IsClient history (Some (record new { mark = Free })) joins
-client_reads_on history pass old looked new n before joins client is goes kept on =
-    let now : PassView = record new { mark = Free } in
-    client_has history (Some now) now before joins
-    (client_goes_on history pass old now before client is (pinned_goes_on old looked new n (client_is_free history pass old before client is) goes on)) refl
-    (keeps_longer joins looked.view new.view on.begins kept)
-
--- with a pass that looked alone
-pub client_stays : (history : HistoryId) (pass : Option PassView) (old looked : PassView) (before joins : Joins) → IsClient history pass before → pass ≡ Some old →
-    GoesOn old looked → KeepsJoins joins looked.view → IsClient history (Some looked) joins
-client_stays history pass old looked before joins client is goes kept = client_has history (Some looked) looked before joins (client_goes_on history pass old looked before client is goes) refl kept
-
--- ---- an updater between calls
-
--- its pass is not pinned
-pub updater_is_free : (history : HistoryId) (pass : Option PassView) (old : PassView) (joins : Joins) → IsUpdater history pass joins → pass ≡ Some old → old.mark ≡ Free
-updater_is_free history pass old joins updater is = subst (λ (p : PassView). p.mark ≡ Free) (same_Some updater.has old (sym updater.is ∙ is)) updater.free
-
--- with a pass that looked alone
-pub updater_stays : (history : HistoryId) (pass : Option PassView) (old looked : PassView) (before joins : Joins) → IsUpdater history pass before → pass ≡ Some old →
-    GoesOn old looked → KeepsJoins joins looked.view → IsUpdater history (Some looked) joins
-updater_stays history pass old looked before joins updater is goes kept = record {
-  has = looked;
+-- a pass that has gone on, and joins up to a declaration or drop in what it has seen since
+pub seated_still : (history : HistoryId) (pass : Option PassView) (old new : PassView) (before joins : Joins) → IsSeated history pass before → pass ≡ Some old → GoesOn old new → KeepsJoins joins new.view →
+    IsSeated history (Some new) joins
+seated_still history pass old new before joins seated is goes kept = record {
+  has = new;
   is = refl;
-  same_history = goes.same_history ∙ sym (ap (λ (p : PassView). p.history) (same_Some updater.has old (sym updater.is ∙ is))) ∙ updater.same_history;
-  free = goes.same_mark ∙ updater_is_free history pass old before updater is;
+  same_history = goes.same_history ∙ sym (ap (λ (p : PassView). p.history) (same_Some seated.has old (sym seated.is ∙ is))) ∙ seated.same_history;
+  free = goes.same_mark ∙ is_free history pass old before seated is;
   recorded = goes.recorded;
   kept = kept;
 }
 
--- with a pass that looked, was pinned there, read on and is not pinned any more, and with joins that were brought where it looked
-pub updater_reads_on : (history : HistoryId) (pass : Option PassView) (old looked new : PassView) (n : ℕ) (before joins : Joins) → IsUpdater history pass before → pass ≡ Some old →
-    GoesOn (record old { mark = Pinned n }) looked → KeepsJoins joins looked.view → ReadsOn looked new → IsUpdater history (Some (record new { mark = Free })) joins
-updater_reads_on history pass old looked new n before joins updater is goes kept on =
-    updater_stays history pass old (record new { mark = Free }) before joins updater is (pinned_goes_on old looked new n (updater_is_free history pass old before updater is) goes on)
-    (keeps_longer joins looked.view new.view on.begins kept)
+-- what is true of a pass that looked, was pinned there, read on and is not pinned any more, and of joins: it has gone on from what it was seen as, has written nothing, saw on the way what it had seen where it looked, and is seated with the joins
+pub record IsBack (history : HistoryId) (now looked new : PassView) (joins : Joins) : Type 0 where
+  pub goes_on : GoesOn now new
+  pub own : own new ≡ own now
+  pub before : IsPrefix now.view looked.view
+  pub after : IsPrefix looked.view new.view
+  pub seated : IsSeated history (Some new) joins
+
+-- it is true of such a pass with the joins that were brought where it looked
+pub returned : (history : HistoryId) (pass : Option PassView) (now had looked done new : PassView) (n : ℕ) (before joins : Joins) → IsSeated history pass before → pass ≡ Some had → pass_of history pass ≡ now →
+    GoesOn (record had { mark = Pinned n }) looked → own looked ≡ own had → KeepsJoins joins looked.view → ReadsOn looked done → new ≡ record done { mark = Free } → IsBack history now looked new joins
+returned history pass now had looked done new n before joins seated is view goes mine kept on unpinned =
+    let same : had ≡ now = sym (ap (λ (o : Option PassView). pass_of history o) is) ∙ view in
+    let gone : GoesOn had new =
+    subst (λ (p : PassView). GoesOn had p) (sym unpinned) (pinned_goes_on had looked done n (is_free history pass had before seated is) goes on) in
+    record {
+      goes_on = subst (λ (p : PassView). GoesOn p new) same gone;
+      own = ap (λ (p : PassView). own p) unpinned ∙ on.own ∙ mine ∙ ap (λ (p : PassView). own p) same;
+      before = subst (λ (p : PassView). IsPrefix p.view looked.view) same goes.begins;
+      after = subst (λ (p : PassView). IsPrefix looked.view p.view) (sym unpinned) on.begins;
+      seated = seated_still history pass had new before joins seated is gone
+          (subst (λ (p : PassView). KeepsJoins joins p.view) (sym unpinned) (keeps_longer joins looked.view done.view on.begins kept));
+    }
+
+-- ---- a client between calls
+
+-- its pass may write still, once it has gone on
+pub client_still : (history : HistoryId) (pass : Option PassView) (now new : PassView) (before joins : Joins) → IsClient history pass before → pass_of history pass ≡ now → GoesOn now new →
+    IsSeated history (Some new) joins → IsClient history (Some new) joins
+client_still history pass now new before joins client view goes seated =
+    let had : client.seated.has ≡ now = sym (ap (λ (o : Option PassView). pass_of history o) client.seated.is) ∙ view in
+    let has : seated.has ≡ new = same_Some seated.has new (sym seated.is) in
+    record {
+      seated = seated;
+      writer = omega (arith, client.writer, goes.same_number, goes.same_writers, ap (λ (p : PassView). p.number) had, ap (λ (p : PassView). p.writers) had, ap (λ (p : PassView). p.number) has, ap (λ (p : PassView). p.writers) has);
+    }
+
+-- with a pass that looked alone, and with joins that it has seen
+pub client_stays : (history : HistoryId) (pass : Option PassView) (old new : PassView) (before joins : Joins) → IsClient history pass before → pass ≡ Some old → GoesOn old new → KeepsJoins joins new.view →
+    IsClient history (Some new) joins
+client_stays history pass old new before joins client is goes kept =
+    client_still history pass old new before joins client (ap (λ (o : Option PassView). pass_of history o) is) goes (seated_still history pass old new before joins client.seated is goes kept)
+
+-- with a pass that has gone on, and with the same joins
+pub client_goes_on : (history : HistoryId) (pass : Option PassView) (old new : PassView) (joins : Joins) → IsClient history pass joins → pass ≡ Some old → GoesOn old new → IsClient history (Some new) joins
+client_goes_on history pass old new joins client is goes =
+    let same : client.seated.has ≡ old = same_Some client.seated.has old (sym client.seated.is ∙ is) in
+    client_stays history pass old new joins joins client is goes
+    (keeps_longer joins old.view new.view goes.begins (subst (λ (p : PassView). KeepsJoins joins p.view) same client.seated.kept))
+
+-- ---- what is made of what was found
+
+-- what is made of what a call found, with what is true of that
+pub made_of_found : {X Y E F : Type 0} (found : Result X E) (made : Result Y F) (P : X → Type 0) (Q : X → Y → Type 0) (S : Y → Type 0) → IfOk found P → ((x : X) (y : Y) → P x → Q x y → S y) →
+    IfOk made (λ y. IsOkAnd found (λ x. Q x y)) → IfOk made S
+made_of_found found (Err e) P Q S exact gives is = tt
+made_of_found (Err e) (Ok y) P Q S exact gives is = absurd is
+made_of_found (Ok x) (Ok y) P Q S exact gives is = gives x y exact is
 
 -- ---- passes of new clients
 

@@ -4,7 +4,7 @@ use Rattle.std.specs.List.{AllByRecursion}
 use Rattle.std.proofs.lemmas.List.{length-append}
 use Rattle.std.proofs.lemmas.Option.{same_Some}
 use Rattle.write_history.specs.Passes.{HistoryId, PassView, new_pass}
-use Rattle.write_history.specs.declared.known.Mark.TheVariants.{Free, Noted}
+use Rattle.write_history.specs.declared.known.Mark.TheVariants.{Noted}
 use Rattle.write_history.proofs.Marking.{first_free, first_noted}
 use Rattle.pequod_cache.proofs.ClientLemmas.{at_seam}
 use Rattle.pequod_cache.specs.Sitting.{AreOf, AreOfParts, AreWriters, IsFresh}

@@ -5,6 +5,7 @@ use Rattle.semantics.specs.Histories.{History, IsPrefix}
 use Rattle.semantics.specs.States.{state}
 use Rattle.join_set.specs.Sets.{Joins, AreJoins}
 use Rattle.write_history.specs.Entries.{IsRecorded}
+use Rattle.write_history.specs.Marks.{before}
 use Rattle.write_history.specs.Passes.{HistoryId, PassView, new_pass}
 use Rattle.write_history.specs.declared.known.Mark.TheVariants.{Free}
 use Rattle.protocol.specs.Requests.{Earlier}
@@ -16,29 +17,24 @@ abbrev pub pass_of : HistoryId → Option PassView → PassView
 pass_of history (Some pass) = pass
 pass_of history None = new_pass history 0
 
--- the joins are those that stood when the last of them had been declared or dropped, which the pass has seen
+-- the joins are those that stood when the last of them had been declared or dropped, which the pass has seen; of dropped ones they tell from where a pin at all that it has seen reaches
 pub record KeepsJoins (joins : Joins) (view : History) : Type 0 where
   pub within : joins.changed ≤ length view
-  pub are : AreJoins 0 joins (take joins.changed view)
+  pub are : AreJoins (before (length view)) joins (take joins.changed view)
 
--- the client has a pass of the history, which may write, is not pinned and may have seen what it has, and the joins up to a declaration or drop in that
+-- there is a pass of the history, which is not pinned and may have seen what it has, and the joins up to a declaration or drop in that
+pub record IsSeated (history : HistoryId) (pass : Option PassView) (joins : Joins) : Type 0 where
+  pub has : PassView
+  pub is : pass ≡ Some has
+  pub same_history : has.history ≡ history
+  pub free : has.mark ≡ Free
+  pub recorded : IsRecorded has.writers has.view
+  pub kept : KeepsJoins joins has.view
+
+-- the pass of a client may write besides
 pub record IsClient (history : HistoryId) (pass : Option PassView) (joins : Joins) : Type 0 where
-  pub has : PassView
-  pub is : pass ≡ Some has
-  pub same_history : has.history ≡ history
-  pub writer : has.number < has.writers
-  pub free : has.mark ≡ Free
-  pub recorded : IsRecorded has.writers has.view
-  pub kept : KeepsJoins joins has.view
-
--- the updater has a pass of the history, which is not pinned and may have seen what it has, and the joins up to a declaration or drop in that
-pub record IsUpdater (history : HistoryId) (pass : Option PassView) (joins : Joins) : Type 0 where
-  pub has : PassView
-  pub is : pass ≡ Some has
-  pub same_history : has.history ≡ history
-  pub free : has.mark ≡ Free
-  pub recorded : IsRecorded has.writers has.view
-  pub kept : KeepsJoins joins has.view
+  pub seated : IsSeated history pass joins
+  pub writer : seated.has.number < seated.has.writers
 
 -- a range was read after all entries that the client had seen, and others that it saw then
 pub record IsFound (before after : PassView) (range : Range) (position : ℕ) (pairs : Table) : Type 0 where

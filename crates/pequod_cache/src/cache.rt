@@ -2,6 +2,7 @@
 ghost use Rattle.std.specs.Prelude.{◌≡◌, ℕ, ◌<◌, ◌≤◌, length, slice_get, IfOk, OnErr, OnOk, Some};
 ghost use Rattle.std.specs.Arc.{arc_value};
 ghost use Rattle.join_set.specs.Sets.{AreJoins};
+ghost use Rattle.write_history.specs.Marks.{reach};
 ghost use Rattle.write_history.specs.Passes.{GoesOn, new_pass, own};
 ghost use Rattle.write_history.specs.declared.known.Mark.TheVariants.{Free, Pinned};
 ghost use Rattle.pequod_cache.specs.Clients.{KeepsJoins};
@@ -149,7 +150,7 @@ impl<N: Naming> Cache<N> {
         ensures own { own pass.new ≡ own pass.old }
         ensures length { IfOk result (λ position. position ≡ length pass.new.view) }
         ensures kept { KeepsJoins joins.new pass.new.view }
-        ensures brought { OnOk result (AreJoins 0 joins.new pass.new.view) }
+        ensures brought { OnOk result (AreJoins (reach pass.new.mark) joins.new pass.new.view) }
         ensures unchanged { OnErr result (joins.new ≡ joins.old) }
     {
         let looked = self.history.look_joins(rt, pass, joins.changed_at())?;

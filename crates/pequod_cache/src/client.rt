@@ -1,5 +1,5 @@
 // A client of the cache.
-ghost use Rattle.std.specs.Prelude.{◌≡◌, ◌≢◌, ◌<◌, ◌∷◌, [], IfOk};
+ghost use Rattle.std.specs.Prelude.{◌≡◌, ◌≢◌, ◌<◌, ◌∷◌, [], IfOk, IsOkAnd};
 ghost use Rattle.semantics.specs.Histories.{put, remove, declare, drop_join};
 ghost use Rattle.semantics.specs.Answers.{get, scan};
 ghost use Rattle.protocol.specs.Requests.{write, read, earlier, scan_at, changes_since};
@@ -47,6 +47,16 @@ pub struct Found {
     pub position: u64,
     /// The pairs, in key order.
     pub pairs: Vec<Pair>,
+}
+
+/// The pairs that were found after so many entries, with their number.
+fn found_at(position: u64, pairs: Result<Vec<Pair>, OutOfMemory>) -> Result<Found, OutOfMemory>
+    ensures { IfOk result (λ found. IsOkAnd pairs (λ those. (found.position ≡ position) × (found.pairs.items ≡ those.items))) }
+{
+    Ok(Found {
+        position,
+        pairs: pairs?,
+    })
 }
 
 /// One client of a cache: a pass of the write history, and the joins up to a declaration or drop that it has seen. Contracts
@@ -214,13 +224,11 @@ impl<'g, N: Naming, G: Gate> Client<'g, N, G> {
         let cells = &self.cache.cells;
         let reading = cells.read(rt, pass, joins, position, range, self.gate, &mut steps);
         let Reading { pass, found } = reading;
+        let found = found_at(position, found);
         let mut pass = pass;
         self.cache.history.unpin(rt, &mut pass);
         self.pass = Some(pass);
-        Ok(Found {
-            position,
-            pairs: found?,
-        })
+        found
     }
 
     /// The pair at the key in the state after all entries that the history has now: `Found` or `Absent` with their number, or
@@ -260,19 +268,20 @@ impl<'g, N: Naming, G: Gate> Client<'g, N, G> {
         }
     }
 
-    /// Asks about an earlier position of the range, which is read there or from there on: it looks first, brings its joins there, and
-    /// is pinned there while it reads.
+    /// Asks a question about an earlier position: it looks, brings its joins to where it looked, is pinned there while the question is
+    /// answered, and lets go of the pin. The counter is one that nobody looks at.
     fn ask_counted<L: Ledger, R: Wait>(
         &mut self,
         rt: &R,
         range: &Range,
         question: Question,
+        at: u64,
         blank: Blank,
     ) -> Result<Reply, OutOfMemory>
         requires name { blank.name ≡ L.name }
         requires parts { blank.parts ≡ L.parts }
         requires some { 0 < blank.parts }
-        ensures replied { IfOk result (λ reply. IsReplied self.old self.new (asked question range.now) (plain_reply reply)) }
+        ensures replied { IfOk result (λ reply. IsReplied self.old self.new (asked question range.now at) (plain_reply reply)) }
         ensures goes_on { GoesOn self.old self.new }
         ensures own { own self.new ≡ own self.old }
     {
@@ -288,13 +297,24 @@ impl<'g, N: Naming, G: Gate> Client<'g, N, G> {
         let joins = &self.joins;
         let cache = &self.cache;
         let told = cache.ask(
-            rt, pass, joins, position, question, range, self.gate, &mut steps,
+            rt, pass, joins, position, question, at, range, self.gate, &mut steps,
         );
         let ToldBack { pass, reply } = told;
         let mut pass = pass;
         self.cache.history.unpin(rt, &mut pass);
         self.pass = Some(pass);
         reply
+    }
+
+    /// What the client is told of a question about an earlier position.
+    fn ask<R: Wait>(&mut self, rt: &R, range: &Range, question: Question, at: u64) -> Reply
+        ensures told { Told self.old.view self.new.view self.old.number (earlier (asked question range.now at) ∷ []) (plain_reply result ∷ []) }
+        ensures goes_on { GoesOn self.old self.new }
+    {
+        match self.ask_counted::<Brand, R>(rt, range, question, at, Blank::new(1)) {
+            Ok(reply) => reply,
+            Err(OutOfMemory) => Reply::Memory,
+        }
     }
 
     /// The pairs of the range in the state after the first so many entries: `Pairs` with that number, `Gone` exactly where there are
@@ -306,11 +326,7 @@ impl<'g, N: Naming, G: Gate> Client<'g, N, G> {
         ensures told { Told self.old.view self.new.view self.old.number (earlier (scan_at range.now at) ∷ []) (plain_reply result ∷ []) }
         ensures goes_on { GoesOn self.old self.new }
     {
-        let question = Question::ScanAt(at);
-        match self.ask_counted::<Brand, R>(rt, range, question, Blank::new(1)) {
-            Ok(reply) => reply,
-            Err(OutOfMemory) => Reply::Memory,
-        }
+        self.ask(rt, range, Question::Pairs, at)
     }
 
     /// What changed in the range from the state after the first so many entries to the one after all that the history has now:
@@ -319,11 +335,7 @@ impl<'g, N: Naming, G: Gate> Client<'g, N, G> {
         ensures told { Told self.old.view self.new.view self.old.number (earlier (changes_since range.now from) ∷ []) (plain_reply result ∷ []) }
         ensures goes_on { GoesOn self.old self.new }
     {
-        let question = Question::ChangesSince(from);
-        match self.ask_counted::<Brand, R>(rt, range, question, Blank::new(1)) {
-            Ok(reply) => reply,
-            Err(OutOfMemory) => Reply::Memory,
-        }
+        self.ask(rt, range, Question::Changes, from)
     }
 
     /// Answers a request other than `Quit`, as the call for it does.

@@ -3,7 +3,7 @@
 // The layers above may use `Seats`, `Cache::make`, `Cache::make_with_updater`, `Client`, `ClientService` and `Updater`:
 // contracts see a client as its pass of the write history, that is, its number and what it has seen, and an updater as its pass
 // too. Whatever the other clients do meanwhile, each reply is what evaluating the declared joins afresh gives after the entries
-// that it names. `LoneClient` is for a cache with one client: contracts see it as the history, and as an `OnlyWriter` it tells
+// that it names, or says that the position asked for lies ahead or too far back. `LoneClient` is for a cache with one client: contracts see it as the history, and as an `OnlyWriter` it tells
 // that it alone has written.
 #![tactic(auto)]
 

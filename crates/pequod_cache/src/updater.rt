@@ -31,13 +31,13 @@ pub struct Updater<'g, N: Naming, G> {
 
 impl<'g, N: Naming, G> Model for Updater<'g, N, G> {
     ghost use Rattle.write_history.specs.Passes.{PassView};
-    ghost use Rattle.pequod_cache.specs.Clients.{IsUpdater, pass_of};
+    ghost use Rattle.pequod_cache.specs.Clients.{IsSeated, pass_of};
 
     ghost Value = { PassView };
 
     ghost view = { λ u. pass_of N.history u.pass };
 
-    ghost invariant = { λ u. IsUpdater N.history u.pass u.joins };
+    ghost invariant = { λ u. IsSeated N.history u.pass u.joins };
 }
 
 impl<'g, N: Naming, G> Updater<'g, N, G> {

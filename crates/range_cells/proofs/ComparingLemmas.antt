@@ -1,24 +1,31 @@
 -- The changes between two tables, pair by pair.
-use Rattle.std.proofs.Common.{◌≡◌, ◌⊎◌, ℕ, ◌+◌, ◌<◌, ◌≤◌, Bool, true, false, cond, not, List, [], ◌∷◌, ◌++◌, map, filter, take, drop, get_or, length, Option, Some, None, refl, sym, ap, ◌∙◌, subst, inl, inr, append_assoc, append-nil, Ordering, Less, Equal, Greater}
+use Rattle.std.proofs.Common.{◌≡◌, ◌⊎◌, ℕ, ◌+◌, ◌<◌, ◌≤◌, Bool, true, false, cond, not, List, [], ◌∷◌, ◌++◌, map, filter, take, drop, get_or, length, Option, Some, None, refl, sym, ap, ◌∙◌, subst, inl, inr, append_assoc, append-nil, Ordering, Less, Equal, Greater, is_lt}
 use Rattle.std.specs.Prelude.{if◌then◌else◌}
+use Rattle.std.specs.FinMap.Entries.{is_sorted, below_all}
+use Rattle.std.specs.List.{AllByRecursion}
+use Rattle.std.specs.List.Sorted.{IsStrictlySortedBy}
 use Rattle.std.specs.Option.{option_or}
-use Rattle.std.proofs.lemmas.Bool.{and_parts}
+use Rattle.std.specs.Ordering.{ordering_reverse}
+use Rattle.std.proofs.lemmas.Bool.{and_from, and_parts, false≢true}
 use Rattle.std.proofs.lemmas.List.{drop_more, drop_all, take_more, map-append}
-use Rattle.semantics.specs.Texts.{Text, text_cmp, same, Table, value_at}
+use Rattle.semantics.specs.Texts.{Text, text_cmp, same, Table, value_at, pairs_within}
 use Rattle.semantics.specs.States.{merged}
 use Rattle.semantics.proofs.PieceLemmas.{equal_by_same, same_by_equal}
 use Rattle.semantics.proofs.MemberLemmas.{Has}
-use Rattle.semantics.proofs.TableLemmas.{IsAscending, equal_by_tie, value_at_here, value_at_later}
-use Rattle.semantics.proofs.MergedLemmas.{ascending-merged, ascending-tail, value_at-merged}
+use Rattle.semantics.proofs.TableLemmas.{IsAscending, equal_by_tie, same_tables, text_total, tie_itself, value_at_here, value_at_later}
+use Rattle.semantics.proofs.MergedLemmas.{ascending-merged, ascending-pairs_within, ascending-tail, value_at-merged, value_at-pairs_within}
+use Rattle.key_ranges.specs.Ranges.{just}
+use Rattle.key_ranges.proofs.PrefixLemmas.{within-just}
 use Rattle.growing_history.proofs.ChangeLemmas.{below_keys}
 use Rattle.growing_history.proofs.ElementLemmas.{has_of_all}
+use Rattle.growing_history.proofs.SortedLemmas.{never_less}
 use Rattle.layering.specs.MergeLaws.{begins_merged}
 use Rattle.layering.proofs.MergeLemmas.{merged_into_nothing}
 use Rattle.layering.proofs.StepLemmas.{merged_stepwise}
 use Rattle.range_serving.proofs.MergingLemmas.{ascends-drop}
 use Rattle.state_changes.specs.StateChanges.{Change, same_value, differ_at, change_to, changes_among}
-use Rattle.state_changes.proofs.OrderLemmas.{never_less}
 use Rattle.state_changes.proofs.ChangeLemmas.{key_from_value, made_same}
+use Rattle.range_cells.specs.Asked.{pairs_at}
 use Rattle.range_cells.specs.Comparing.{changes_of, gone_pair, new_pair, change_of_both, begins_changes}
 
 -- the keys of a table
@@ -41,6 +48,14 @@ apart x key less = by (same key x) refl
   where
     by : (b : Bool) → same key x ≡ b → same key x ≡ false
     by true s = absurd (never_less x (subst (λ k. text_cmp x k ≡ Less) (equal_by_same key x s) less))
+    by false s = s
+
+-- nor is it where they are compared the other way round
+apart_back : (x key : Text) → same x key ≡ false → same key x ≡ false
+apart_back x key other = by (same key x) refl
+  where
+    by : (b : Bool) → same key x ≡ b → same key x ≡ false
+    by true s = absurd (false≢true (sym other ∙ same_by_equal x key (sym (equal_by_same key x s))))
     by false s = s
 
 -- at a key above the first one a table has what the others have
@@ -122,15 +137,22 @@ new_comes first next before after up other more =
     (changed_alike (keys (merged (first ∷ before) after)) (first ∷ before) (next ∷ after) (first ∷ before) after
     (λ key h. refl) (λ key h. value_above next after key (above_first next (merged (first ∷ before) after) ascends key h)))
 
--- whether two pairs at one key have the same value
-both_by : (b : Bool) (first next : Text × Text) (ks : List Text) (before after : Table) → value_at next.0 before ≡ Some first.1 → value_at next.0 after ≡ Some next.1 → same first.1 next.1 ≡ b →
-    changes_among (next.0 ∷ ks) before after ≡ change_of_both first next ++ changes_among ks before after
-both_by true first next ks before after at there is =
-    same_first next.0 ks before after (Some first.1) (Some next.1) at there is
-    ∙ sym (ap (λ b. (if b then [] else new_pair next ∷ []) ++ changes_among ks before after) is)
-both_by false first next ks before after at there is =
-    changed_first next.0 ks before after (Some first.1) (Some next.1) at there is
-    ∙ sym (ap (λ b. (if b then [] else new_pair next ∷ []) ++ changes_among ks before after) is)
+-- the change from one value at a key to another, if they are not one
+abbrev change_between : Text → Option Text → Option Text → List Change
+change_between key old new = if same_value old new then [] else record { key = key; value = new } ∷ []
+
+-- a key comes with the change there
+one_change : (key : Text) (ks : List Text) (before after : Table) (old new : Option Text) → value_at key before ≡ old → value_at key after ≡ new →
+    changes_among (key ∷ ks) before after ≡ change_between key old new ++ changes_among ks before after
+one_change key ks before after old new at there = by (same_value old new) refl
+  where
+    by : (b : Bool) → same_value old new ≡ b → changes_among (key ∷ ks) before after ≡ change_between key old new ++ changes_among ks before after
+    by true is =
+        same_first key ks before after old new at there is
+        ∙ sym (ap (λ b. (if b then [] else record { key = key; value = new } ∷ []) ++ changes_among ks before after) is)
+    by false is =
+        changed_first key ks before after old new at there is
+        ∙ sym (ap (λ b. (if b then [] else record { key = key; value = new } ∷ []) ++ changes_among ks before after) is)
 
 -- both tables have the key
 both_come : (first next : Text × Text) (before after : Table) → IsAscending (first ∷ before) → IsAscending (next ∷ after) → text_cmp first.0 next.0 ≡ Equal →
@@ -141,8 +163,8 @@ both_come first next before after up other tie =
     merged_stepwise first next before after up other ∙ ap (λ o. begins_merged o first before next after) tie in
     let ascends : IsAscending (next ∷ merged before after) = subst IsAscending both (ascending-merged (first ∷ before) (next ∷ after) up) in
     ap (λ table. changes_among (keys table) (first ∷ before) (next ∷ after)) both
-    ∙ both_by (same first.1 next.1) first next (keys (merged before after)) (first ∷ before) (next ∷ after)
-    (value_at_here next.0 first before (same_by_equal next.0 first.0 (sym one))) (value_at_here next.0 next after (same_by_equal next.0 next.0 refl)) refl
+    ∙ one_change next.0 (keys (merged before after)) (first ∷ before) (next ∷ after) (Some first.1) (Some next.1)
+    (value_at_here next.0 first before (same_by_equal next.0 first.0 (sym one))) (value_at_here next.0 next after (same_by_equal next.0 next.0 refl))
     ∙ ap (λ rest. change_of_both first next ++ rest)
     (changed_alike (keys (merged before after)) (first ∷ before) (next ∷ after) before after
     (λ key h. value_above first before key (subst (λ k. text_cmp k key ≡ Less) (sym one) (above_first next (merged before after) ascends key h)))
@@ -181,6 +203,92 @@ from_nothing (next ∷ after) up =
 -- all pairs have come where nothing was
 pub changes_from_nothing : (after : Table) → IsAscending after → changes_of [] after ≡ map new_pair after
 changes_from_nothing after up = ap (λ table. changes_among (keys table) [] after) (merged_into_nothing after up) ∙ from_nothing after up
+
+-- ---- tables at some keys
+
+-- what a table has at a key, as a table
+abbrev alone : Text → Option Text → Table
+alone key None = []
+alone key (Some value) = (key, value) ∷ []
+
+-- its keys ascend
+ascending-alone : (key : Text) (o : Option Text) → IsAscending (alone key o)
+ascending-alone key None = refl
+ascending-alone key (Some value) = refl
+
+-- at another key it has nothing
+value_at-alone : (q key : Text) (o : Option Text) → same q key ≡ false → value_at q (alone key o) ≡ None
+value_at-alone q key None other = refl
+value_at-alone q key (Some value) other = value_at_later q (key, value) [] other
+
+-- at its key it has what it is of
+value_at-key_alone : (key : Text) (o : Option Text) → value_at key (alone key o) ≡ o
+value_at-key_alone key None = refl
+value_at-key_alone key (Some value) = value_at_here key (key, value) [] (same_by_equal key key refl)
+
+-- in the range of just a key stands what the table has there
+just_alone : (key : Text) (table : Table) → IsAscending table → pairs_within (just key) table ≡ alone key (value_at key table)
+just_alone key table up =
+    same_tables (pairs_within (just key) table) (alone key (value_at key table)) (ascending-pairs_within (just key) table up) (ascending-alone key (value_at key table))
+    (λ q. value_at-pairs_within (just key) q table ∙ ap (λ b. cond b (value_at q table) None) (within-just key q) ∙ by q (same q key) refl)
+  where
+    by : (q : Text) (b : Bool) → same q key ≡ b → cond (same key q) (value_at q table) None ≡ value_at q (alone key (value_at key table))
+    by q true is =
+        let one : q ≡ key = equal_by_same q key is in
+        ap (λ b. cond b (value_at q table) None) (same_by_equal key q (sym one)) ∙ ap (λ k. value_at k table) one
+        ∙ sym (value_at-key_alone key (value_at key table)) ∙ ap (λ k. value_at k (alone key (value_at key table))) (sym one)
+    by q false is = ap (λ b. cond b (value_at q table) None) (apart_back q key is) ∙ sym (value_at-alone q key (value_at key table) is)
+
+-- the pairs at keys above a key are above it
+above_keys : (x : Text) (ks : List Text) (table : Table) → IsAscending table → AllByRecursion (λ key. text_cmp x key ≡ Less) ks → below_all text_cmp x (pairs_at ks table) ≡ true
+above_keys x [] table up all = refl
+above_keys x (key ∷ ks) table up all =
+    ap (λ first. below_all text_cmp x (first ++ pairs_at ks table)) (just_alone key table up) ∙ by (value_at key table) (above_keys x ks table up all.1)
+  where
+    by : (o : Option Text) → below_all text_cmp x (pairs_at ks table) ≡ true → below_all text_cmp x (alone key o ++ pairs_at ks table) ≡ true
+    by None rest = rest
+    by (Some value) rest = and_from (is_lt (text_cmp x key)) (below_all text_cmp x (pairs_at ks table)) (ap is_lt all.0) rest
+
+-- the pairs at ascending keys ascend
+pub ascending-pairs_at : (ks : List Text) (table : Table) → IsStrictlySortedBy text_cmp ks → IsAscending table → IsAscending (pairs_at ks table)
+unfolding IsStrictlySortedBy
+ascending-pairs_at [] table rise up = refl
+ascending-pairs_at (key ∷ ks) table rise up =
+    ap (λ first. is_sorted text_cmp (first ++ pairs_at ks table)) (just_alone key table up) ∙ by (value_at key table) (above_keys key ks table up rise.0) (ascending-pairs_at ks table rise.1 up)
+  where
+    by : (o : Option Text) → below_all text_cmp key (pairs_at ks table) ≡ true → IsAscending (pairs_at ks table) → IsAscending (alone key o ++ pairs_at ks table)
+    by None above rest = rest
+    by (Some value) above rest = and_from (below_all text_cmp key (pairs_at ks table)) (is_sorted text_cmp (pairs_at ks table)) above rest
+
+-- a first key that stands in one table or in both, below all others, comes with its change
+first_change : (key : Text) (old new : Option Text) (before after : Table) → ((value : Text) → IsAscending ((key, value) ∷ before)) → ((value : Text) → IsAscending ((key, value) ∷ after)) →
+    changes_of (alone key old ++ before) (alone key new ++ after) ≡ change_between key old new ++ changes_of before after
+first_change key None None before after up other = refl
+first_change key None (Some value) [] after up other =
+    changes_from_nothing ((key, value) ∷ after) (other value) ∙ ap (λ rest. new_pair (key, value) ∷ rest) (sym (changes_from_nothing after (ascending-tail (key, value) after (other value))))
+first_change key None (Some value) (first ∷ before) after up other =
+    new_comes first (key, value) before after (ascending-tail (key, value) (first ∷ before) (up value)) (other value)
+    (text_total.antisymm first.0 key ∙ ap ordering_reverse (above_first (key, value) (first ∷ before) (up value) first.0 (inl refl)))
+first_change key (Some value) None before [] up other =
+    changes_to_nothing ((key, value) ∷ before) (up value) ∙ ap (λ rest. gone_pair (key, value) ∷ rest) (sym (changes_to_nothing before (ascending-tail (key, value) before (up value))))
+first_change key (Some value) None before (next ∷ after) up other =
+    gone_comes (key, value) next before after (up value) (ascending-tail (key, value) (next ∷ after) (other value)) (above_first (key, value) (next ∷ after) (other value) next.0 (inl refl))
+first_change key (Some first) (Some next) before after up other = both_come (key, first) (key, next) before after (up first) (other next) (tie_itself key)
+
+-- the changes between what two tables have at ascending keys are those of the tables among these
+pub changes_at_keys : (ks : List Text) (before after : Table) → IsStrictlySortedBy text_cmp ks → IsAscending before → IsAscending after → changes_of (pairs_at ks before) (pairs_at ks after) ≡ changes_among ks before after
+unfolding IsStrictlySortedBy
+changes_at_keys [] before after rise up other = refl
+changes_at_keys (key ∷ ks) before after rise up other =
+    (λ i. changes_of (just_alone key before up i ++ pairs_at ks before) (just_alone key after other i ++ pairs_at ks after))
+    ∙ first_change key (value_at key before) (value_at key after) (pairs_at ks before) (pairs_at ks after)
+    (behind (pairs_at ks before) (above_keys key ks before up rise.0) (ascending-pairs_at ks before rise.1 up))
+    (behind (pairs_at ks after) (above_keys key ks after other rise.0) (ascending-pairs_at ks after rise.1 other))
+    ∙ ap (λ rest. change_between key (value_at key before) (value_at key after) ++ rest) (changes_at_keys ks before after rise.1 up other)
+    ∙ sym (one_change key ks before after (value_at key before) (value_at key after) refl refl)
+  where
+    behind : (table : Table) → below_all text_cmp key table ≡ true → IsAscending table → (value : Text) → IsAscending ((key, value) ∷ table)
+    behind table above ascends value = and_from (below_all text_cmp key table) (is_sorted text_cmp table) above ascends
 
 -- ---- what is left of two lists
 

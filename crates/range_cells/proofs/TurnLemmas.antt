@@ -1,5 +1,5 @@
 -- The rank of the join of a cell that is brought forward, and where a read reaches back to.
-use Rattle.std.proofs.Common.{◌≡◌, ℕ, ◌≤◌, take, Option, Some, sym, ap, subst}
+use Rattle.std.proofs.Common.{ℕ, ◌≤◌, take, Option, sym, ap, subst}
 use Rattle.semantics.specs.Histories.{History}
 use Rattle.join_set.specs.Sets.{Joins, AreJoins}
 use Rattle.write_history.specs.Marks.{reach}
@@ -11,10 +11,6 @@ use Rattle.cell_slots.specs.Slots.{IsRankIn, IsRankAt}
 -- the rank among the joins that stand after p entries is the one that the join has there
 pub rank_among : {floor : ℕ} (h : History) (p at : ℕ) (joins : Joins) (rank : Option ℕ) → AreJoins floor joins (take p h) → IsRankIn joins.standing at rank → IsRankAt h p at rank
 rank_among h p at joins rank are found = subst (λ js. IsRankIn js at rank) are.standing found
-
--- where the join has not the cell's own rank there, another is given
-pub other_rank : (h : History) (p at own : ℕ) (rank : Option ℕ) → IsRankAt h p at rank → (IsRankAt h p at (Some own) → ⊥) → rank ≡ Some own → ⊥
-other_rank h p at own rank is other same = other (subst (IsRankAt h p at) same is)
 
 -- a position that a pass reaches back to is not below where it reaches
 pub reaches_to : (pass : PassView) (p : ℕ) → ReachesBack pass p → reach pass.mark ≤ p

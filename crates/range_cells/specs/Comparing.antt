@@ -1,10 +1,10 @@
 -- The changes between two tables, pair by pair.
-use Rattle.std.specs.Prelude.{List, [], ◌∷◌, ◌++◌, map, if◌then◌else◌, Option, Some, None}
+use Rattle.std.specs.Prelude.{List, [], ◌∷◌, ◌++◌, map, if◌then◌else◌, Some, None}
 use Rattle.std.specs.declared.cmp.Ordering.{Ordering}
 use Rattle.std.specs.declared.cmp.Ordering.TheVariants.{Less, Equal, Greater}
-use Rattle.semantics.specs.Texts.{Text, same, Table, value_at}
+use Rattle.semantics.specs.Texts.{Text, same, Table}
 use Rattle.semantics.specs.States.{merged}
-use Rattle.state_changes.specs.StateChanges.{Change, same_value, changes_among}
+use Rattle.state_changes.specs.StateChanges.{Change, changes_among}
 
 -- the changes between two tables, at the keys of both
 abbrev pub changes_of : Table → Table → List Change
@@ -27,16 +27,3 @@ abbrev pub begins_changes : Ordering → Text × Text → Table → Text × Text
 begins_changes Less first before next after = gone_pair first ∷ changes_of before (next ∷ after)
 begins_changes Equal first before next after = change_of_both first next ++ changes_of before after
 begins_changes Greater first before next after = new_pair next ∷ changes_of (first ∷ before) after
-
--- the change from one value at a key to another, if they are not the same
-abbrev pub change_from : Text → Option Text → Option Text → Option Change
-change_from key old new = if same_value old new then None else Some (record { key = key; value = new })
-
--- the value of the first pair, if there is one
-abbrev pub first_value : Table → Option Text
-first_value [] = None
-first_value (pair ∷ pairs) = Some pair.1
-
--- the change at a key between two tables, if they have not the same pair there
-abbrev pub change_at : Text → Table → Table → Option Change
-change_at key before after = change_from key (value_at key before) (value_at key after)

@@ -3,6 +3,7 @@
 // The layer above may use `RangeCells`, whose calls may wait.
 #![tactic(auto)]
 
+mod asked;
 mod changing;
 mod comparing;
 pub mod range_cells;

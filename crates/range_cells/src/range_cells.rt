@@ -7,9 +7,12 @@ ghost use Rattle.semantics.specs.States.{state};
 ghost use Rattle.write_history.specs.Entries.{IsRecorded};
 ghost use Rattle.write_history.specs.Marks.{reach};
 ghost use Rattle.base_shards.specs.Reading.{ReachesBack, ReadsOn};
+ghost use Rattle.range_cells.specs.Asked.{pairs_asked};
 
+use crate::asked::read_asked;
 use crate::stack::Stack;
 use base_shards::{BaseShards, Naming};
+use join_eval::Changed;
 use join_set::JoinSet;
 use join_types::Pair;
 use key_space::Range;
@@ -104,16 +107,67 @@ impl<N: Naming> RangeCells<N> {
         ensures reads_on { ReadsOn pass result.pass }
         ensures counted { steps.old ≤ steps.new }
     {
-        self.cells.follow(rt, &self.shards, joins);
-        let room = Room {
+        let all = Changed::All;
+        self.read_asked(rt, pass, joins, p, range, &all, gate, steps)
+    }
+
+    /// What all layers of readers have in common that wait with this one and pass this gate.
+    pub(crate) fn room<'a, W, G>(&'a self, rt: &'a W, gate: &'a G) -> Room<'a, N, W, G> {
+        Room {
             alloc: self.alloc,
             rt,
             gate,
             cells: &self.cells,
-        };
+        }
+    }
+
+    /// A reader of all ranks over the cells, with a pinned pass, to read after the first p entries that it has seen. These are the
+    /// joins after them. Nothing is allocated.
+    pub(crate) fn stack<'a, W, G>(
+        &'a self,
+        room: &'a Room<'a, N, W, G>,
+        joins: &'a JoinSet,
+        p: u64,
+        pass: Pass,
+    ) -> Stack<'a, N, W, G>
+        requires same_history { pass.history ≡ N.history }
+        requires recorded { IsRecorded pass.writers pass.view }
+        requires within { p ≤ length pass.view }
+        requires pinned { ReachesBack pass p }
+        requires joins { AreJoins (reach pass.mark) joins.now (take p pass.view) }
+        ensures { result ≡ pass }
+    {
+        let rt = room.rt;
         let lowest = SharedReader::new(self.alloc, rt, &self.history, &self.shards, joins, p, pass);
-        let mut stack = Stack::new(&room, lowest);
-        let found = stack.read(p, range, steps);
+        Stack::new(room, lowest)
+    }
+
+    /// The pairs of the range in the state after the first p entries that the pass has seen, in key order: those at the keys that
+    /// may have changed, where it is said which, and otherwise all. As `read` besides.
+    pub(crate) fn read_asked<W: Wait, G: Gate, L: Ledger>(
+        &self,
+        rt: &W,
+        pass: Pass,
+        joins: &JoinSet,
+        p: u64,
+        range: &Range,
+        touched: &Changed,
+        gate: &G,
+        steps: &mut Steps<L>,
+    ) -> Reading
+        requires same_history { pass.history ≡ N.history }
+        requires recorded { IsRecorded pass.writers pass.view }
+        requires within { p ≤ length pass.view }
+        requires pinned { ReachesBack pass p }
+        requires joins { AreJoins (reach pass.mark) joins.now (take p pass.view) }
+        ensures exact { IfOk result.found (λ pairs. pairs.items ≡ pairs_asked touched.now range.now (state (take p pass.view))) }
+        ensures reads_on { ReadsOn pass result.pass }
+        ensures counted { steps.old ≤ steps.new }
+    {
+        self.cells.follow(rt, &self.shards, joins);
+        let room = self.room(rt, gate);
+        let mut stack = self.stack(&room, joins, p, pass);
+        let found = read_asked(self.alloc, &mut stack, p, range, touched, steps);
         let (pass, used) = stack.into_parts();
         self.cells.settle(rt, &self.shards, used.as_slice());
         Reading { pass, found }

@@ -1,23 +1,22 @@
 // Bringing kept ranges forward, one at a time.
-ghost use Rattle.std.specs.Prelude.{◌≡◌, ◌≤◌, length, take, Some};
+ghost use Rattle.std.specs.Prelude.{◌≡◌, ◌≤◌, length, take, IfSome};
 ghost use Rattle.join_set.specs.Sets.{AreJoins};
 ghost use Rattle.write_history.specs.Entries.{IsRecorded};
 ghost use Rattle.write_history.specs.Marks.{reach};
 ghost use Rattle.base_shards.specs.Reading.{ReachesBack, ReadsOn};
 ghost use Rattle.write_history.specs.declared.known.Mark.TheVariants.{Pinned};
 ghost use Rattle.cell_slots.specs.Slots.{IsRankAt};
-ghost use Rattle.range_cells.specs.Turns.{IsWithinView};
+ghost use Rattle.shared_cells.specs.Bringing.{BringsCell};
+ghost use Rattle.range_cells.specs.Turns.{IsWithinView, TellsCell, done};
 
 use crate::range_cells::RangeCells;
-use crate::stack::Stack;
 use base_reader::reaching::rank_of;
 use base_shards::{Naming, SHARDS};
 use join_set::JoinSet;
 use out_of_memory::OutOfMemory;
 use pq_io::Gate;
 use shared_cells::{Cell, SharedCell};
-use shared_layers::Room;
-use shared_reader::{SharedReader, Use};
+use shared_reader::Use;
 use std::sync::Wait;
 use std::sync::ledger::Ledger;
 use steps::Steps;
@@ -65,13 +64,17 @@ impl<N: Naming> RangeCells<N> {
     }
 
     /// Brings a cell to where the first p entries stand, says where it stands then, and which cells of lower ranks were used
-    /// for it, in order. A cell for another rank than its join has after p entries keeps what it keeps.
+    /// for it, in order. The rank is the one that its join has after p entries, and none where it does not stand then; a cell for
+    /// another rank keeps what it keeps.
+    ///
+    /// On `OutOfMemory` what is kept is as it was, or it is forgotten.
     fn bring_cell<W: Wait, G: Gate, L: Ledger>(
         &self,
         rt: &W,
         pass: Pass,
         joins: &JoinSet,
         p: u64,
+        rank: Option<u8>,
         gate: &G,
         steps: &mut Steps<L>,
         id: u32,
@@ -82,20 +85,16 @@ impl<N: Naming> RangeCells<N> {
         requires within { p ≤ length pass.view }
         requires pinned { ReachesBack pass p }
         requires joins { AreJoins (reach pass.mark) joins.now (take p pass.view) }
-        ensures left { (IsRankAt pass.view p cell.old.at (Some cell.old.rank) → ⊥) → cell.new.held ≡ cell.old.held }
+        requires rank { IsRankAt pass.view p cell.old.at rank }
+        requires ranked { IfSome rank (λ r. r ≤ 7) }
+        ensures told { TellsCell id cell.new result.0.turn }
+        ensures brings { BringsCell (reach pass.mark) p rank (done result.0.turn) cell.old cell.new }
         ensures within { IsWithinView result.0.turn result.0.pass.view }
         ensures reads_on { ReadsOn pass result.0.pass }
         ensures counted { steps.old ≤ steps.new }
     {
-        let room = Room {
-            alloc: self.alloc,
-            rt,
-            gate,
-            cells: &self.cells,
-        };
-        let rank = rank_of(joins, cell.at());
-        let lowest = SharedReader::new(self.alloc, rt, &self.history, &self.shards, joins, p, pass);
-        let mut stack = Stack::new(&room, lowest);
+        let room = self.room(rt, gate);
+        let mut stack = self.stack(&room, joins, p, pass);
         let brought = stack.bring(cell, id, p, rank, gate, steps);
         let (pass, used) = stack.into_parts();
         let position = cell.position();
@@ -111,8 +110,9 @@ impl<N: Naming> RangeCells<N> {
         }
     }
 
-    /// Brings what lies behind a cell's lock to where the first p entries stand, says where it stands then, and which cells
-    /// of lower ranks were used for it, in order. While another thread has the cell, this one sleeps.
+    /// Brings what lies behind a cell's lock to where the first p entries stand, if the cell is for the rank that its join has
+    /// there, says where it stands then, and which cells of lower ranks were used for it, in order. While another thread has the
+    /// cell, this one sleeps.
     fn bring_locked<W: Wait, G: Gate, L: Ledger>(
         &self,
         rt: &W,
@@ -135,7 +135,10 @@ impl<N: Naming> RangeCells<N> {
     {
         let mut guard = shared.lock(rt);
         match &mut *guard {
-            Some(cell) => self.bring_cell(rt, pass, joins, p, gate, steps, id, cell),
+            Some(cell) => {
+                let rank = rank_of(joins, cell.at());
+                self.bring_cell(rt, pass, joins, p, rank, gate, steps, id, cell)
+            }
             None => {
                 let position = None;
                 let turn = Turn::Brought { id, position };
@@ -187,11 +190,11 @@ impl<N: Naming> RangeCells<N> {
     /// are the joins that stand then, and the pass is pinned there.
     ///
     /// What is pending in the cell then stays so, what is forgotten stays so, what stands more than 65,536 entries before the end
-    /// is let go and filled at the end, and a cell for another rank than its join has keeps what it keeps. Before it or a range of a
-    /// lower rank is filled, and before one of a lower rank is mended for it, the gate is passed. While another thread has a part or a cell that this one needs, this one sleeps. That the
-    /// cell was brought forward is no use of it; of the cells of lower ranks that were read for it the book is told as after a
-    /// read, and the least recently used are evicted. First of all the cells are evicted whose joins do not stand any more or have
-    /// another rank, as by a read.
+    /// is let go and filled at the end, and a cell for another rank than its join has keeps what it keeps. Before it or a range of
+    /// a lower rank is filled, and before one of a lower rank is mended for it, the gate is passed. While another thread has a part
+    /// or a cell that this one needs, this one sleeps. That the cell was brought forward is no use of it; of the cells of lower
+    /// ranks that were read for it the book is told as after a read, and the least recently used are evicted. First of all the
+    /// cells are evicted whose joins do not stand any more or have another rank, as by a read.
     ///
     /// `Idle` comes only where no part had a marked cell when its lock was taken.
     pub fn turn<W: Wait, G: Gate, L: Ledger>(

@@ -22,7 +22,7 @@ use Rattle.range_serving.specs.Telling.{TellsOutput}
 use Rattle.cell_slots.specs.Slots.{IsDeclared, IsOutput, IsRightFor, StandsAs, IsRankIn, IsRankAt}
 use Rattle.cell_slots.proofs.DeclaredLemmas.{declared_over_longer, declared_once, has_rank, stands_ranked, stands_over}
 use Rattle.rank_layers.specs.Telling.{TellsJoin}
-use Rattle.shared_cells.specs.Bringing.{BringsTo, IsBroughtFrom}
+use Rattle.shared_cells.specs.Bringing.{IsKeptBy}
 use Rattle.shared_cells.specs.Cells.{CellView, IsRightIn, IsCell, HasSamePlace, IsCellFor, IsLentFor, CanServe, IsReadyCell}
 
 -- ---- over longer histories
@@ -132,14 +132,14 @@ rank_of_kept cell h more p rank s within prefix met same is right =
     let stands = stands_ranked more p cell.at cell.rank s.join (right_here cell more cell.at s met refl right).declared there in
     subst (HasRank (joins_of (take p more)) s.join) (sym right.ranked) (has_rank more p cell.at cell.rank s.join stands)
 
--- nothing is brought where nothing is kept
-pub brings_nothing : (floor p : ℕ) (held left : Option KeptRange) → held ≡ None → left ≡ None → BringsTo floor p held left
-brings_nothing floor p held left none empty = subst (λ (o : Option KeptRange). BringsTo floor p o left) (sym none) empty
+-- nothing is kept where nothing was
+pub kept_nothing : (P : KeptRange → KeptRange → Type 0) (held left : Option KeptRange) → held ≡ None → left ≡ None → IsKeptBy P held left
+kept_nothing P held left none empty = subst (λ (o : Option KeptRange). IsKeptBy P o left) (sym none) empty
 
--- what is kept was brought there
-pub brings : (floor p : ℕ) (held after : Option KeptRange) (s t : KeptRange) → held ≡ Some s → after ≡ Some t → IsBroughtFrom floor p s t → BringsTo floor p held after
-brings floor p held after s t is gives brought =
-    subst (λ (o : Option KeptRange). BringsTo floor p o after) (sym is) (subst (λ (o : Option KeptRange). IsSomeAnd o (IsBroughtFrom floor p s)) (sym gives) brought)
+-- what is kept stands so to what was
+pub kept_by : (P : KeptRange → KeptRange → Type 0) (held after : Option KeptRange) (s t : KeptRange) → held ≡ Some s → after ≡ Some t → P s t → IsKeptBy P held after
+kept_by P held after s t is gives so =
+    subst (λ (o : Option KeptRange). IsKeptBy P o after) (sym is) (subst (λ (o : Option KeptRange). IsSomeAnd o (P s)) (sym gives) so)
 
 -- ---- what can be served
 

@@ -1,37 +1,25 @@
 // Bringing what a cell keeps to where the first p entries stand.
-ghost use Rattle.std.specs.Prelude.{◌≡◌, ◌≤◌, length, take, true, false, OnOk};
+ghost use Rattle.std.specs.Prelude.{◌≤◌, length, take, OnErr, OnOk};
 ghost use Rattle.semantics.specs.Histories.{joins_of};
 ghost use Rattle.growing_history.specs.Entered.{HasEntered, HasRank};
 ghost use Rattle.join_eval.specs.Moves.{Moves};
 ghost use Rattle.kept_ranges.specs.Sound.{IsSound};
-ghost use Rattle.range_state.specs.Ready.{HasSameSubject};
-ghost use Rattle.range_serving.specs.Serving.{StandsFrom};
+ghost use Rattle.range_state.specs.Ready.{HasSameSubject, StandsOrIsForgotten};
 ghost use Rattle.shared_cells.specs.Bringing.{IsBroughtFrom};
 
 use base_shards::Naming;
 use out_of_memory::OutOfMemory;
 use pq_io::Gate;
-use range_serving::catch_up;
+use range_serving::{catch_up, stands_from};
 use range_state::RangeState;
 use shared_reader::Stacked;
 use std::sync::ledger::Ledger;
 use steps::Steps;
 
-/// Says whether it stands nowhere, or not below a floor. Constant.
-pub fn stands_from(state: &RangeState, floor: u64) -> bool
-    ensures yes { result ≡ true → StandsFrom floor state.now }
-    ensures no { result ≡ false → StandsFrom floor state.now → ⊥ }
-{
-    match state.position() {
-        None => true,
-        Some(at) => floor <= at,
-    }
-}
-
 /// Advances it to where the first p entries stand, where it stands below. What stands below the reader's floor is let go and
 /// filled there; the gate is passed before. What is forgotten stays so, and what stands past p stays there.
 ///
-/// On `OutOfMemory` it stands where it stood, or nothing is kept, and it is right for the reader's list.
+/// On `OutOfMemory` it stands where it stood, or is forgotten, and is right for the reader's list.
 pub fn bring<N: Naming, R: Stacked<N>, G: Gate, L: Ledger>(
     state: &mut RangeState,
     p: u64,
@@ -47,6 +35,7 @@ pub fn bring<N: Naming, R: Stacked<N>, G: Gate, L: Ledger>(
     requires sound { IsSound state.old (R.list reader.old) }
     ensures same { HasSameSubject state.old state.new }
     ensures brought { OnOk result (IsBroughtFrom (R.floor reader.old) p state.old state.new) }
+    ensures err { OnErr result (StandsOrIsForgotten state.old state.new) }
     ensures sound { IsSound state.new (R.list reader.new) }
     ensures moves { Moves R.list R.floor R.went reader.old reader.new }
     ensures counted { steps.old ≤ steps.new }

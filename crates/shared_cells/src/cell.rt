@@ -13,15 +13,15 @@ ghost use Rattle.rank_layers.specs.Telling.{TellsJoin};
 ghost use Rattle.shared_cells.specs.Bringing.{BringsCell};
 ghost use Rattle.shared_cells.specs.Cells.{CanBeLent, CanServe, HasSamePlace, IsLentFor, IsReadyCell, IsRightIn};
 
-use crate::bringing::{bring, stands_from};
+use crate::bringing::bring;
 use crate::ranked_join::RankedJoin;
 use base_shards::Naming;
-use join_eval::{Changed, Reader};
+use join_eval::Changed;
 use join_types::Pair;
 use key_space::Range;
 use out_of_memory::OutOfMemory;
 use pq_io::Gate;
-use range_serving::{is_past, serve, tell};
+use range_serving::{is_past, serve, stands_from, tell};
 use range_state::RangeState;
 use rank_layers::Query;
 use shared_reader::{Followed, Stacked};
@@ -375,7 +375,7 @@ impl<N: Naming> Cell<N> {
     /// where it does not stand then; where it is not the cell's, what is kept stays as it is and no step is taken, so that nothing
     /// changes but what the cell's pass has seen. It and the reader see what either has seen.
     ///
-    /// On `OutOfMemory` what is kept stands where it stood, or at p, or nothing is kept.
+    /// On `OutOfMemory` what is kept is as it was, or it is forgotten.
     pub fn bring<R: Stacked<N>, G: Gate, L: Ledger>(
         &mut self,
         p: u64,

@@ -120,6 +120,10 @@ impl<'a, N: Naming, W: Wait, G: Gate, R: Stacked<N>> Stacked<N> for Layer<'a, N,
         self.inner.note_use(used);
     }
 
+    fn note_told(&mut self, used: Use) {
+        self.inner.note_told(used);
+    }
+
     fn start_noting(&mut self) -> usize {
         self.inner.start_noting()
     }

@@ -112,7 +112,8 @@ pub fn read_part<N: Naming, W: Wait, G: Gate, R: Stacked<N>, L: Ledger>(
 }
 
 /// Says what changed in the join's output in the part since a position, as the cell that has the part says. The cell follows the
-/// ranges of base pairs that were read for it. While another thread has it, this one sleeps.
+/// ranges of base pairs that were read for it, and the reader takes note that it told. While another thread has it, this one
+/// sleeps.
 ///
 /// While this one has it, the reader below reads for it only where the cell is for the rank that is asked for, which is the
 /// reader's own top rank: so only cells of lower ranks are asked for under its lock.
@@ -146,6 +147,10 @@ pub fn tell_part<N: Naming, W: Wait, G: Gate, R: Stacked<N>, L: Ledger>(
     };
     let noted = reader.start_noting();
     let told = own.tell(room.alloc, query, since, &part.range, reader, steps);
+    reader.note_told(Use {
+        id: *id,
+        rows: own.rows(),
+    });
     own.follow(*id, noted, reader);
     told
 }

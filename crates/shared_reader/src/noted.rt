@@ -1,5 +1,5 @@
 // The ranges that are read while cells are at work.
-ghost use Rattle.std.specs.Prelude.{◌≡◌, ◌⊎◌, ◌-◌, [], drop, length};
+ghost use Rattle.std.specs.Prelude.{◌≡◌, ◌==◌, ◌⊎◌, ◌-◌, [], drop, length};
 ghost use Rattle.shared_reader.specs.Noting.{MayBeNoted};
 
 use key_space::Range;
@@ -40,6 +40,13 @@ impl Noted {
     {
         self.cells = self.cells.saturating_add(1);
         self.ranges.len()
+    }
+
+    /// Whether one cell alone is at work.
+    pub fn is_alone(&self) -> bool
+        ensures { result ≡ (self.now.cells == 1) }
+    {
+        self.cells == 1
     }
 
     /// Notes the range as the last, where a cell is at work and there is room. It takes constant time.

@@ -39,6 +39,17 @@ fn copy_of(alloc: Global, joins: &JoinSet, at: u64) -> Result<Join, OutOfMemory>
     }
 }
 
+/// Adds a use as the last, in place of the one before where that is of the same cell. Where there is no room, the book keeps
+/// what it knew of the cell. Constant.
+fn add_use(uses: &mut Vec<Use>, used: Use) {
+    if let Some(last) = uses.last()
+        && last.id == used.id
+    {
+        let _before = uses.pop();
+    }
+    let _pushed = uses.push(used);
+}
+
 /// Reads the base pairs that no output hides, from the parts that threads share, with a pinned pass. It is made to read after one
 /// number of entries, and is given the joins after these; for every other position it takes the joins from the history. Its floor
 /// is where the pin reaches back to.
@@ -255,8 +266,13 @@ impl<'a, N: Naming, W: Wait> Stacked<N> for SharedReader<'a, N, W> {
     }
 
     fn note_use(&mut self, used: Use) {
-        // Where there is no room, the book keeps what it knew of the cell.
-        let _pushed = self.used.push(used);
+        add_use(&mut self.used, used);
+    }
+
+    fn note_told(&mut self, used: Use) {
+        if self.noted.is_alone() {
+            add_use(&mut self.used, used);
+        }
     }
 
     fn start_noting(&mut self) -> usize {

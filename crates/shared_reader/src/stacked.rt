@@ -70,8 +70,14 @@ pub trait Stacked<N: Naming>: Reader {
     /// pushed. What is read does not rest on it.
     fn is_kept(&self, at: u64) -> bool;
 
-    /// Takes note that a cell was used, so that the book is told of it. A use for which there is no room is not told.
+    /// Takes note that a cell was used, so that the book is told of it. Of uses of one cell that follow one another the last alone
+    /// is told, and a use for which there is no room is not.
     fn note_use(&mut self, used: Use)
+        ensures { Moves Self.list Self.floor Self.went self.old self.new };
+
+    /// Takes note that a cell told what changed of it, as of a use, unless another cell is at work, which asked it: that is no
+    /// use. It is called while the cell itself is at work.
+    fn note_told(&mut self, used: Use)
         ensures { Moves Self.list Self.floor Self.went self.old self.new };
 
     /// A cell is at work: from now on the ranges of base pairs that are read are noted, until the `follow_noted` that ends its

@@ -1,5 +1,5 @@
 use Rattle.std.proofs.Common.{arith}
-use Rattle.pequod_cache.proofs.EarlierLemmas.{ahead_told, gone_told}
+use Rattle.request_codec.proofs.ReachLemmas.{ahead_told, gone_told}
 use Rattle.pequod_cache.proofs.earlier.out_of_reach.Goals as goal
 
 pub returns-then-position-at : goal.returns-then-position-at

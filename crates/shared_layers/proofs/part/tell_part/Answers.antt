@@ -1,6 +1,6 @@
 use Rattle.std.proofs.Common.{sym, subst}
 use Rattle.join_eval.specs.Moves.{Moves}
-use Rattle.join_eval.proofs.MovesLemmas.{moves_refl}
+use Rattle.join_eval.proofs.MovesLemmas.{moves_refl, moves_trans}
 use Rattle.shared_layers.proofs.part.tell_part.Goals as goal
 
 pub returns-in_default-clause-moves : goal.returns-in_default-clause-moves
@@ -25,4 +25,5 @@ pub returns-clause-moves : goal.returns-clause-moves
 returns-clause-moves g c =
     let list = g.R.Reader.list in let floor = g.R.Reader.floor in let went = g.R.Reader.went in
     let told : Moves list floor went c.args.reader.now c.tell-told.new.reader = subst (λ r. Moves list floor went r c.tell-told.new.reader) c.start_noting-noted.ensures c.tell-told.ensures.moves in
-    subst (λ r. Moves list floor went c.args.reader.now r) (sym c.follow.ensures.reader) told
+    subst (λ r. Moves list floor went c.args.reader.now r) (sym c.follow.ensures.reader)
+    (moves_trans list floor went c.args.reader.now c.tell-told.new.reader c.note_told.new.self (g.met.R.Reader.went_trans c.args.reader.now c.tell-told.new.reader c.note_told.new.self) told c.note_told.ensures)

@@ -1,4 +1,4 @@
-use Rattle.std.proofs.Common.{◌≡◌, ◌∷◌, [], sym, subst}
+use Rattle.std.proofs.Common.{◌≡◌, ◌∷◌, [], Some, sym, subst}
 use Rattle.protocol.specs.Requests.{write}
 use Rattle.protocol.specs.Told.{Told}
 use Rattle.join_types.specs.Writes.{plain_write}
@@ -7,9 +7,15 @@ use Rattle.request_codec.specs.Plain.{plain_reply}
 use Rattle.request_codec.specs.declared.reply.Reply.{Reply}
 use Rattle.write_history.specs.Passes.{PassView}
 use Rattle.write_history.specs.Faults.{SaysWhy}
+use Rattle.pequod_cache.proofs.ClientLemmas.{client_goes_on}
 use Rattle.pequod_cache.proofs.ToldLemmas.{told_appended, told_refusal, told_no_write}
 use Rattle.pequod_cache.proofs.client.Client.enter.Goals as goal
 use Rattle.pequod_cache.proofs.client.Client.enter.Goals.{in-Ok, in-Err-Refused, in-Err-OutOfMemory}
+
+pub invariant_of-self : goal.invariant_of-self
+invariant_of-self g c =
+    let is : c.self.inside.pass ≡ Some c.in-Some.pass = cc in
+    client_goes_on g.N.Naming.history c.self.inside.pass c.in-Some.pass c.append.new.pass c.self.inside.joins c.self.invariant is c.append.ensures.goes_on
 
 pub returns-clause-told : goal.returns-clause-told
 returns-clause-told g c =

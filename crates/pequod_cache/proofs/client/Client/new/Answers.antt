@@ -6,11 +6,13 @@ use Rattle.pequod_cache.proofs.client.Client.new.Goals as goal
 
 pub invariant_of-result : goal.invariant_of-result
 invariant_of-result g c = record {
-  has = c.args.pass;
-  is = refl;
-  same_history = c.requires.same_history;
+  seated = record {
+    has = c.args.pass;
+    is = refl;
+    same_history = c.requires.same_history;
+    free = c.requires.free;
+    recorded = c.requires.recorded;
+    kept = subst (λ (joins : Joins). KeepsJoins joins c.args.pass.view) (sym c.new.ensures) (keeps_none c.args.pass.view);
+  };
   writer = c.requires.writer;
-  free = c.requires.free;
-  recorded = c.requires.recorded;
-  kept = subst (λ (joins : Joins). KeepsJoins joins c.args.pass.view) (sym c.new.ensures) (keeps_none c.args.pass.view);
 }

@@ -1,11 +1,10 @@
-use Rattle.std.proofs.Common.{◌≡◌, take, Option, Some, sym, ap, ◌∙◌, subst, arith}
+use Rattle.std.proofs.Common.{◌≡◌, take, Some, ap, ◌∙◌, arith}
 use Rattle.std.proofs.lemmas.List.{take_all}
-use Rattle.join_set.specs.Sets.{AreJoins}
-use Rattle.join_set.proofs.BareLemmas.{AreJoins-higher}
-use Rattle.write_history.specs.Marks.{reach}
-use Rattle.write_history.specs.Passes.{PassView, GoesOn, own}
-use Rattle.pequod_cache.specs.Clients.{IsClient, pass_of}
-use Rattle.pequod_cache.proofs.ClientLemmas.{client_is_free, client_reads_on, client_stays, pinned_goes_on}
+use Rattle.semantics.specs.Texts.{pairs_within}
+use Rattle.semantics.specs.States.{state}
+use Rattle.pequod_cache.specs.Clients.{IsFound}
+use Rattle.pequod_cache.proofs.ClientLemmas.{client_stays, client_still, is_free, made_of_found, returned}
+use Rattle.pequod_cache.proofs.EarlierLemmas.{joins_now}
 use Rattle.pequod_cache.proofs.client.Client.read_counted.Goals as goal
 
 pub invariant_of-self : goal.invariant_of-self
@@ -14,63 +13,51 @@ invariant_of-self g c =
     client_stays g.N.Naming.history c.self.inside.pass c.in-Some.pass c.look-looked.new.pass c.self.inside.joins c.look-looked.new.joins
     c.self.invariant is c.in_default-looked.ensures.goes_on c.look-looked.ensures.kept
 
-pub read-reading-requires-clause-joins : goal.read-reading-requires-clause-joins
-read-reading-requires-clause-joins g c =
-    let all = c.in-Ok.ensures.length in
-    AreJoins-higher 0 (reach c.look-looked.new.pass.mark) c.look-looked.new.joins (take c.in-Ok.position c.look-looked.new.pass.view) (omega arith)
-    (subst (AreJoins 0 c.look-looked.new.joins) (sym (take_all c.in-Ok.position c.look-looked.new.pass.view (omega (arith, all)))) c.in-Ok.ensures.brought)
-
-pub invariant_of-self-in_err-found : goal.invariant_of-self-in_err-found
-invariant_of-self-in_err-found g c =
-    let is : c.self.inside.pass ≡ Some c.in-Some.pass = cc in
-    subst (λ (p : PassView). IsClient g.N.Naming.history (Some p) c.look-looked.new.joins) (sym c.unpin.ensures)
-    (client_reads_on g.N.Naming.history c.self.inside.pass c.in-Some.pass c.look-looked.new.pass c.read-reading.result.pass c.in-Ok.position c.self.inside.joins c.look-looked.new.joins
-    c.self.invariant is c.in-Ok.ensures.pinned c.look-looked.ensures.kept c.read-reading.ensures.reads_on)
-
 pub invariant_of-self-2 : goal.invariant_of-self-2
 invariant_of-self-2 g c =
     let is : c.self.inside.pass ≡ Some c.in-Some.pass = cc in
-    subst (λ (p : PassView). IsClient g.N.Naming.history (Some p) c.look-looked.new.joins) (sym c.unpin.ensures)
-    (client_reads_on g.N.Naming.history c.self.inside.pass c.in-Some.pass c.look-looked.new.pass c.read-reading.result.pass c.in-Ok.position c.self.inside.joins c.look-looked.new.joins
-    c.self.invariant is c.in-Ok.ensures.pinned c.look-looked.ensures.kept c.read-reading.ensures.reads_on)
+    let back =
+    returned g.N.Naming.history c.self.inside.pass c.args.self.now c.in-Some.pass c.look-looked.new.pass c.read-reading.result.pass c.unpin.new.pass c.in-Ok.position c.self.inside.joins c.look-looked.new.joins
+    c.self.invariant.seated is c.self.view_is c.in-Ok.ensures.pinned c.look-looked.ensures.own c.look-looked.ensures.kept c.read-reading.ensures.reads_on c.unpin.ensures in
+    client_still g.N.Naming.history c.self.inside.pass c.args.self.now c.unpin.new.pass c.self.inside.joins c.look-looked.new.joins c.self.invariant c.self.view_is back.goes_on back.seated
 
 -- where the pass was not pinned
 
 pub look-looked-requires-clause-free : goal.look-looked-requires-clause-free
 look-looked-requires-clause-free g c =
     let is : c.self.inside.pass ≡ Some c.in-Some.pass = cc in
-    client_is_free g.N.Naming.history c.self.inside.pass c.in-Some.pass c.self.inside.joins c.self.invariant is
+    is_free g.N.Naming.history c.self.inside.pass c.in-Some.pass c.self.inside.joins c.self.invariant.seated is
 
 pub read-reading-requires-clause-pinned : goal.read-reading-requires-clause-pinned
 read-reading-requires-clause-pinned g c = record { pin = c.in-Ok.position; pinned = c.in-Ok.ensures.pinned.same_mark; near = omega arith }
 
+pub read-reading-requires-clause-joins : goal.read-reading-requires-clause-joins
+read-reading-requires-clause-joins g c = joins_now c.look-looked.new.pass c.in-Ok.position c.look-looked.new.joins c.in-Ok.ensures.length c.in-Ok.ensures.brought
+
 pub unpin-requires-clause-pinned : goal.unpin-requires-clause-pinned
 unpin-requires-clause-pinned g c = (c.in-Ok.position, c.read-reading.ensures.reads_on.same_mark ∙ c.in-Ok.ensures.pinned.same_mark)
 
-pub returns-clause-goes_on : goal.returns-clause-goes_on
-returns-clause-goes_on g c =
+-- it has read all that was seen where it looked
+pub returns : goal.returns
+returns g c =
     let is : c.self.inside.pass ≡ Some c.in-Some.pass = cc in
-    let same : c.in-Some.pass ≡ c.args.self.now = sym (ap (λ (o : Option PassView). pass_of g.N.Naming.history o) is) ∙ c.self.view_is in
-    let free = client_is_free g.N.Naming.history c.self.inside.pass c.in-Some.pass c.self.inside.joins c.self.invariant is in
-    subst (λ (p : PassView). GoesOn p c.unpin.new.pass) same
-    (subst (λ (p : PassView). GoesOn c.in-Some.pass p) (sym c.unpin.ensures) (pinned_goes_on c.in-Some.pass c.look-looked.new.pass c.read-reading.result.pass c.in-Ok.position free c.in-Ok.ensures.pinned c.read-reading.ensures.reads_on))
-
-pub returns-clause-own : goal.returns-clause-own
-returns-clause-own g c =
-    let is : c.self.inside.pass ≡ Some c.in-Some.pass = cc in
-    let same : c.in-Some.pass ≡ c.args.self.now = sym (ap (λ (o : Option PassView). pass_of g.N.Naming.history o) is) ∙ c.self.view_is in
-    ap (λ (p : PassView). own p) c.unpin.ensures ∙ c.read-reading.ensures.reads_on.own ∙ c.look-looked.ensures.own ∙ ap (λ (p : PassView). own p) same
-
-pub returns-in_err-found-clause-goes_on : goal.returns-in_err-found-clause-goes_on
-returns-in_err-found-clause-goes_on g c =
-    let is : c.self.inside.pass ≡ Some c.in-Some.pass = cc in
-    let same : c.in-Some.pass ≡ c.args.self.now = sym (ap (λ (o : Option PassView). pass_of g.N.Naming.history o) is) ∙ c.self.view_is in
-    let free = client_is_free g.N.Naming.history c.self.inside.pass c.in-Some.pass c.self.inside.joins c.self.invariant is in
-    subst (λ (p : PassView). GoesOn p c.unpin.new.pass) same
-    (subst (λ (p : PassView). GoesOn c.in-Some.pass p) (sym c.unpin.ensures) (pinned_goes_on c.in-Some.pass c.look-looked.new.pass c.read-reading.result.pass c.in-Ok.position free c.in-Ok.ensures.pinned c.read-reading.ensures.reads_on))
-
-pub returns-in_err-found-clause-own : goal.returns-in_err-found-clause-own
-returns-in_err-found-clause-own g c =
-    let is : c.self.inside.pass ≡ Some c.in-Some.pass = cc in
-    let same : c.in-Some.pass ≡ c.args.self.now = sym (ap (λ (o : Option PassView). pass_of g.N.Naming.history o) is) ∙ c.self.view_is in
-    ap (λ (p : PassView). own p) c.unpin.ensures ∙ c.read-reading.ensures.reads_on.own ∙ c.look-looked.ensures.own ∙ ap (λ (p : PassView). own p) same
+    let seen = c.look-looked.new.pass.view in
+    let all : take c.in-Ok.position seen ≡ seen = take_all c.in-Ok.position seen (omega (arith, c.in-Ok.ensures.length)) in
+    let back =
+    returned g.N.Naming.history c.self.inside.pass c.args.self.now c.in-Some.pass c.look-looked.new.pass c.read-reading.result.pass c.unpin.new.pass c.in-Ok.position c.self.inside.joins c.look-looked.new.joins
+    c.self.invariant.seated is c.self.view_is c.in-Ok.ensures.pinned c.look-looked.ensures.own c.look-looked.ensures.kept c.read-reading.ensures.reads_on c.unpin.ensures in
+    record {
+      found = made_of_found c.read-reading.result.found c.found_at-found.result (λ those. those.items ≡ pairs_within c.args.range.now (state (take c.in-Ok.position seen)))
+          (λ those f. (f.position ≡ c.in-Ok.position) × (f.pairs.items ≡ those.items)) (λ f. IsFound c.args.self.now c.unpin.new.pass c.args.range.now f.position f.pairs.items)
+          c.read-reading.ensures.exact
+          (λ those f was is_made. record {
+            seen = seen;
+            begins = back.before;
+            goes_on = back.after;
+            at = is_made.0 ∙ c.in-Ok.ensures.length;
+            is = is_made.1 ∙ was ∙ ap (λ h. pairs_within c.args.range.now (state h)) all;
+          })
+          c.found_at-found.ensures;
+      goes_on = back.goes_on;
+      own = back.own;
+    }

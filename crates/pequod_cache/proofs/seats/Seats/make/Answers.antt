@@ -1,4 +1,4 @@
-use Rattle.std.proofs.Common.{◌≡◌, ℕ, ◌+◌, ◌≤◌, List, length, take, drop, Some, sym, ap, ◌∙◌, subst, arith, length-drop, length-take}
+use Rattle.std.proofs.Common.{◌≡◌, ℕ, ◌+◌, List, take, drop, Some, sym, ap, ◌∙◌, subst, arith, length-drop, length-take}
 use Rattle.write_history.specs.declared.known.Kinds.{Kinds}
 use Rattle.write_history.specs.Passes.{HistoryId, PassView, new_pass}
 use Rattle.pequod_cache.specs.Sitting.{AreOf, AreOfParts}

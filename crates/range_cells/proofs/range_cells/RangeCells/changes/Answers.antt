@@ -1,73 +1,81 @@
-use Rattle.std.proofs.Common.{◌≡◌, List, Some, Ok, sym, ◌∙◌, subst, arith}
-use Rattle.semantics.specs.Texts.{Text}
-use Rattle.join_eval.specs.Answers.{ListsChanges}
-use Rattle.base_shards.proofs.ReadingLemmas.{reads_on-trans, reaches_still, sees_still}
-use Rattle.range_cells.proofs.TurnLemmas.{reaches_to}
-use Rattle.range_cells.proofs.ChangingLemmas.{reaches_later, joins_still, some_at, listed_still, changes_still}
+use Rattle.std.proofs.Common.{◌≡◌, Ok, take, sym, ap, ◌∙◌, subst, arith}
+use Rattle.std.proofs.lemmas.Result.{IfOk-at_ok, IfOk-weaker}
+use Rattle.layering.specs.Merging.{Ascends}
+use Rattle.semantics.specs.States.{state}
+use Rattle.semantics.proofs.StateLemmas.{ascending-state}
+use Rattle.state_changes.specs.StateChanges.{changes}
+use Rattle.state_changes.proofs.ChangeLemmas.{nothing_between}
+use Rattle.base_shards.proofs.ReadingLemmas.{reads_on-refl, reads_on-trans, reaches_still, sees_still}
+use Rattle.range_cells.specs.Asked.{TellsTouched, pairs_asked}
+use Rattle.range_cells.specs.Comparing.{changes_of}
+use Rattle.range_cells.proofs.ChangingLemmas.{ascends_asked, asked_changes, joins_still, state_still}
 use Rattle.range_cells.proofs.range_cells.RangeCells.changes.Goals as goal
 
-pub touched-asked-requires-clause-pinned : goal.touched-asked-requires-clause-pinned
-touched-asked-requires-clause-pinned g c = reaches_later c.args.pass c.args.q c.args.p c.requires.order c.requires.pinned
+-- ---- from a position to itself
 
-pub touched-asked-requires-clause-above : goal.touched-asked-requires-clause-above
-touched-asked-requires-clause-above g c = reaches_to c.args.pass c.args.q c.requires.pinned
+pub returns-then-q-p-clause-exact : goal.returns-then-q-p-clause-exact
+returns-then-q-p-clause-exact g c =
+    c.new-none.ensures.items ∙ sym (nothing_between c.args.range.now c.args.pass.view c.args.q) ∙ ap (changes c.args.range.now c.args.pass.view c.args.q) c.if-q-p.true
 
--- few keys
+pub returns-then-q-p-clause-reads_on : goal.returns-then-q-p-clause-reads_on
+returns-then-q-p-clause-reads_on g c = reads_on-refl c.args.pass
 
-pub changes_at-requires-clause-same_history : goal.changes_at-requires-clause-same_history
-changes_at-requires-clause-same_history g c = c.touched-asked.ensures.reads_on.same_history ∙ c.requires.same_history
+-- ---- the earlier position
 
-pub changes_at-requires-clause-recorded : goal.changes_at-requires-clause-recorded
-changes_at-requires-clause-recorded g c = c.touched-asked.ensures.reads_on.recorded c.requires.recorded
+pub read_asked-earlier-requires-clause-same_history : goal.read_asked-earlier-requires-clause-same_history
+read_asked-earlier-requires-clause-same_history g c = c.read_later-later.ensures.reads_on.same_history ∙ c.requires.same_history
 
-pub changes_at-requires-clause-within : goal.changes_at-requires-clause-within
-changes_at-requires-clause-within g c = sees_still c.args.pass c.touched-asked.result.pass c.args.p c.touched-asked.ensures.reads_on c.requires.within
+pub read_asked-earlier-requires-clause-recorded : goal.read_asked-earlier-requires-clause-recorded
+read_asked-earlier-requires-clause-recorded g c = c.read_later-later.ensures.reads_on.recorded c.requires.recorded
 
-pub changes_at-requires-clause-pinned : goal.changes_at-requires-clause-pinned
-changes_at-requires-clause-pinned g c = reaches_still c.args.pass c.touched-asked.result.pass c.args.q c.touched-asked.ensures.reads_on c.requires.pinned
+pub read_asked-earlier-requires-clause-within : goal.read_asked-earlier-requires-clause-within
+read_asked-earlier-requires-clause-within g c =
+    sees_still c.args.pass c.read_later-later.result.pass c.args.q c.read_later-later.ensures.reads_on (omega (arith, c.requires.order, c.requires.within))
 
-pub changes_at-requires-clause-old_joins : goal.changes_at-requires-clause-old_joins
-changes_at-requires-clause-old_joins g c = joins_still c.args.pass c.touched-asked.result.pass c.args.q c.args.old.now c.touched-asked.ensures.reads_on (omega (arith, c.requires.order, c.requires.within)) c.requires.old_joins
+pub read_asked-earlier-requires-clause-pinned : goal.read_asked-earlier-requires-clause-pinned
+read_asked-earlier-requires-clause-pinned g c = reaches_still c.args.pass c.read_later-later.result.pass c.args.q c.read_later-later.ensures.reads_on c.requires.pinned
 
-pub changes_at-requires-clause-new_joins : goal.changes_at-requires-clause-new_joins
-changes_at-requires-clause-new_joins g c = joins_still c.args.pass c.touched-asked.result.pass c.args.p c.args.new.now c.touched-asked.ensures.reads_on c.requires.within c.requires.new_joins
+pub read_asked-earlier-requires-clause-joins : goal.read_asked-earlier-requires-clause-joins
+read_asked-earlier-requires-clause-joins g c =
+    joins_still c.args.pass c.read_later-later.result.pass c.args.q c.args.old.now c.read_later-later.ensures.reads_on (omega (arith, c.requires.order, c.requires.within)) c.requires.old_joins
 
-pub returns-in-Ok-Some-clause-exact : goal.returns-in-Ok-Some-clause-exact
-returns-in-Ok-Some-clause-exact g c =
-    let is : c.touched-asked.result.found ≡ Ok (Some c.in-Ok-Some.keys) = cc in
-    let listed : ListsChanges c.args.pass.view c.args.q c.args.p 8 c.args.range.now c.in-Ok-Some.keys.items =
-    some_at c.touched-asked.result.found (λ keys. ListsChanges c.args.pass.view c.args.q c.args.p 8 c.args.range.now keys.items) c.in-Ok-Some.keys c.touched-asked.ensures.listed is in
-    listed_still c.args.pass c.touched-asked.result.pass c.args.q c.args.p c.args.range.now c.as_slice.result.now c.changes_at.result.found (λ found. found.items) c.requires.order c.requires.within
-    c.touched-asked.ensures.reads_on
-    (subst (λ (keys : List Text). ListsChanges c.args.pass.view c.args.q c.args.p 8 c.args.range.now keys) (sym c.as_slice.ensures.value) listed) c.changes_at.ensures.exact
+pub returns-in_default-found-clause-reads_on : goal.returns-in_default-found-clause-reads_on
+returns-in_default-found-clause-reads_on g c =
+    reads_on-trans c.args.pass c.read_later-later.result.pass c.read_asked-earlier.result.pass c.read_later-later.ensures.reads_on c.read_asked-earlier.ensures.reads_on
 
-pub returns-in-Ok-Some-clause-reads_on : goal.returns-in-Ok-Some-clause-reads_on
-returns-in-Ok-Some-clause-reads_on g c = reads_on-trans c.args.pass c.touched-asked.result.pass c.changes_at.result.pass c.touched-asked.ensures.reads_on c.changes_at.ensures.reads_on
+pub returns-clause-reads_on : goal.returns-clause-reads_on
+returns-clause-reads_on g c =
+    reads_on-trans c.args.pass c.read_later-later.result.pass c.read_asked-earlier.result.pass c.read_later-later.ensures.reads_on c.read_asked-earlier.ensures.reads_on
 
--- many, or it is not known
+-- ---- both positions
 
-pub changes_within-requires-clause-same_history : goal.changes_within-requires-clause-same_history
-changes_within-requires-clause-same_history g c = c.touched-asked.ensures.reads_on.same_history ∙ c.requires.same_history
+pub compare-found-requires-clause-ascends : goal.compare-found-requires-clause-ascends
+compare-found-requires-clause-ascends g c =
+    let asked : c.read_later-later.result.found ≡ Ok c.in-Ok.asked = cc in
+    let found : c.read_asked-earlier.result.found ≡ Ok c.in-Ok-found.before = cc in
+    let tells = IfOk-at_ok (λ those. TellsTouched c.args.pass.view c.args.q c.args.p c.args.range.now those.touched) asked c.read_later-later.ensures.touched in
+    let were = IfOk-at_ok (λ those. those.items ≡ pairs_asked c.in-Ok.asked.touched c.args.range.now (state (take c.args.q c.read_later-later.result.pass.view))) found c.read_asked-earlier.ensures.exact in
+    subst Ascends (sym (c.as_slice.ensures.value ∙ were))
+    (ascends_asked c.args.pass.view c.args.q c.args.p c.args.range.now c.in-Ok.asked.touched (state (take c.args.q c.read_later-later.result.pass.view)) tells (ascending-state (take c.args.q c.read_later-later.result.pass.view)))
 
-pub changes_within-requires-clause-recorded : goal.changes_within-requires-clause-recorded
-changes_within-requires-clause-recorded g c = c.touched-asked.ensures.reads_on.recorded c.requires.recorded
+pub compare-found-requires-clause-other_ascends : goal.compare-found-requires-clause-other_ascends
+compare-found-requires-clause-other_ascends g c =
+    let asked : c.read_later-later.result.found ≡ Ok c.in-Ok.asked = cc in
+    let tells = IfOk-at_ok (λ those. TellsTouched c.args.pass.view c.args.q c.args.p c.args.range.now those.touched) asked c.read_later-later.ensures.touched in
+    let are = IfOk-at_ok (λ those. those.pairs.items ≡ pairs_asked those.touched c.args.range.now (state (take c.args.p c.args.pass.view))) asked c.read_later-later.ensures.exact in
+    subst Ascends (sym (c.as_slice-2.ensures.value ∙ are))
+    (ascends_asked c.args.pass.view c.args.q c.args.p c.args.range.now c.in-Ok.asked.touched (state (take c.args.p c.args.pass.view)) tells (ascending-state (take c.args.p c.args.pass.view)))
 
-pub changes_within-requires-clause-within : goal.changes_within-requires-clause-within
-changes_within-requires-clause-within g c = sees_still c.args.pass c.touched-asked.result.pass c.args.p c.touched-asked.ensures.reads_on c.requires.within
-
-pub changes_within-requires-clause-pinned : goal.changes_within-requires-clause-pinned
-changes_within-requires-clause-pinned g c = reaches_still c.args.pass c.touched-asked.result.pass c.args.q c.touched-asked.ensures.reads_on c.requires.pinned
-
-pub changes_within-requires-clause-old_joins : goal.changes_within-requires-clause-old_joins
-changes_within-requires-clause-old_joins g c = joins_still c.args.pass c.touched-asked.result.pass c.args.q c.args.old.now c.touched-asked.ensures.reads_on (omega (arith, c.requires.order, c.requires.within)) c.requires.old_joins
-
-pub changes_within-requires-clause-new_joins : goal.changes_within-requires-clause-new_joins
-changes_within-requires-clause-new_joins g c = joins_still c.args.pass c.touched-asked.result.pass c.args.p c.args.new.now c.touched-asked.ensures.reads_on c.requires.within c.requires.new_joins
-
-pub returns-in-Ok-None-clause-exact : goal.returns-in-Ok-None-clause-exact
-returns-in-Ok-None-clause-exact g c =
-    changes_still c.args.pass c.touched-asked.result.pass c.args.q c.args.p c.args.range.now c.changes_within.result.found (λ found. found.items) c.requires.order c.requires.within c.touched-asked.ensures.reads_on
-    c.changes_within.ensures.exact
-
-pub returns-in-Ok-None-clause-reads_on : goal.returns-in-Ok-None-clause-reads_on
-returns-in-Ok-None-clause-reads_on g c = reads_on-trans c.args.pass c.touched-asked.result.pass c.changes_within.result.pass c.touched-asked.ensures.reads_on c.changes_within.ensures.reads_on
+pub returns-clause-exact : goal.returns-clause-exact
+returns-clause-exact g c =
+    let asked : c.read_later-later.result.found ≡ Ok c.in-Ok.asked = cc in
+    let found : c.read_asked-earlier.result.found ≡ Ok c.in-Ok-found.before = cc in
+    let tells = IfOk-at_ok (λ those. TellsTouched c.args.pass.view c.args.q c.args.p c.args.range.now those.touched) asked c.read_later-later.ensures.touched in
+    let are = IfOk-at_ok (λ those. those.pairs.items ≡ pairs_asked those.touched c.args.range.now (state (take c.args.p c.args.pass.view))) asked c.read_later-later.ensures.exact in
+    let were =
+    IfOk-at_ok (λ those. those.items ≡ pairs_asked c.in-Ok.asked.touched c.args.range.now (state (take c.args.q c.read_later-later.result.pass.view))) found c.read_asked-earlier.ensures.exact
+    ∙ ap (pairs_asked c.in-Ok.asked.touched c.args.range.now) (state_still c.args.pass c.read_later-later.result.pass c.args.q c.read_later-later.ensures.reads_on (omega (arith, c.requires.order, c.requires.within))) in
+    IfOk-weaker c.compare-found.result _ _
+    (λ made is.
+    is ∙ (λ i. changes_of ((c.as_slice.ensures.value ∙ were) i) ((c.as_slice-2.ensures.value ∙ are) i))
+    ∙ asked_changes c.args.pass.view c.args.q c.args.p c.args.range.now c.in-Ok.asked.touched c.requires.order tells) c.compare-found.ensures

@@ -1,25 +1,27 @@
-use Rattle.std.proofs.Common.{◌≡◌, ◌≤◌, Option, IfSome, Some, refl, sym, ap, ◌∙◌, subst, ℕ}
+use Rattle.std.proofs.Common.{◌≤◌, Option, IfSome, Some, refl, sym, ap, ◌∙◌, subst, ℕ}
 use Rattle.std.proofs.lemmas.Bool.{false≢true}
-use Rattle.std.proofs.lemmas.Result.{on_ok_weaker}
+use Rattle.std.proofs.lemmas.Result.{on_err_weaker, on_ok_weaker}
 use Rattle.join_eval.proofs.MovesLemmas.{moves_trans}
 use Rattle.rank_layers.proofs.PartLemmas.{right_after}
 use Rattle.write_history.specs.Passes.{PassView}
-use Rattle.kept_ranges.specs.Sound.{KeptRange}
+use Rattle.range_state.specs.Ready.{StandsOrIsForgotten}
 use Rattle.cell_slots.specs.Slots.{IsRankAt}
 use Rattle.shared_cells.specs.Bringing.{IsBroughtFrom}
-use Rattle.shared_cells.proofs.CellLemmas.{brings, brings_nothing, rank_of_kept, right_here}
+use Rattle.shared_cells.proofs.CellLemmas.{kept_by, kept_nothing, rank_of_kept, right_here}
 use Rattle.shared_cells.proofs.cell.Cell.bring.Goals as goal
 
 pub returns-then-not-is_for-clause-brings : goal.returns-then-not-is_for-clause-brings
 returns-then-not-is_for-clause-brings g c = record {
   brought = λ same. absurd (false≢true (c.if-not-is_for.ensures.no (same ∙ ap (λ (n : ℕ). Some n) (sym c.meet.ensures.same_place.rank))));
   left = λ other. c.meet.ensures.held;
+  failed = tt;
 }
 
 pub returns-in_default-clause-brings : goal.returns-in_default-clause-brings
 returns-in_default-clause-brings g c = record {
-  brought = λ same. brings_nothing (g.R.Reader.floor c.args.reader.now) c.args.p c.args.self.now.held c.take_held.new.self.held (sym c.meet.ensures.held ∙ sym c.take_held.ensures.taken ∙ c.in_default.is) c.take_held.ensures.left;
+  brought = λ same. kept_nothing (IsBroughtFrom (g.R.Reader.floor c.args.reader.now) c.args.p) c.args.self.now.held c.take_held.new.self.held (sym c.meet.ensures.held ∙ sym c.take_held.ensures.taken ∙ c.in_default.is) c.take_held.ensures.left;
   left = λ other. absurd (other (c.if-not-is_for.ensures.yes refl ∙ ap (λ (n : ℕ). Some n) c.meet.ensures.same_place.rank));
+  failed = tt;
 }
 
 pub bring-brought-requires-clause-above : goal.bring-brought-requires-clause-above
@@ -50,11 +52,13 @@ pub returns-clause-brings : goal.returns-clause-brings
 returns-clause-brings g c =
     let brought = c.bring-brought in
     let floor = g.R.Reader.floor in
+    let kept = sym c.meet.ensures.held ∙ sym c.take_held.ensures.taken ∙ c.in-Some.is in
     record {
       brought = λ same. on_ok_weaker brought.result (λ from.
-          brings (floor c.args.reader.now) c.args.p c.args.self.now.held c.give_back.new.self.held c.in-Some.state brought.new.state (sym c.meet.ensures.held ∙ sym c.take_held.ensures.taken ∙ c.in-Some.is) c.give_back.ensures.held
+          kept_by (IsBroughtFrom (floor c.args.reader.now) c.args.p) c.args.self.now.held c.give_back.new.self.held c.in-Some.state brought.new.state kept c.give_back.ensures.held
           (subst (λ (n : ℕ). IsBroughtFrom n c.args.p c.in-Some.state brought.new.state) c.meet.ensures.moves.same_floor from)) brought.ensures.brought;
       left = λ other. absurd (other (c.if-not-is_for.ensures.yes refl ∙ ap (λ (n : ℕ). Some n) c.meet.ensures.same_place.rank));
+      failed = on_err_weaker brought.result (kept_by StandsOrIsForgotten c.args.self.now.held c.give_back.new.self.held c.in-Some.state brought.new.state kept c.give_back.ensures.held) brought.ensures.err;
     }
 
 pub returns-clause-idle : goal.returns-clause-idle

@@ -1,9 +1,8 @@
-use Rattle.std.proofs.Common.{ℕ, ◌≡◌, ◌≤◌, Some, refl, sym, ◌∙◌, subst, arith}
+use Rattle.std.proofs.Common.{ℕ, ◌≤◌, refl, sym, ◌∙◌, subst, arith}
 use Rattle.std.proofs.lemmas.Bool.{false≢true}
 use Rattle.std.proofs.lemmas.Option.{none-some}
 use Rattle.join_eval.proofs.MovesLemmas.{moves_trans}
 use Rattle.growing_history.proofs.PrefixLemmas.{prefix_length}
-use Rattle.kept_ranges.specs.Sound.{KeptRange}
 use Rattle.range_serving.specs.Serving.{StandsFrom}
 use Rattle.cell_slots.specs.Slots.{StandsAs}
 use Rattle.cell_slots.proofs.DeclaredLemmas.{stands_over}

@@ -1,8 +1,0 @@
-use Rattle.std.proofs.Common.{◌≤◌, sym, ◌∙◌, subst}
-use Rattle.write_history.specs.Marks.{reach}
-use Rattle.write_history.specs.Passes.{PassView}
-use Rattle.range_cells.proofs.TurnLemmas.{reaches_to}
-use Rattle.range_cells.proofs.range_cells.RangeCells.read.Goals as goal
-
-pub read-found-requires-clause-above : goal.read-found-requires-clause-above
-read-found-requires-clause-above g c = subst (λ (v : PassView). reach v.mark ≤ c.args.p) (sym (c.new-stack.ensures ∙ c.new-lowest.ensures)) (reaches_to c.args.pass c.args.p c.requires.pinned)

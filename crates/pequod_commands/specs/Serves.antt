@@ -4,6 +4,7 @@ use Rattle.semantics.specs.Texts.{Text}
 use Rattle.semantics.specs.Joins.{Join}
 use Rattle.semantics.specs.Histories.{History}
 use Rattle.protocol.specs.JoinsFile.{file_history, check_text}
+use Rattle.pq_io.specs.Doors.{IsOpenAt}
 use Rattle.pq_io.specs.Links.{LinkTold}
 use Rattle.pq_io.specs.Streams.{Took, TookProperPrefix}
 use Rattle.pq_io.specs.Shelf.{File}
@@ -52,22 +53,22 @@ pub record EndsUnserved (status : ℕ) (held : Option (List File)) (joins taken 
   pub ending : Unserved
   pub ended : UnservedAs ending status held joins taken taken_now
 
--- how `serve` ends: the doors closed, or failed, after these joins were declared; or it ended with no link
+-- how `serve` ends: the doors, which were open at the address, closed, or they failed, after these joins were declared; or it ended with no link
 pub data Serving : Type 0 where
   closed : List Join → Serving
   failed : List Join → Serving
   unserved : Unserved → Serving
 
 module _ {K R : Type 0} (told : K → LinkTold) (tells : R → LinkTold) where
-  -- what each end says of the status, of the joins file, of what the sink took, and of the links: what the doors held and hold, and the receipts that came back
-  abbrev pub ServedAs : Serving → ℕ → Option (List File) → Option Text → Option Text → Option Text → Option (List K) → Option (List K) → Option (List (List R)) → Type 0
-  ServedAs (closed served) status held joins taken taken_now links links_now returned =
-      (status ≡ 0) × AreServed held joins served × Took taken taken_now [] × HoldNone links_now × LinksCameBack told tells served links links_now returned
-  ServedAs (failed served) status held joins taken taken_now links links_now returned =
-      (status ≡ 8) × AreServed held joins served × Took taken taken_now [] × LinksCameBack told tells served links links_now returned
-  ServedAs (unserved ending) status held joins taken taken_now links links_now returned = UnservedAs ending status held joins taken taken_now
+  -- what each end says of the status, of the joins file, of what the sink took, and of the links: the address, how many workers served them, what the doors held and hold, the receipts that came back, and where the doors were opened
+  abbrev pub ServedAs : Serving → ℕ → Text → ℕ → Option (List File) → Option Text → Option Text → Option Text → Option (List K) → Option (List K) → Option (List (List R)) → Option (Option Text) → Type 0
+  ServedAs (closed served) status address workers held joins taken taken_now links links_now returned opened =
+      (status ≡ 0) × AreServed held joins served × Took taken taken_now [] × HoldNone links_now × IsOpenAt opened address × LinksCameBack told tells workers served links links_now returned
+  ServedAs (failed served) status address workers held joins taken taken_now links links_now returned opened =
+      (status ≡ 8) × AreServed held joins served × Took taken taken_now [] × LinksCameBack told tells workers served links links_now returned
+  ServedAs (unserved ending) status address workers held joins taken taken_now links links_now returned opened = UnservedAs ending status held joins taken taken_now
 
-  -- `serve` with or without a joins file ended one of these ways
-  pub record ServesTo (status : ℕ) (held : Option (List File)) (joins taken taken_now : Option Text) (links links_now : Option (List K)) (returned : Option (List (List R))) : Type 0 where
+  -- `serve` at an address by so many workers, with or without a joins file, ended one of these ways
+  pub record ServesTo (status : ℕ) (address : Text) (workers : ℕ) (held : Option (List File)) (joins taken taken_now : Option Text) (links links_now : Option (List K)) (returned : Option (List (List R))) (opened : Option (Option Text)) : Type 0 where
     pub ending : Serving
-    pub served : ServedAs ending status held joins taken taken_now links links_now returned
+    pub served : ServedAs ending status address workers held joins taken taken_now links links_now returned opened

@@ -63,6 +63,7 @@ pub fn replay<W: Sink, F: Shelf>(
     ensures writes_kept { result.number ≢ 5 → W.faults sink.new ≡ W.faults sink.old }
     ensures memory_sink { result.number ≡ 6 → sink.new ≡ sink.old }
     ensures shelf { result.number ≡ 9 → Rose (F.faults shelf.old) (F.faults shelf.new) }
+    ensures shelf_kept { result.number ≢ 9 → F.faults shelf.new ≡ F.faults shelf.old }
 {
     let bytes = match shelf.take(alloc, name) {
         Ok(bytes) => bytes,

@@ -1,6 +1,7 @@
 // Serving clients over links.
 ghost use Rattle.std.specs.Prelude.{◌≡◌, ◌≢◌, ◌≤◌, ◌⊎◌, map, option_map, is_err, true, IfErr, IfOk, MatchOption, OnOk};
 ghost use Rattle.protocol.specs.JoinsFile.{check_text, file_history};
+ghost use Rattle.pq_io.specs.Doors.{IsOpenAt};
 ghost use Rattle.pq_io.specs.Faults.{Rose};
 ghost use Rattle.pq_io.specs.Links.{link_told};
 ghost use Rattle.pq_io.specs.Streams.{Took, TookProperPrefix};
@@ -93,6 +94,8 @@ fn named_joins<W: Sink, F: Shelf>(
     ensures writes_kept { IfErr result (λ status. status.number ≢ 5 → W.faults sink.new ≡ W.faults sink.old) }
     ensures memory_sink { IfErr result (λ status. status.number ≡ 6 → sink.new ≡ sink.old) }
     ensures shelf { IfErr result (λ status. status.number ≡ 9 → Rose (F.faults shelf.old) (F.faults shelf.new)) }
+    ensures shelf_kept { IfErr result (λ status. status.number ≢ 9 → F.faults shelf.new ≡ F.faults shelf.old) }
+    ensures shelf_same { OnOk result (F.faults shelf.new ≡ F.faults shelf.old) }
     ensures others { IfErr result (λ status. IsJoinsEnd status.number) }
 {
     let Some(name) = name else {
@@ -131,11 +134,13 @@ where
     requires few_workers { serving.workers ≤ 64 }
     requires joins { AreDeclarable joins.items }
     ensures closed { result.number ≡ 0 → HoldNone (D.held doors.new) }
-    ensures links { result.number ≢ 6 → LinksCameBack (link_told D.Wire.left D.Wire.taken D.Wire.read_faults D.Wire.write_faults) D.Wire.tells joins.items (D.held doors.old) (D.held doors.new) (D.returned doors.new) }
+    ensures opened { result.number ≡ 0 → IsOpenAt (D.opened doors.new) serving.entry.address.now }
+    ensures links { result.number ≢ 6 → LinksCameBack (link_told D.Wire.left D.Wire.taken D.Wire.read_faults D.Wire.write_faults) D.Wire.tells serving.entry.workers joins.items (D.held doors.old) (D.held doors.new) (D.returned doors.new) }
     ensures ends { (result.number ≡ 0) ⊎ ((result.number ≡ 6) ⊎ (result.number ≡ 8)) }
     ensures doors_later { D.faults doors.old ≤ D.faults doors.new }
     ensures doors { result.number ≡ 8 → Rose (D.faults doors.old) (D.faults doors.new) }
-    ensures memory_doors { result.number ≡ 6 → D.held doors.new ≡ D.held doors.old }
+    ensures doors_kept { result.number ≢ 8 → D.faults doors.new ≡ D.faults doors.old }
+    ensures memory_doors { result.number ≡ 6 → doors.new ≡ doors.old }
 {
     let size = Size {
         cells: serving.room.cells,
@@ -149,8 +154,9 @@ where
     }
 }
 
-/// Declares the joins of the joins file, opens the doors, and serves each link that they give until they close. Then the receipts of
-/// all these links go back to the doors. A line of the joins file that is refused is written, and then the doors stay as they are.
+/// Declares the joins of the joins file, opens the doors, and serves each link that they give until they close or fail. Then the
+/// receipts of all these links go back to the doors. A line of the joins file that is refused is written. Where the status is neither
+/// 0 nor 8 the doors stay as they are.
 pub fn serve<R, W, F, D, G>(
     rt: &R,
     alloc: Global,
@@ -172,7 +178,7 @@ where
     requires some_rows { 1 ≤ serving.room.rows }
     requires some_workers { 1 ≤ serving.workers }
     requires few_workers { serving.workers ≤ 64 }
-    ensures serve { ServesTo (link_told D.Wire.left D.Wire.taken D.Wire.read_faults D.Wire.write_faults) D.Wire.tells result.number (F.held shelf.old) (option_map (λ text. text.now) serving.entry.joins) (W.taken sink.old) (W.taken sink.new) (D.held doors.old) (D.held doors.new) (D.returned doors.new) }
+    ensures serve { ServesTo (link_told D.Wire.left D.Wire.taken D.Wire.read_faults D.Wire.write_faults) D.Wire.tells result.number serving.entry.address.now serving.entry.workers (F.held shelf.old) (option_map (λ text. text.now) serving.entry.joins) (W.taken sink.old) (W.taken sink.new) (D.held doors.old) (D.held doors.new) (D.returned doors.new) (D.opened doors.new) }
     ensures same_held { F.held shelf.new ≡ F.held shelf.old }
     ensures sink_later { W.faults sink.old ≤ W.faults sink.new }
     ensures shelf_later { F.faults shelf.old ≤ F.faults shelf.new }
@@ -180,9 +186,11 @@ where
     ensures write { result.number ≡ 5 → Rose (W.faults sink.old) (W.faults sink.new) }
     ensures writes_kept { result.number ≢ 5 → W.faults sink.new ≡ W.faults sink.old }
     ensures memory_sink { result.number ≡ 6 → sink.new ≡ sink.old }
-    ensures memory_doors { result.number ≡ 6 → D.held doors.new ≡ D.held doors.old }
+    ensures untouched_doors { result.number ≢ 0 → result.number ≢ 8 → doors.new ≡ doors.old }
     ensures shelf { result.number ≡ 9 → Rose (F.faults shelf.old) (F.faults shelf.new) }
+    ensures shelf_kept { result.number ≢ 9 → F.faults shelf.new ≡ F.faults shelf.old }
     ensures doors { result.number ≡ 8 → Rose (D.faults doors.old) (D.faults doors.new) }
+    ensures doors_kept { result.number ≢ 8 → D.faults doors.new ≡ D.faults doors.old }
 {
     let joins = match named_joins(alloc, serving.joins, sink, shelf) {
         Ok(joins) => joins,

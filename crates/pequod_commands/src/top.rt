@@ -1,5 +1,5 @@
 // The top call: all that the program does, over what it is handed.
-ghost use Rattle.std.specs.Prelude.{◌≡◌, ◌<◌, ◌≤◌, ◌↔◌, ◌⊎◌, List, Option, ℕ, map, string_bytes, false, Some, None};
+ghost use Rattle.std.specs.Prelude.{◌≡◌, ◌≢◌, ◌<◌, ◌≤◌, ◌↔◌, ◌⊎◌, List, Option, ℕ, map, string_bytes, false, Some, None};
 ghost use Rattle.pq_io.specs.Faults.{Rose};
 ghost use Rattle.pq_io.specs.Links.{link_told};
 ghost use Rattle.command_words.specs.Commands as plain;
@@ -29,8 +29,9 @@ use std::thread::Threads;
 /// does acts that are drawn and writes what stands then. `serve ADDRESS` declares the joins of a joins file, if one is named,
 /// opens the doors and answers the lines of each link that they give. Words that form no command have status 2. What a command
 /// does not use is unchanged: `run` leaves the shelf and the doors, `check` and `replay` the source and the doors, `load` all but
-/// the sink, `serve` the source, and no command all four. With status 6 source and sink are unchanged, and the doors hold what
-/// they held. The gate is passed before a range of a join's output is filled or mended for a link or for a worker of a load.
+/// the sink, `serve` the source, and no command all four. With status 6 source and sink are unchanged, and with each status but 0 and
+/// 8 the doors. When `serve` ends with 0 or 8, the receipts of all links that the doors gave have gone back to them. The gate is
+/// passed before a range of a join's output is filled or mended for a link or for a worker of a load.
 pub fn pequod<R, S, W, F, D, G>(
     rt: &R,
     alloc: Global,
@@ -59,8 +60,8 @@ where
     ensures load { (room : plain.Room) (workers number steps users : ℕ) → built_command (map string_bytes words.now) ≡ Some (plain.load room workers number steps users) →
         LoadsTo result.number number steps users (W.taken sink.old) (W.taken sink.new) }
     ensures serve { (address : List ℕ) (room : plain.Room) (workers links : ℕ) (joins : Option (List ℕ)) → built_command (map string_bytes words.now) ≡ Some (plain.serve address room workers links joins) →
-        ServesTo (link_told D.Wire.left D.Wire.taken D.Wire.read_faults D.Wire.write_faults) D.Wire.tells result.number
-        (F.held shelf.old) joins (W.taken sink.old) (W.taken sink.new) (D.held doors.old) (D.held doors.new) (D.returned doors.new) }
+        ServesTo (link_told D.Wire.left D.Wire.taken D.Wire.read_faults D.Wire.write_faults) D.Wire.tells result.number address workers
+        (F.held shelf.old) joins (W.taken sink.old) (W.taken sink.new) (D.held doors.old) (D.held doors.new) (D.returned doors.new) (D.opened doors.new) }
 
     // Where no count rose, `check`, `replay` and `load` have one of these ends, and so has `serve`.
     ensures check_ends { (name : List ℕ) → built_command (map string_bytes words.now) ≡ Some (plain.check name) →
@@ -83,13 +84,13 @@ where
     ensures same_doors { uses_doors (built_command (map string_bytes words.now)) ≡ false → doors.new ≡ doors.old }
     ensures same_held { F.held shelf.new ≡ F.held shelf.old }
 
-    // Where there was no memory, nothing was read and nothing written, and no link was taken.
+    // Where there was no memory, nothing was read and nothing written. The doors were touched only where they closed or failed.
     ensures memory_source { result.number ≡ 6 → source.new ≡ source.old }
     ensures memory_sink { result.number ≡ 6 → sink.new ≡ sink.old }
-    ensures memory_doors { result.number ≡ 6 → D.held doors.new ≡ D.held doors.old }
+    ensures untouched_doors { result.number ≢ 0 → result.number ≢ 8 → doors.new ≡ doors.old }
 
-    // A fault comes only from the object whose count of faults rose. Where the count of the source rose the status is 4, and
-    // where that of the sink rose it is 5; so not both rose.
+    // A fault comes only from the object whose count of faults rose, and where a count rose the status is that of its object; so
+    // no two rose.
     ensures source_later { S.faults source.old ≤ S.faults source.new }
     ensures sink_later { W.faults sink.old ≤ W.faults sink.new }
     ensures shelf_later { F.faults shelf.old ≤ F.faults shelf.new }
@@ -99,7 +100,9 @@ where
     ensures write { result.number ≡ 5 → Rose (W.faults sink.old) (W.faults sink.new) }
     ensures write_rose { W.faults sink.old < W.faults sink.new → result.number ≡ 5 }
     ensures shelf { result.number ≡ 9 → Rose (F.faults shelf.old) (F.faults shelf.new) }
+    ensures shelf_rose { F.faults shelf.old < F.faults shelf.new → result.number ≡ 9 }
     ensures doors { result.number ≡ 8 → Rose (D.faults doors.old) (D.faults doors.new) }
+    ensures doors_rose { D.faults doors.old < D.faults doors.new → result.number ≡ 8 }
 {
     match read_command(words) {
         None => Status::WORDS,

@@ -1,5 +1,6 @@
 // Links in memory whose bytes are read when they are gone, and the top call over doors that give them.
 ghost use Rattle.std.specs.Prelude.{Some};
+ghost use Rattle.pq_io.specs.Memory.{told_of_state};
 
 use pequod_commands::{Status, pequod};
 use pq_io::{Failed, Gate, Link, MemDoors, MemLink, MemShelf, MemSink, MemSource};
@@ -21,6 +22,8 @@ pub struct Copying<'a, R> {
 }
 
 impl<'a, R: Wait> Link for Copying<'a, R> {
+    type Receipt = MemLink;
+
     ghost left = { λ l. Some l.link.source.left };
 
     ghost taken = { λ l. Some l.link.sink.taken };
@@ -29,14 +32,7 @@ impl<'a, R: Wait> Link for Copying<'a, R> {
 
     ghost write_faults = { λ l. l.link.sink.log.faults };
 
-    type Receipt = MemLink;
-
-    ghost tells = { λ l. record {
-      left = Some l.source.left;
-      taken = Some l.sink.taken;
-      read_faults = l.source.log.faults;
-      write_faults = l.sink.log.faults;
-    } };
+    ghost tells = { told_of_state };
 
     fn read(&mut self, into: &mut [u8]) -> Result<usize, Failed> {
         self.link.read(into)
@@ -91,7 +87,7 @@ pub fn expect_taken<R: Wait + Abort>(rt: &R, taken: &Taken, wanted: &str) {
 }
 
 /// Runs the words over a gate and over doors that give the links and fail at these calls, where the shelf has one join in the file
-/// `j`. Asserts that nothing is written to the sink, and that it ends with this status.
+/// `j`. Asserts that nothing is written to the sink, and that it ends with this status. Gives the doors.
 pub fn serve_by<R, K, G>(
     rt: &R,
     words: &[&str],
@@ -99,7 +95,7 @@ pub fn serve_by<R, K, G>(
     failing: Vec<usize>,
     gate: &G,
     wanted: Status,
-) -> Result<(), Fail>
+) -> Result<MemDoors<K>, Fail>
 where
     R: AllocGlobal + Threads + Wait + Abort + Sync,
     K: Link + Send + Drop,
@@ -128,5 +124,5 @@ where
         gate,
     );
     assert!(rt; status == wanted && sink.bytes().is_empty());
-    Ok(())
+    Ok(doors)
 }

@@ -1,5 +1,6 @@
 // A link of `serve` whose scan is held at the gate, and one that is served meanwhile.
 ghost use Rattle.std.specs.Prelude.{Some};
+ghost use Rattle.pq_io.specs.Memory.{told_of_state};
 
 use crate::copying::{Copying, Taken, cut_link, expect_taken, serve_by};
 use pequod_commands::Status;
@@ -90,6 +91,8 @@ fn count_lines(bytes: &[u8]) -> usize {
 }
 
 impl<R: Wait> Link for Paced<'_, R> {
+    type Receipt = MemLink;
+
     ghost left = { λ l. Some l.link.link.source.left };
 
     ghost taken = { λ l. Some l.link.link.sink.taken };
@@ -98,14 +101,7 @@ impl<R: Wait> Link for Paced<'_, R> {
 
     ghost write_faults = { λ l. l.link.link.sink.log.faults };
 
-    type Receipt = MemLink;
-
-    ghost tells = { λ l. record {
-      left = Some l.source.left;
-      taken = Some l.sink.taken;
-      read_faults = l.source.log.faults;
-      write_faults = l.sink.log.faults;
-    } };
+    ghost tells = { told_of_state };
 
     fn read(&mut self, into: &mut [u8]) -> Result<usize, Failed> {
         if let Some(stage) = self.waits.pop() {

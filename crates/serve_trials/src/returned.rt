@@ -1,6 +1,7 @@
 // The receipts of links, which go back to the doors that gave them.
-use pequod_commands::{Status, pequod};
-use pq_io::{MemDoors, MemLink, MemShelf, MemSink, MemSource, OpenGate};
+use crate::copying::serve_by;
+use pequod_commands::Status;
+use pq_io::{MemLink, MemSink, MemSource, OpenGate};
 use std::alloc::Global;
 use std::test::Fail;
 
@@ -36,26 +37,10 @@ fn make_links(alloc: Global) -> Result<Vec<MemLink>, Fail> {
 #[test]
 fn links_come_back_with_what_they_took(rt: HostRuntime) -> Result<(), Fail> {
     let alloc: Global = rt.alloc();
-    let mut words = Vec::new(alloc);
-    for word in ALONE {
-        words.push(String::from_str(alloc, word)?)?;
-    }
-    let mut doors = MemDoors::new(make_links(alloc)?, Vec::new(alloc));
-    let mut shelf = MemShelf::new(Vec::new(alloc), Vec::new(alloc));
-    let mut source = source_of(alloc, "")?;
-    let mut sink = MemSink::new(alloc, Vec::new(alloc));
-    let status = pequod(
-        &rt,
-        alloc,
-        words.as_slice(),
-        &mut source,
-        &mut sink,
-        &mut shelf,
-        &mut doors,
-        &OpenGate,
-    );
+    let links = make_links(alloc)?;
+    let doors = serve_by(&rt, &ALONE, links, Vec::new(alloc), &OpenGate, Status::DONE)?;
     let lists = doors.returned();
-    assert!(rt; status == Status::DONE && lists.len() == 1 && lists[0].len() == LINKS.len());
+    assert!(rt; lists.len() == 1 && lists[0].len() == LINKS.len());
     for ((_, answers), link) in LINKS.iter().zip(lists[0].as_slice()) {
         assert!(rt; link.bytes() == answers.as_bytes());
     }

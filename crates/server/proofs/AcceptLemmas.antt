@@ -1,6 +1,6 @@
 -- Links that doors give, and that are put into a queue.
-use Rattle.std.proofs.Common.{◌≡◌, List, [], ◌∷◌, ◌++◌, Some, None, Option, refl, sym, ap, ◌∙◌, append_assoc, append-nil}
-use Rattle.std.specs.Prelude.{option_map}
+use Rattle.std.proofs.Common.{◌≡◌, List, [], ◌∷◌, ◌++◌, Some, None, Option, Result, Ok, Err, refl, sym, ap, ◌∙◌, append_assoc, append-nil}
+use Rattle.std.specs.Prelude.{option_map, OnOk}
 use Rattle.pq_io.specs.Doors.{GaveLink}
 use Rattle.door_queue.specs.Tallies.{Tallied, put_in}
 use Rattle.server.specs.Receipts.{HasAccepted}
@@ -35,3 +35,8 @@ accepted_same first before after t u so_far same = record {
   gave = so_far.gave ∙ ap (option_map (λ links. so_far.given ++ links)) (sym same);
   tally = so_far.tally;
 }
+
+-- what holds in any case holds where it went well
+pub on_ok : {T E : Type 0} (P : Type 0) (result : Result T E) → P → OnOk result P
+on_ok P (Ok x) holds = holds
+on_ok P (Err e) holds = tt

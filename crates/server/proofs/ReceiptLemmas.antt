@@ -1,5 +1,5 @@
 -- Links that are served one after another, and what comes back of all.
-use Rattle.std.proofs.Common.{◌≡◌, ◌≢◌, ℕ, zero, suc, ◌+◌, ◌-◌, ◌<◌, ◌≤◌, List, [], ◌∷◌, ◌++◌, length, map, Some, Option, refl, sym, ap, ◌∙◌, subst, arith, append_assoc, append-nil}
+use Rattle.std.proofs.Common.{◌≡◌, ◌≢◌, ℕ, zero, suc, ◌+◌, ◌-◌, ◌≤◌, List, [], ◌∷◌, ◌++◌, length, map, Some, Option, refl, sym, ap, ◌∙◌, subst, arith, append_assoc, append-nil, length-append}
 use Rattle.std.specs.Prelude.{slice_get, option_map, IfSome}
 use Rattle.std.specs.List.{AllByRecursion, AllZip}
 use Rattle.std.proofs.lemmas.List.{map-append, length-map}
@@ -9,7 +9,7 @@ use Rattle.atomic_table.specs.Seated.{TableId}
 use Rattle.semantics.specs.Texts.{Text}
 use Rattle.semantics.specs.Joins.{Join}
 use Rattle.semantics.specs.Histories.{History, IsPrefix}
-use Rattle.protocol.specs.Session.{Ending, Served, no_memory, read_fault, write_fault}
+use Rattle.protocol.specs.Session.{Served, no_memory, read_fault, write_fault}
 use Rattle.pq_io.specs.Faults.{Rose}
 use Rattle.pq_io.specs.Links.{LinkTold}
 use Rattle.pq_io.specs.Streams.{Gave, Took}
@@ -19,8 +19,8 @@ use Rattle.session.specs.declared.end.End.TheVariants.{Closed, Quit, Long, ReadF
 use Rattle.session.specs.Ends.{plain_end}
 use Rattle.door_queue.specs.Tallies.{Tallied, EachOnce, all_parts, joined, taken_out, tally_of}
 use Rattle.write_history.specs.Passes.{HistoryId, PassView}
-use Rattle.server.specs.Staffs.{AreStaff, HasSeenJoins, declared}
-use Rattle.server.specs.Receipts.{CountsFault, WasServed, all_of, Shift, WorkerView, ServedInTurn, IsShift, CameBack, HasServed, HasWorked, HaveWorked, ServedTheRest, LinksCameBack, HasAccepted, joined_all, hired}
+use Rattle.server.specs.Staffs.{AreStaff, HasSeenJoins}
+use Rattle.server.specs.Receipts.{WasServed, all_of, Shift, WorkerView, ServedInTurn, IsShift, CameBack, HasServed, HasWorked, HaveWorked, ServedTheRest, LinksCameBack, HasAccepted, joined_all, hired}
 
 -- ---- one link
 
@@ -142,6 +142,14 @@ no_more xs (y ∷ ys) all is none = absurd (omega arith)
 pub map_more : {A B : Type 0} (f : A → B) (first now next : List B) (xs : List A) (x : A) → now ≡ first ++ map f xs → next ≡ now ++ f x ∷ [] → next ≡ first ++ map f (xs ++ x ∷ [])
 map_more f first now next xs x was more =
     more ∙ ap (λ l. l ++ f x ∷ []) was ∙ append_assoc first (map f xs) (f x ∷ []) ∙ ap (λ l. first ++ l) (sym (map-append f xs (x ∷ [])))
+
+-- as many lists as elements, where there is one of each of the first ones and one more
+pub one_of_each : {W R : Type 0} (f : W → List R) (front : List W) (last : W) (lists : List (List R)) (list : List R) → lists ≡ map f front → length (lists ++ list ∷ []) ≡ length (front ++ last ∷ [])
+one_of_each f front last lists list are =
+    let same : length lists ≡ length front = ap length are ∙ length-map front f in
+    let more_lists = length-append lists (list ∷ []) in
+    let more_elements = length-append front (last ∷ []) in
+    omega arith
 
 -- ---- a tally to which others are joined
 
@@ -386,11 +394,13 @@ module _ {K R : Type 0} (told : K → LinkTold) (tells : R → LinkTold) where
   worked_count queue clients workers worked =
       sym (length_all_zip (HasWorked told tells) (hired queue clients) workers worked) ∙ length-map clients (fresh queue)
 
-  pub links_came_back : (joins : List Join) (first now last : Option (List K)) (old new : Tallied K) (receipts : List (List R)) (returned : Option (List (List R))) →
-      HasAccepted first now old new → old.put ≡ [] → last ≡ now → CameBack told tells joins new.put receipts → IfSome returned (λ lists. lists ≡ receipts) → LinksCameBack told tells joins first last returned
-  links_came_back joins first now last old new receipts returned accepted none same back returns = record {
+  pub links_came_back : (workers : ℕ) (joins : List Join) (first now last : Option (List K)) (old new : Tallied K) (receipts : List (List R)) (returned : Option (List (List R))) →
+      HasAccepted first now old new → old.put ≡ [] → last ≡ now → length receipts ≡ workers → CameBack told tells joins new.put receipts → IfSome returned (λ lists. lists ≡ receipts) →
+      LinksCameBack told tells workers joins first last returned
+  links_came_back workers joins first now last old new receipts returned accepted none same staffed back returns = record {
     given = accepted.given;
     receipts = receipts;
+    staffed = staffed;
     gave = accepted.gave ∙ ap (option_map (λ links. accepted.given ++ links)) (sym same);
     returns = returns;
     back = subst (λ (put : List K). CameBack told tells joins put receipts) (ap (λ (t : Tallied K). t.put) accepted.tally ∙ ap (λ (l : List K). l ++ accepted.given) none) back;

@@ -1,5 +1,6 @@
 -- Links that were served, and the receipts of them.
-use Rattle.std.specs.Prelude.{◌≡◌, ℕ, ◌+◌, ◌≤◌, List, [], ◌∷◌, ◌++◌, fold, map, slice_get, Option, Some, IfSome, option_map}
+use Rattle.std.specs.Prelude.{◌≡◌, ℕ, ◌+◌, ◌≤◌, List, [], ◌∷◌, ◌++◌, fold, length, map, slice_get, Option, Some, IfSome, option_map, Result, MatchResult, Vec}
+use Rattle.std.specs.Global.{Global}
 use Rattle.semantics.specs.Texts.{Text}
 use Rattle.semantics.specs.Joins.{Join}
 use Rattle.semantics.specs.Histories.{History, IsPrefix}
@@ -71,10 +72,11 @@ module _ {K R : Type 0} (told : K → LinkTold) (tells : R → LinkTold) where
     pub receipts : returned ≡ map (λ s. s.receipts) shifts
     pub each : (i : ℕ) (shift : Shift K R) → slice_get shifts i ≡ Some shift → IsShift joins history (i + 1) shift
 
-  -- so did the links that doors gave, where they tell what they held and what came back
-  pub record LinksCameBack (joins : List Join) (held held_now : Option (List K)) (returned : Option (List (List R))) : Type 0 where
+  -- so did the links that doors gave, where they tell what they held and what came back: a list of receipts of each of so many workers
+  pub record LinksCameBack (workers : ℕ) (joins : List Join) (held held_now : Option (List K)) (returned : Option (List (List R))) : Type 0 where
     pub given : List K
     pub receipts : List (List R)
+    pub staffed : length receipts ≡ workers
     pub gave : held ≡ option_map (λ links. given ++ links) held_now
     pub returns : IfSome returned (λ lists. lists ≡ receipts)
     pub back : CameBack joins given receipts
@@ -112,6 +114,10 @@ joined_all tally tallies = fold joined tally tallies
 -- workers that have served nothing, with these clients
 abbrev pub hired : {K R : Type 0} → TableId → List PassView → List (WorkerView K R)
 hired queue clients = map (λ c. record { client = c; tally = tally_of queue 1; receipts = [] }) clients
+
+-- a task was done beside workers: what it gives, and what each worker leaves, in order; or it was not done, and comes back
+abbrev pub RanBeside : {T A W L : Type 0} → (T → A → Type 0) → (W → L → Type 0) → T → List W → Result (A × Vec L Global) T → Type 0
+RanBeside gives leaves task workers result = MatchResult result (λ done. gives task done.0 × AllZip leaves workers done.1.items) (λ back. back ≡ task)
 
 -- the doors gave links, which were put
 pub record HasAccepted {K : Type 0} (held held_now : Option (List K)) (old new : Tallied K) : Type 0 where

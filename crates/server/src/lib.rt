@@ -2,10 +2,12 @@
 // them an updater brings forward what the cache keeps. Each worker and the updater has a thread, and no door is opened before.
 //
 // The layer above may use `serve`, which does all of it and may wait; `staff` makes the workers' clients, and `serve_doors`
-// opens the doors and serves links with them.
+// opens the doors and serves links with them, where `Declaring` names the joins that the clients have seen. When serving ends, the
+// receipts of all links go back to the doors.
 #![tactic(auto)]
 
 mod accepting;
+mod beside;
 pub mod declaring;
 pub mod opening;
 pub mod serving;

@@ -1,6 +1,7 @@
 // A cache that is served at an address.
-ghost use Rattle.std.specs.Prelude.{◌≡◌, ◌≢◌, ◌≤◌, length, IfOk};
+ghost use Rattle.std.specs.Prelude.{◌≡◌, ◌≢◌, ◌+◌, ◌-◌, ◌≤◌, length, IfOk};
 ghost use Rattle.pequod_cache.specs.Sitting.{AreOf, AreOfParts, AreWriters, IsFresh};
+ghost use Rattle.pq_io.specs.Doors.{IsOpenAt};
 ghost use Rattle.pq_io.specs.Faults.{Rose};
 ghost use Rattle.pq_io.specs.Links.{link_told};
 ghost use Rattle.server.specs.Doors.{HoldNone};
@@ -43,6 +44,7 @@ fn make_seats(alloc: Global, workers: u32, cells: u32) -> Result<Seats, OutOfMem
     requires few_workers { workers ≤ 64 }
     requires few_cells { cells ≤ 65536 }
     ensures clients { IfOk result (λ seats. AreWriters seats.history (length seats.clients.items) seats.clients.items) }
+    ensures seated { IfOk result (λ seats. length seats.clients.items ≡ workers + 1) }
     ensures two { IfOk result (λ seats. 2 ≤ length seats.clients.items) }
     ensures shards { IfOk result (λ seats. AreOfParts seats.history seats.shards.items) }
     ensures cells { IfOk result (λ seats. AreOf seats.history (length seats.cells.items) seats.cells.items) }
@@ -81,8 +83,9 @@ where
     requires limit { 1 ≤ limit }
     requires joins { AreDeclarable joins.items }
     requires declares { joins.items ≡ J.joins }
-    ensures links { result ≢ Ended.OutOfMemory → LinksCameBack (link_told D.Wire.left D.Wire.taken D.Wire.read_faults D.Wire.write_faults) D.Wire.tells J.joins (D.held doors.old) (D.held doors.new) (D.returned doors.new) }
+    ensures links { result ≢ Ended.OutOfMemory → LinksCameBack (link_told D.Wire.left D.Wire.taken D.Wire.read_faults D.Wire.write_faults) D.Wire.tells (length seats.clients.items - 1) J.joins (D.held doors.old) (D.held doors.new) (D.returned doors.new) }
     ensures closed { result ≡ Ended.Closed → HoldNone (D.held doors.new) }
+    ensures opened { result ≡ Ended.Closed → IsOpenAt (D.opened doors.new) address.entry.text.now }
     ensures failed { result ≡ Ended.Failed → Rose (D.faults doors.old) (D.faults doors.new) }
     ensures kept { result ≢ Ended.Failed → D.faults doors.new ≡ D.faults doors.old }
     ensures later { D.faults doors.old ≤ D.faults doors.new }
@@ -95,7 +98,8 @@ where
 }
 
 /// Makes a cache, declares the joins, starts the workers and an updater, opens the doors at the address, and serves each link that
-/// they give until they close. Before a range of a join's output is filled or mended the gate is passed.
+/// they give until they close or fail. Then the receipts of all these links go back to the doors, a list of each worker. Before a range
+/// of a join's output is filled or mended the gate is passed.
 ///
 /// Where there is no memory for the cache, or no thread for one of the workers or the updater, the doors stay as they are.
 pub fn serve<R, D, G>(
@@ -118,8 +122,9 @@ where
     requires some_workers { 1 ≤ size.workers }
     requires few_workers { size.workers ≤ 64 }
     requires joins { AreDeclarable joins.items }
-    ensures links { result ≢ Ended.OutOfMemory → LinksCameBack (link_told D.Wire.left D.Wire.taken D.Wire.read_faults D.Wire.write_faults) D.Wire.tells joins.items (D.held doors.old) (D.held doors.new) (D.returned doors.new) }
+    ensures links { result ≢ Ended.OutOfMemory → LinksCameBack (link_told D.Wire.left D.Wire.taken D.Wire.read_faults D.Wire.write_faults) D.Wire.tells size.workers joins.items (D.held doors.old) (D.held doors.new) (D.returned doors.new) }
     ensures closed { result ≡ Ended.Closed → HoldNone (D.held doors.new) }
+    ensures opened { result ≡ Ended.Closed → IsOpenAt (D.opened doors.new) address.now }
     ensures failed { result ≡ Ended.Failed → Rose (D.faults doors.old) (D.faults doors.new) }
     ensures kept { result ≢ Ended.Failed → D.faults doors.new ≡ D.faults doors.old }
     ensures later { D.faults doors.old ≤ D.faults doors.new }

@@ -1,5 +1,5 @@
 // What workers leave when they have ended.
-ghost use Rattle.std.specs.Prelude.{◌≡◌, ◌+◌, ◌<◌, ◌≤◌, ◌++◌, [], length, map, vec_len, vec_capacity};
+ghost use Rattle.std.specs.Prelude.{◌≡◌, ◌+◌, ◌<◌, ◌≤◌, ◌++◌, [], length, map, vec_capacity};
 ghost use Rattle.std.specs.List.{AllByRecursion};
 ghost use Rattle.semantics.specs.Histories.{IsPrefix};
 ghost use Rattle.pq_io.specs.Doors.{lists_of};
@@ -113,7 +113,8 @@ pub fn settle<'g, N: Naming, J: Declaring, G: Gate, K: Link, R: Wait>(
     requires no_receipts { receipts.items ≡ [] }
     requires room { length workers.items ≤ vec_capacity clients }
     requires place { length workers.items ≤ vec_capacity receipts }
-    ensures { CameBack (link_told K.left K.taken K.read_faults K.write_faults) K.tells J.joins tally.put (lists_of result.items) }
+    ensures back { CameBack (link_told K.left K.taken K.read_faults K.write_faults) K.tells J.joins tally.put (lists_of result.items) }
+    ensures count { length (lists_of result.items) ≡ length workers.entry.items }
 {
     let Some(last) = workers.pop() else {
         unreachable!()

@@ -1,28 +1,28 @@
-// Workers: who serves links, and what they have of a queue.
+// Workers: who serves links, what they have of a queue, and what they leave.
 ghost use Rattle.std.specs.Prelude.{◌≡◌, ◌<◌, ◌-◌, [], length, IfOk, OnOk};
-ghost use Rattle.atomic_table.specs.Seated.{TableId};
-ghost use Rattle.door_queue.specs.Tallies.{all_parts};
 ghost use Rattle.pq_io.specs.Links.{link_told};
 ghost use Rattle.server.specs.Receipts.{HasWorked, hired};
 
+use crate::beside::Labour;
 use crate::updating::Ringing;
 use crate::working::serve_queued;
 use base_shards::Naming;
-use door_queue::{Bell, TalliedQueue, Tally};
+use door_queue::{AllPut, Bell, TalliedQueue, Tally};
 use out_of_memory::OutOfMemory;
 use pequod_cache::{Client, ClientService};
 use pq_io::{Gate, Link};
 use std::alloc::Global;
 use std::marker::Model;
-use std::snapshot::Snapshot;
 use std::sync::Wait;
-use std::thread::Promise;
 
 /// A client that serves the links of a queue, the tally of those that it took, and their receipts.
 #[derive(Drop)]
 pub struct Worker<'g, N: Naming, G, K: Link> {
+    /// What serves the links.
     pub client: Client<'g, N, G>,
+    /// What it took of the queue, with a part of the whole tally.
     pub tally: Tally<K>,
+    /// The receipts of the links that it took, in order.
     pub receipts: Vec<K::Receipt>,
 }
 
@@ -51,34 +51,6 @@ impl<'g, N: Naming, G, K: Link> Worker<'g, N, G, K> {
     }
 }
 
-/// What a thread does with the items of a queue, and what it leaves. Who works stays unseen where threads are made: the prover
-/// compares the types that a thread is given, and a client's type is large.
-pub trait Labour: Drop {
-    /// What the queue holds.
-    type Item;
-
-    /// What it leaves.
-    type Left: Drop;
-
-    /// That it is of this queue.
-    ghost is_of: { Self → TableId → Type 0 };
-
-    /// That it leaves this.
-    ghost leaves: { Self → Self.Left → Type 0 };
-
-    /// Takes the items that the queue gives, one after another, until the queue is closed and empty. The bell is rung where there is
-    /// work for who waits for it.
-    fn work<R: Wait>(
-        self,
-        rt: &R,
-        alloc: Global,
-        queue: &TalliedQueue<Self::Item>,
-        bell: &Bell,
-    ) -> Self::Left
-        requires { is_of self queue.now }
-        ensures { leaves self result };
-}
-
 impl<'g, N: Naming, G: Gate, K: Link> Labour for Worker<'g, N, G, K> {
     type Item = K;
 
@@ -96,7 +68,7 @@ impl<'g, N: Naming, G: Gate, K: Link> Labour for Worker<'g, N, G, K> {
         alloc: Global,
         queue: &TalliedQueue<K>,
         bell: &Bell,
-    ) -> Worker<'g, N, G, K> {
+    ) -> (Worker<'g, N, G, K>, AllPut<K>) {
         let Worker {
             client,
             mut tally,
@@ -104,28 +76,21 @@ impl<'g, N: Naming, G: Gate, K: Link> Labour for Worker<'g, N, G, K> {
         } = self;
         let service = ClientService { rt, client };
         let mut ringing = Ringing { rt, bell, service };
-        serve_queued(rt, alloc, queue, &mut ringing, &mut tally, &mut receipts);
+        let all_put = serve_queued(rt, alloc, queue, &mut ringing, &mut tally, &mut receipts);
         let Ringing { service, .. } = ringing;
         let ClientService { client, .. } = service;
-        Worker {
+        let worker = Worker {
             client,
             tally,
             receipts,
-        }
+        };
+        (worker, all_put)
     }
 }
 
-/// What the thread of a worker keeps: it has done its work since it began so.
-#[derive(Drop)]
-pub struct Working<W> {
-    pub begun: Snapshot<W>,
-}
-
-impl<W: Labour> Promise<W::Left> for Working<W> {
-    ghost kept_by = { λ p left. W.leaves p.begun.value left };
-}
-
-/// A worker for each client, in order.
+/// Makes a worker for each client, in order. Linear in their number.
+///
+/// `OutOfMemory`: none was found for the list. The clients are let go.
 pub fn hire<'g, N: Naming, G, K: Link>(
     alloc: Global,
     queue: &TalliedQueue<K>,

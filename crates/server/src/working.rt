@@ -5,7 +5,7 @@ ghost use Rattle.pq_io.specs.Links.{link_told};
 ghost use Rattle.door_queue.specs.Tallies.{EachOnce, all_parts};
 ghost use Rattle.server.specs.Receipts.{HasServed, WasServed};
 
-use door_queue::{TalliedQueue, Tally};
+use door_queue::{AllPut, TalliedQueue, Tally};
 use pq_io::Link;
 use session::{End, Service, serve_link};
 use std::alloc::Global;
@@ -56,8 +56,8 @@ fn reserve_one<S: Service, A, R: Wait>(rt: &R, service: &S, receipts: &mut Vec<A
     unreachable!()
 }
 
-/// Serves the links that the queue gives with this service, one after another, until the queue is closed and empty, and puts their
-/// receipts behind the others. However one link ends, the next is served.
+/// Serves the links that the queue gives with this service, one after another, until the queue is closed and empty, which it tells, and
+/// puts their receipts behind the others. However one link ends, the next is served.
 pub fn serve_queued<S: Service, K: Link, R: Wait>(
     rt: &R,
     alloc: Global,
@@ -65,18 +65,19 @@ pub fn serve_queued<S: Service, K: Link, R: Wait>(
     service: &mut S,
     tally: &mut Tally<K>,
     receipts: &mut Vec<K::Receipt>,
-)
+) -> AllPut<K>
     requires queue { tally.old.queue ≡ queue.now }
     requires parts { 0 < tally.old.parts }
     ensures served { HasServed (link_told K.left K.taken K.read_faults K.write_faults) K.tells
         (S.number service.old) (S.view service.old) (S.view service.new) tally.old tally.new receipts.old.items receipts.new.items }
     ensures same_number { S.number service.new ≡ S.number service.old }
+    ensures all_put { result ≡ queue.now }
 {
     for _ in rt.forever() {
         reserve_one(rt, service, receipts);
         match queue.take(rt, tally) {
-            Some(link) => receipts.push_reserved(serve_one(alloc, service, link)),
-            None => return,
+            Ok(link) => receipts.push_reserved(serve_one(alloc, service, link)),
+            Err(all_put) => return all_put,
         }
     }
     unreachable!()

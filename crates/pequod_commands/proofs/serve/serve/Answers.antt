@@ -14,7 +14,7 @@ returns-clause-serve g c =
     ⊎_elim
     (λ zero. record {
       ending = closed joins;
-      served = (zero, c.in-Ok.ensures.joins, nothing, c.serve_links.ensures.closed zero, c.serve_links.ensures.links (λ six. omega arith));
+      served = (zero, c.in-Ok.ensures.joins, nothing, c.serve_links.ensures.closed zero, c.serve_links.ensures.opened zero, c.serve_links.ensures.links (λ six. omega arith));
     })
     (λ others. ⊎_elim
     (λ six. record { ending = unserved no_memory; served = (six, nothing) })
@@ -24,3 +24,8 @@ returns-clause-serve g c =
     })
     others)
     c.serve_links.ensures.ends
+
+-- that serving ended neither with closed doors nor with failed ones leaves a want of memory
+pub returns-clause-untouched_doors : goal.returns-clause-untouched_doors
+returns-clause-untouched_doors g c = λ unclosed unfailed.
+    c.serve_links.ensures.memory_doors (⊎_elim (λ zero. absurd (unclosed zero)) (λ others. ⊎_elim (λ six. six) (λ eight. absurd (unfailed eight)) others) c.serve_links.ensures.ends)

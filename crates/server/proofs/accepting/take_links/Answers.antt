@@ -3,7 +3,7 @@ use Rattle.server.proofs.AcceptLemmas.{accepted_none, accepted_more, accepted_sa
 use Rattle.server.proofs.accepting.take_links.Goals as goal
 
 pub loop-init : goal.loop-init
-loop-init g c = record { goes_on = search rules; same_faults = refl; accepted = accepted_none _ _ }
+loop-init g c = record { goes_on = search rules; same_opened = refl; same_faults = refl; accepted = accepted_none _ _ }
 
 -- a link more
 pub loop-preserved : goal.loop-preserved
@@ -12,6 +12,7 @@ loop-preserved g c =
     let given = c.in_ok-link.ensures in
     record {
       goes_on = search rules;
+      same_opened = given.same_opened ∙ so_far.same_opened;
       same_faults = given.cause.kept ∙ so_far.same_faults;
       accepted = accepted_more _ _ _ _ _ _ c.in-Some-2.link so_far.accepted (rw c.in-Some-2.is at given.links) c.put.ensures;
     }

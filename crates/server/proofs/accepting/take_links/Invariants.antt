@@ -6,6 +6,7 @@ use Rattle.server.proofs.accepting.take_links.Given as goal
 abbrev pub invariant-loop : goal.invariant-loop
 invariant-loop g l = record {
   goes_on : (goal.iterator-loop g).can_next l.iterator' × (goal.iterator-loop g).is_finite l.iterator';
+  same_opened : g.D.Doors.opened l.doors ≡ g.D.Doors.opened l.fn.doors;
   same_faults : g.D.Doors.faults l.doors ≡ g.D.Doors.faults l.fn.doors;
   accepted : HasAccepted (g.D.Doors.held l.fn.doors) (g.D.Doors.held l.doors) l.fn.tally l.tally;
 }

@@ -1,7 +1,7 @@
-use Rattle.std.proofs.Common.{◌≡◌, ◌+◌, ◌-◌, ◌<◌, [], length, ap, sym, ◌∙◌, subst, arith, rules}
+use Rattle.std.proofs.Common.{◌≡◌, ◌-◌, [], length, ap, sym, ◌∙◌, subst, arith, rules}
 use Rattle.std.specs.List.{AllByRecursion, AllZip}
 use Rattle.pq_io.specs.Links.{link_told}
-use Rattle.door_queue.specs.Tallies.{Tallied, all_parts}
+use Rattle.door_queue.specs.Tallies.{Tallied}
 use Rattle.server.specs.Receipts.{HasWorked}
 use Rattle.server.proofs.ReceiptLemmas.{IsWhole, hired_queues, is_whole, links_came_back, worked_count}
 use Rattle.server.proofs.serving.serve_doors.Goals as goal
@@ -96,4 +96,7 @@ settle-receipts-requires-clause-place g c =
 pub returns-in-Ok-accepted-clause-links : goal.returns-in-Ok-accepted-clause-links
 returns-in-Ok-accepted-clause-links g c =
     let none : c.hire.new.tally.put ≡ [] = ap (λ (t : Tallied _). t.put) c.in-Ok-hire.ensures.tally ∙ ap (λ (t : Tallied _). t.put) c.in-Ok-new.ensures in
-    λ _. links_came_back (link_told g.D.Wire.Link.left g.D.Wire.Link.taken g.D.Wire.Link.read_faults g.D.Wire.Link.write_faults) g.D.Wire.Link.tells g.J.Declaring.joins _ _ _ _ _ _ _ c.in-Ok-served.ensures.accepted none c.take_back.ensures.same_held c.settle-receipts.ensures c.take_back.ensures.returned
+    let count = worked_count (link_told g.D.Wire.Link.left g.D.Wire.Link.taken g.D.Wire.Link.read_faults g.D.Wire.Link.write_faults) g.D.Wire.Link.tells c.in-Ok-new.queue c.args.clients.items c.in-Ok-served.workers.items
+    (subst (λ l. AllZip (HasWorked (link_told g.D.Wire.Link.left g.D.Wire.Link.taken g.D.Wire.Link.read_faults g.D.Wire.Link.write_faults) g.D.Wire.Link.tells) l c.in-Ok-served.workers.items) c.in-Ok-hire.ensures.workers c.in-Ok-served.ensures.worked) in
+    λ _. links_came_back (link_told g.D.Wire.Link.left g.D.Wire.Link.taken g.D.Wire.Link.read_faults g.D.Wire.Link.write_faults) g.D.Wire.Link.tells (length c.args.clients.items) g.J.Declaring.joins _ _ _ _ _ _ _
+    c.in-Ok-served.ensures.accepted none c.take_back.ensures.same_held (c.settle-receipts.ensures.count ∙ count) c.settle-receipts.ensures.back c.take_back.ensures.returned

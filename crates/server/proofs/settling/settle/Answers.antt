@@ -1,12 +1,11 @@
-use Rattle.std.proofs.Common.{◌≡◌, ◌+◌, ◌++◌, ◌∷◌, List, [], length, map, sym, ap, ◌∙◌, subst, arith, length-append}
+use Rattle.std.proofs.Common.{◌≡◌, ◌+◌, ◌++◌, ◌∷◌, [], length, map, sym, ap, ◌∙◌, subst, arith, length-append}
 use Rattle.std.specs.List.{AllByRecursion}
 use Rattle.std.proofs.lemmas.List.{map-append, length-map}
 use Rattle.pq_io.specs.Doors.{lists_of}
 use Rattle.pq_io.specs.Links.{link_told}
 use Rattle.door_queue.specs.Tallies.{Tallied}
-use Rattle.write_history.specs.Passes.{PassView}
-use Rattle.server.specs.Receipts.{WorkerView, CameBack, HaveWorked, ServedTheRest, hired, joined_all}
-use Rattle.server.proofs.ReceiptLemmas.{all_front, all_at, came_back, parts_grow, queue_joined, queues_of, whole_joined}
+use Rattle.server.specs.Receipts.{CameBack, HaveWorked, ServedTheRest, hired, joined_all}
+use Rattle.server.proofs.ReceiptLemmas.{all_front, all_at, came_back, one_of_each, parts_grow, queue_joined, queues_of, whole_joined}
 use Rattle.server.proofs.settling.settle.Goals as goal
 
 pub part_all-requires-clause-workers : goal.part_all-requires-clause-workers
@@ -77,8 +76,8 @@ push_reserved-requires g c =
     let place = c.requires.place in
     omega arith
 
-pub returns : goal.returns
-returns g c =
+pub returns-clause-back : goal.returns-clause-back
+returns-clause-back g c =
     let told = link_told g.K.Link.left g.K.Link.taken g.K.Link.read_faults g.K.Link.write_faults in
     let tells = g.K.Link.tells in
     let queue = c.args.queue.now in
@@ -98,3 +97,13 @@ returns g c =
     subst (λ l. CameBack told tells g.J.Declaring.joins c.args.tally.put l)
     (sym (ap lists_of c.push_reserved.ensures.items ∙ map-append (λ list. list.items) c.part_all.new.receipts.items (c.serve_rest.result ∷ [])))
     (came_back told tells queue g.N.Naming.history g.J.Declaring.joins starts front last c.args.tally new lists result c.requires.worked.1 whole c.requires.taken lists_are rest)
+
+-- a list of each worker came back
+pub returns-clause-count : goal.returns-clause-count
+returns-clause-count g c =
+    let front = c.pop.new.self.items in
+    let lists = lists_of c.part_all.new.receipts.items in
+    let lists_are : lists ≡ map (λ w. w.receipts) front = c.part_all.ensures.receipts ∙ ap (λ l. lists_of l ++ map (λ w. w.receipts) front) c.requires.no_receipts in
+    ap length (ap lists_of c.push_reserved.ensures.items ∙ map-append (λ list. list.items) c.part_all.new.receipts.items (c.serve_rest.result ∷ []))
+    ∙ one_of_each (λ w. w.receipts) front c.in-Some.last lists c.serve_rest.result.items lists_are
+    ∙ sym (ap length c.in-Some.ensures.items)

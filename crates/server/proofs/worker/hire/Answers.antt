@@ -1,7 +1,6 @@
-use Rattle.std.proofs.Common.{◌≡◌, ◌-◌, [], ◌∷◌, ◌++◌, length, refl, sym, ap, ◌∙◌, arith, rules}
+use Rattle.std.proofs.Common.{◌≡◌, ◌-◌, [], ◌∷◌, ◌++◌, length, sym, ap, ◌∙◌, arith, rules}
 use Rattle.door_queue.specs.Tallies.{Tallied, tally_of}
 use Rattle.write_history.specs.Passes.{PassView}
-use Rattle.server.specs.Receipts.{WorkerView}
 use Rattle.server.proofs.ReceiptLemmas.{map_more}
 use Rattle.server.proofs.worker.hire.Goals as goal
 

@@ -2,7 +2,7 @@ use Rattle.std.proofs.Common.{◌++◌, ◌∷◌, [], length, map, ap, sym, sub
 use Rattle.std.specs.List.{AllZip}
 use Rattle.std.proofs.lemmas.List.{map-append}
 use Rattle.server.proofs.ReceiptLemmas.{zip_push}
-use Rattle.server.proofs.serving.join_all.Goals as goal
+use Rattle.server.proofs.beside.join_all.Goals as goal
 
 pub loop-thread-preserved : goal.loop-thread-preserved
 loop-thread-preserved g c =

@@ -2,7 +2,7 @@ use Rattle.std.proofs.Common.{◌≡◌, ◌++◌, ◌∷◌, [], length, map, r
 use Rattle.std.specs.List.{AllByRecursion, AllZip}
 use Rattle.std.proofs.lemmas.List.{map-append}
 use Rattle.server.proofs.ReceiptLemmas.{all_next, no_more}
-use Rattle.server.proofs.serving.fn.run_beside_workers.scope.Goals as goal
+use Rattle.server.proofs.beside.fn.run_beside_workers.scope.Goals as goal
 
 pub loop-worker-init : goal.loop-worker-init
 loop-worker-init g c =

@@ -17,7 +17,7 @@ fn set_of(alloc: Global, keys: Vec<Key>) -> Result<BTreeSet<Key>, AllocError>
     keys.into_iter().collect(alloc)
 }
 
-/// Returns the set of copies of the keys, which share their texts. It takes one sort.
+/// Returns the set of copies of the keys, which share their long texts. It takes one sort.
 pub fn keys_in_order(alloc: Global, keys: &[Key]) -> Result<BTreeSet<Key>, OutOfMemory>
     ensures { IfOk result (λ set. HasJustKeys set keys.now) }
 {

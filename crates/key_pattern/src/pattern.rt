@@ -105,6 +105,15 @@ impl Pattern {
         bind_text(self.segments(), key.text(), given)
     }
 
+    /// As `matches`, for a text that need not be a key. Linear in it, and nothing is copied.
+    pub fn matches_text<'a>(&self, text: &'a str, given: &Slots<'a>) -> Option<Slots<'a>>
+        ensures binds { result ≡ bind self.now text.now given.now }
+        ensures is_pattern { is_pattern self.now ≡ true }
+        ensures slots { AreSlots given.now }
+    {
+        bind_text(self.segments(), text, given)
+    }
+
     /// Whether the key fits the pattern under some slots. Linear in the key.
     pub fn fits(&self, key: &Key) -> bool
         ensures { result ≡ fits self.now key.now }
@@ -122,7 +131,7 @@ impl Pattern {
         match Key::read(alloc, text.as_str()) {
             Ok(key) => Ok(Some(key)),
             Err(KeyFault::BadKey) => Ok(None),
-            Err(KeyFault::OutOfMemory) => Err(OutOfMemory),
+            Err(KeyFault::OutOfMemory(memory)) => Err(memory),
         }
     }
 

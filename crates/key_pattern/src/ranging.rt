@@ -125,7 +125,7 @@ fn key_range(alloc: Global, text: &str) -> Result<Option<Range>, OutOfMemory>
     match Key::read(alloc, text) {
         Ok(key) => Ok(Some(Range::just(alloc, &key)?)),
         Err(KeyFault::BadKey) => Ok(None),
-        Err(KeyFault::OutOfMemory) => Err(OutOfMemory),
+        Err(KeyFault::OutOfMemory(memory)) => Err(memory),
     }
 }
 

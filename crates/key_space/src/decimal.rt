@@ -1,7 +1,7 @@
-// Decimals without leading zeros, as a value and the width of a slot write numbers.
-ghost use Rattle.std.specs.Prelude.{◌≡◌};
+// Decimals, and those without leading zeros, as a value and the width of a slot write numbers.
+ghost use Rattle.std.specs.Prelude.{◌≡◌, ◌≤◌, ◌-◌, ◌^◌, SomeIff};
 ghost use Rattle.std.specs.List.{list_all};
-ghost use Rattle.semantics.specs.Outputs.{is_digit, is_positive};
+ghost use Rattle.semantics.specs.Outputs.{digits_value, is_digit, is_positive};
 
 /// Whether each byte is a digit, which holds of no bytes too. Linear in them.
 pub fn are_digits(bytes: &[u8]) -> bool
@@ -18,4 +18,19 @@ pub fn is_positive(bytes: &[u8]) -> bool
         Some((first, others)) => b'1' <= *first && *first <= b'9' && are_digits(others),
         None => false,
     }
+}
+
+/// Gives the number that the digits write; none where it is beyond 64 bits. Linear in them.
+pub fn digits_value(digits: &[u8]) -> Option<u64>
+    ensures { SomeIff result (digits_value digits.now ≤ 2 ^ 64 - 1) (digits_value digits.now) }
+{
+    let mut number: u64 = 0;
+    for digit in digits {
+        let next = 10 * u128::from(number) + u128::from(digit.saturating_sub(b'0'));
+        if next > u128::from(u64::MAX) {
+            return None;
+        }
+        number = next as u64;
+    }
+    Some(number)
 }

@@ -16,7 +16,7 @@ use std::marker::Model;
 pub const MAX_KEY_BYTES: usize = 512;
 
 /// A key: UTF-8 text of at most 512 bytes, which begins with a table's name of 1 to 64 bytes and `|`. Keys are in byte
-/// order. A copy shares the text.
+/// order. A copy shares a long text.
 #[derive(Debug, Drop)]
 pub struct Key {
     place: KeyBound,
@@ -34,12 +34,12 @@ impl Model for Key {
 }
 
 /// Why a text is refused as a key.
-#[derive(Clone, Copy, Debug, PartialEq, Eq)]
+#[derive(Debug, Drop, PartialEq, Eq)]
 pub enum KeyFault {
     /// The text is no key.
     BadKey,
     /// No memory was found for it.
-    OutOfMemory,
+    OutOfMemory(OutOfMemory),
 }
 
 impl Key {
@@ -58,7 +58,7 @@ impl Key {
             Ok(text) => Ok(Key {
                 place: KeyBound::of(text),
             }),
-            Err(_) => Err(KeyFault::OutOfMemory),
+            Err(memory) => Err(KeyFault::OutOfMemory(memory)),
         }
     }
 
@@ -98,7 +98,7 @@ impl Key {
         }
     }
 
-    /// An equal key, which shares the text. It takes constant time.
+    /// An equal key, which shares a long text. It takes constant time.
     pub fn copy(&self) -> Result<Key, OutOfMemory>
         ensures { IfOk result (λ copy. copy ≡ self.now) }
     {

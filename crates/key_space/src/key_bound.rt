@@ -10,7 +10,7 @@ use std::cmp::Ordering;
 use std::marker::Model;
 
 /// A bound in the order of keys: the text of a key, or that of a bound of a range, which need not be a key. A map whose
-/// keys are bounds can be read from one bound to another. A copy shares the text.
+/// keys are bounds can be read from one bound to another. A copy shares a long text.
 #[derive(Debug, Drop)]
 pub struct KeyBound {
     text: SharedText,
@@ -39,7 +39,7 @@ impl KeyBound {
         self.text.as_str()
     }
 
-    /// An equal bound, which shares the text. It takes constant time.
+    /// An equal bound, which shares a long text. It takes constant time.
     pub fn copy(&self) -> Result<KeyBound, OutOfMemory>
         ensures { IfOk result (λ copy. copy ≡ self.now) }
     {

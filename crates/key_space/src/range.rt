@@ -18,7 +18,7 @@ use std::marker::Model;
 pub const MAX_BOUND_BYTES: usize = 513;
 
 /// A range of keys: those from its first bound on and below its last. For one table T the first bound begins with `T|`,
-/// and the last begins with `T|` or is `T}`; neither has more than 513 bytes. A copy shares both texts.
+/// and the last begins with `T|` or is `T}`; neither has more than 513 bytes. A copy shares long texts.
 #[derive(Debug, Drop)]
 pub struct Range {
     low: KeyBound,
@@ -37,12 +37,12 @@ impl Model for Range {
 }
 
 /// Why two bounds are refused as a range.
-#[derive(Clone, Copy, Debug, PartialEq, Eq)]
+#[derive(Debug, Drop, PartialEq, Eq)]
 pub enum RangeFault {
     /// The bounds are no range.
     BadRange,
     /// No memory was found for it.
-    OutOfMemory,
+    OutOfMemory(OutOfMemory),
 }
 
 /// Whether the last bound begins with the table's name and `|`, or is the name and `}`.
@@ -53,6 +53,13 @@ fn ends_table(table: &str, high: &str) -> bool
         None => false,
         Some(rest) => rest.starts_with('|') || rest == "}",
     }
+}
+
+/// Looks at a range, and so knows that its bounds are those of a range. Constant.
+pub fn look_at(range: &Range)
+    ensures { is_range range.now.low range.now.high ≡ true }
+{
+    let _low = range.lo();
 }
 
 /// Whether two texts are the bounds of a range.
@@ -115,13 +122,15 @@ impl Range {
         if !is_range(low, high) {
             return Err(RangeFault::BadRange);
         }
-        match (SharedText::read(alloc, low), SharedText::read(alloc, high)) {
-            (Ok(low), Ok(high)) => Ok(Range {
-                low: KeyBound::of(low),
-                high: KeyBound::of(high),
-            }),
-            _ => Err(RangeFault::OutOfMemory),
-        }
+        let low = match SharedText::read(alloc, low) {
+            Ok(text) => KeyBound::of(text),
+            Err(memory) => return Err(RangeFault::OutOfMemory(memory)),
+        };
+        let high = match SharedText::read(alloc, high) {
+            Ok(text) => KeyBound::of(text),
+            Err(memory) => return Err(RangeFault::OutOfMemory(memory)),
+        };
+        Ok(Range { low, high })
     }
 
     /// The range between two bounds, which it keeps: no text is copied.
@@ -162,7 +171,7 @@ impl Range {
         }
     }
 
-    /// The first bound, which shares the text. It takes constant time.
+    /// The first bound, which shares a long text. It takes constant time.
     pub fn first_place(&self) -> Result<KeyBound, OutOfMemory>
         ensures place { IfOk result (λ place. place ≡ self.now.low) }
         ensures is_range { is_range self.now.low self.now.high ≡ true }
@@ -170,7 +179,7 @@ impl Range {
         self.low.copy()
     }
 
-    /// The last bound, which shares the text. It takes constant time.
+    /// The last bound, which shares a long text. It takes constant time.
     pub fn last_place(&self) -> Result<KeyBound, OutOfMemory>
         ensures { IfOk result (λ place. place ≡ self.now.high) }
     {

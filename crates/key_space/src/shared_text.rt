@@ -1,68 +1,77 @@
-// Texts that their owners share.
-ghost use Rattle.std.specs.Prelude.{◌≡◌, IfOk};
+// Texts that are copied in constant time.
+ghost use Rattle.std.specs.Prelude.{◌≡◌, IfOk, IfSome};
 ghost use Rattle.std.specs.String.{string_bytes};
-ghost use Rattle.key_space.specs.Shared.{kept_bytes};
+ghost use Rattle.key_space.specs.Shared.{IsShort, kept_bytes, short_bytes};
 
-use arrayvec::ArrayString;
 use out_of_memory::OutOfMemory;
 use std::alloc::Global;
 use std::marker::Model;
+use std::str;
 use std::sync::Arc;
 
-/// Where a text lies: beside the count of its owners, or in a block of its own.
-#[derive(Debug, Drop)]
-pub(crate) enum Kept {
-    /// A text of at most 24 bytes, beside the count.
-    Here(ArrayString<24>),
-    /// A longer one.
-    Apart(String),
+/// The most bytes of a text that lies in its owner: with its length and the mark of its kind it takes 24 bytes.
+const SHORT: usize = 22;
+
+/// A text of at most 22 bytes, which begin the bytes.
+#[derive(Clone, Copy, Debug)]
+pub(crate) struct ShortText {
+    len: u8,
+    bytes: [u8; SHORT],
 }
 
-/// A text that its owners share. Most keys are short, and a short one lies in the block that has the count of its owners, so
-/// that to compare two costs one step through memory for each.
+/// Where a text lies.
+#[derive(Debug, Drop)]
+pub(crate) enum Kept {
+    /// A short text, which each owner has for itself.
+    Here(ShortText),
+    /// A longer one, which its owners share.
+    Apart(Arc<String>),
+}
+
+/// A text that is copied in constant time. Most keys and values are short, and a short one lies in its owner: to compare two takes
+/// no step through memory, and to copy one counts no owners.
 #[derive(Debug, Drop)]
 pub(crate) struct SharedText {
-    kept: Arc<Kept>,
+    kept: Kept,
 }
 
 impl Model for SharedText {
     ghost use Rattle.std.specs.Prelude.{List, ℕ};
-    ghost use Rattle.key_space.specs.Shared.{kept_bytes};
+    ghost use Rattle.key_space.specs.Shared.{IsKept, kept_bytes};
 
     ghost Value = { List ℕ };
 
-    ghost view = { λ t. kept_bytes t.kept.value };
+    ghost view = { λ t. kept_bytes t.kept };
+
+    ghost invariant = { λ t. IsKept t.kept };
 }
 
-impl Kept {
-    /// The text, which is copied where it is short.
-    fn of(text: String) -> Kept
-        ensures { kept_bytes result ≡ string_bytes text }
+impl ShortText {
+    /// The text, which is copied, where it has at most 22 bytes.
+    fn of(text: &str) -> Option<ShortText>
+        ensures text { IfSome result (λ short. short_bytes short ≡ text.now) }
+        ensures short { IfSome result (λ short. IsShort short) }
     {
-        match ArrayString::from(text.as_str()) {
-            Ok(short) => Kept::Here(short),
-            Err(_) => Kept::Apart(text),
+        let len = text.len();
+        if len > SHORT {
+            return None;
         }
-    }
-
-    /// The text, which is copied.
-    fn read(alloc: Global, text: &str) -> Result<Kept, OutOfMemory>
-        ensures { IfOk result (λ kept. kept_bytes kept ≡ text.now) }
-    {
-        match ArrayString::from(text) {
-            Ok(short) => Ok(Kept::Here(short)),
-            Err(_) => Ok(Kept::Apart(String::from_str(alloc, text)?)),
-        }
+        let mut bytes = [0; SHORT];
+        bytes[..len].copy_from_slice(text.as_bytes());
+        Some(ShortText {
+            len: len as u8,
+            bytes,
+        })
     }
 
     /// The text.
     fn as_str(&self) -> &str
-        ensures { result.now ≡ kept_bytes self.now }
+        requires { IsShort self.now }
+        ensures { result.now ≡ short_bytes self.now }
     {
-        match self {
-            Kept::Here(text) => text.as_str(),
-            Kept::Apart(text) => text.as_str(),
-        }
+        let len = usize::from(self.len);
+        // They are known to be text, so that nobody has to look at them.
+        unsafe { str::from_utf8_unchecked(&self.bytes[..len]) }
     }
 }
 
@@ -71,7 +80,13 @@ impl SharedText {
     pub fn read(alloc: Global, text: &str) -> Result<SharedText, OutOfMemory>
         ensures { IfOk result (λ shared. shared ≡ text.now) }
     {
-        let kept = Arc::new(alloc, Kept::read(alloc, text)?)?;
+        if let Some(short) = ShortText::of(text) {
+            return Ok(SharedText {
+                kept: Kept::Here(short),
+            });
+        }
+        let text = String::from_str(alloc, text)?;
+        let kept = Kept::Apart(Arc::new(alloc, text)?);
         Ok(SharedText { kept })
     }
 
@@ -79,7 +94,12 @@ impl SharedText {
     pub fn keep(alloc: Global, text: String) -> Result<SharedText, OutOfMemory>
         ensures { IfOk result (λ shared. shared ≡ string_bytes text) }
     {
-        let kept = Arc::new(alloc, Kept::of(text))?;
+        if let Some(short) = ShortText::of(text.as_str()) {
+            return Ok(SharedText {
+                kept: Kept::Here(short),
+            });
+        }
+        let kept = Kept::Apart(Arc::new(alloc, text)?);
         Ok(SharedText { kept })
     }
 
@@ -87,14 +107,20 @@ impl SharedText {
     pub fn as_str(&self) -> &str
         ensures { result.now ≡ self.now }
     {
-        self.kept.as_str()
+        match &self.kept {
+            Kept::Here(short) => short.as_str(),
+            Kept::Apart(text) => text.as_str(),
+        }
     }
 
-    /// The same text, which has one owner more. It takes constant time.
+    /// The same text. It takes constant time.
     pub fn copy(&self) -> Result<SharedText, OutOfMemory>
         ensures { IfOk result (λ copy. copy ≡ self.now) }
     {
-        let kept = self.kept.clone()?;
+        let kept = match &self.kept {
+            Kept::Here(short) => Kept::Here(*short),
+            Kept::Apart(text) => Kept::Apart(text.clone()?),
+        };
         Ok(SharedText { kept })
     }
 }

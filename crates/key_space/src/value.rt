@@ -10,7 +10,7 @@ use std::marker::Model;
 /// The most bytes of a value.
 pub const MAX_VALUE_BYTES: usize = 65_536;
 
-/// A value: UTF-8 text of at most 65,536 bytes. A copy shares the text.
+/// A value: UTF-8 text of at most 65,536 bytes. A copy shares a long text.
 #[derive(Debug, Drop)]
 pub struct Value {
     text: SharedText,
@@ -28,12 +28,12 @@ impl Model for Value {
 }
 
 /// Why a text is refused as a value.
-#[derive(Clone, Copy, Debug, PartialEq, Eq)]
+#[derive(Debug, Drop, PartialEq, Eq)]
 pub enum ValueFault {
     /// The text has more than 65,536 bytes.
     BadValue,
     /// No memory was found for it.
-    OutOfMemory,
+    OutOfMemory(OutOfMemory),
 }
 
 impl Value {
@@ -49,7 +49,7 @@ impl Value {
         }
         match SharedText::read(alloc, text) {
             Ok(text) => Ok(Value { text }),
-            Err(_) => Err(ValueFault::OutOfMemory),
+            Err(memory) => Err(ValueFault::OutOfMemory(memory)),
         }
     }
 
@@ -61,7 +61,7 @@ impl Value {
         self.text.as_str()
     }
 
-    /// An equal value, which shares the text. It takes constant time.
+    /// An equal value, which shares a long text. It takes constant time.
     pub fn copy(&self) -> Result<Value, OutOfMemory>
         ensures { IfOk result (λ copy. copy ≡ self.now) }
     {

@@ -26,7 +26,7 @@ fn answer_key(alloc: Global, mut fields: Fields<'_>, out: &mut Answer) -> Option
             out.escaped(key.table());
         }
         Err(KeyFault::BadKey) => out.word("BadKey"),
-        Err(KeyFault::OutOfMemory) => out.word("OutOfMemory"),
+        Err(KeyFault::OutOfMemory(_)) => out.word("OutOfMemory"),
     }
     Some(())
 }
@@ -40,7 +40,7 @@ fn answer_value(alloc: Global, mut fields: Fields<'_>, out: &mut Answer) -> Opti
             out.more_escaped(value.copy().ok()?.text());
         }
         Err(ValueFault::BadValue) => out.word("BadValue"),
-        Err(ValueFault::OutOfMemory) => out.word("OutOfMemory"),
+        Err(ValueFault::OutOfMemory(_)) => out.word("OutOfMemory"),
     }
     Some(())
 }

@@ -34,7 +34,7 @@ fn answer_range(alloc: Global, mut fields: Fields<'_>, out: &mut Answer) -> Opti
     match Range::read(alloc, low.as_str(), high.as_str()) {
         Ok(range) => show_range(&range, out),
         Err(RangeFault::BadRange) => out.word("BadRange"),
-        Err(RangeFault::OutOfMemory) => out.word("OutOfMemory"),
+        Err(RangeFault::OutOfMemory(_)) => out.word("OutOfMemory"),
     }
     Some(())
 }

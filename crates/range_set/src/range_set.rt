@@ -58,7 +58,7 @@ fn push_gap<T: Copy>(
             Ok(())
         }
         Err(RangeFault::BadRange) => unreachable!(),
-        Err(RangeFault::OutOfMemory) => Err(OutOfMemory),
+        Err(RangeFault::OutOfMemory(memory)) => Err(memory),
     }
 }
 

@@ -20,8 +20,8 @@ fn read_values(alloc: Global, values: &str) -> Result<Vec<Value>, Unread> {
     Ok(all)
 }
 
-/// Writes what the operator makes of the values as a list and, for one that makes one value of many, of the pairs of `n|0`, `n|1` and
-/// on with these values.
+/// Writes what the operator makes of the values as a list and, for one that makes one value of many, of the pairs of `n|0`, `n|1`
+/// and on with these values.
 pub fn results(alloc: Global, fields: &mut Fields<'_>, text: &mut String) -> Result<(), Unread> {
     let op = read_op(fields.next())?;
     let values = read_values(alloc, fields.next())?;

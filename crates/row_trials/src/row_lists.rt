@@ -1,10 +1,10 @@
 // Rows of calls on rows with the needs from which they come.
 //
 // A key has one row. An equal need is added once, and twice where it is pushed; needs are equal where the source, the slots, the
-// keys by which they came and the range are. Needs that came by a key go with it, and those that came by none stay. Of two
-// lists that are merged the other's rows stand where both have the key, and its needs are added that are not there yet. How
-// many needs there are is shown, and not their order. The first 32 needs that are to be added are looked for in the list, and further
-// ones in a set of copies, until needs are dropped or `forget` lets go of it; that changes no answer.
+// keys by which they came and the range are. Needs that came by a key go with it, and those that came by none stay. Of two lists
+// that are merged the other's rows stand where both have the key, and its needs are added that are not there yet. How many needs
+// there are is shown, and not their order. The first 32 needs that are to be added are looked for in the list, and further ones in
+// a set of copies, until needs are dropped or `forget` lets go of it; that changes no answer.
 use join_rows::{Need, Rows};
 use key_pattern::{SlotTexts, Slots};
 use key_space::Key;
@@ -22,8 +22,8 @@ fn read_keys(alloc: Global, words: &str) -> Result<Vec<Key>, Unread> {
     Ok(keys)
 }
 
-/// Reads a need of `t|a|` up to `t|a}`: the digit of its source, the key whose slots it has under `t|<a>|<b>`, and the keys by which it
-/// came.
+/// Reads a need of `t|a|` up to `t|a}`: the digit of its source, the key whose slots it has under `t|<a>|<b>`, and the keys by
+/// which it came.
 fn read_need(alloc: Global, words: &str) -> Result<Need, Unread> {
     let (source, words) = split_call(words);
     let (key, by) = split_call(words);

@@ -1,7 +1,7 @@
 // What stands after a history, evaluated afresh.
 //
-// A pair stands as long as one way leads to it. A join may read the output of another. Output keys take the order of their own bytes, and
-// a range has them from its first bound on up to its last.
+// A pair stands as long as one way leads to it. A join may read the output of another. Output keys take the order of their own
+// bytes, and a range has them from its first bound on up to its last.
 use join_model::{afresh, state, value_afresh};
 use key_space::Key;
 use row_texts::reading::{Unread, read_range};

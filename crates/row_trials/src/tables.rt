@@ -1,9 +1,9 @@
 // Rows of calls on a table of pairs.
 //
 // A key has one pair, the last that was put; a table is in the order of the bytes of its keys, so `o|10|a` stands before `o|1|a`. A
-// range has the keys from its first bound on up to its last, which it leaves out, and the bounds need not be keys. Of two tables that are
-// merged the other's pairs stand where both have the key. The pairs that fit a pattern under slots are left out, and no other:
-// neither those with fewer or more segments, nor those of another table.
+// range has the keys from its first bound on up to its last, which it leaves out, and the bounds need not be keys. Of two tables
+// that are merged the other's pairs stand where both have the key. The pairs that fit a pattern under slots are left out, and no
+// other: neither those with fewer or more segments, nor those of another table.
 use join_rows::Table;
 use key_pattern::Slots;
 use key_space::Key;

@@ -8,7 +8,7 @@ use out_of_memory::OutOfMemory;
 use std::alloc::Global;
 use std::marker::Model;
 
-/// The bounds of a range, and where they part. The texts are shared with the range.
+/// The bounds of a range, and where they part. The long texts are shared with the range.
 #[derive(Debug, Drop)]
 pub struct Bounds {
     low: KeyBound,

@@ -116,8 +116,9 @@ fn add_to(
     match by_id[id as usize].push(bounds) {
         Ok(()) => Ok(()),
         Err(failed) => {
-            forks.remove(failed.value, id);
-            Err(OutOfMemory)
+            let (memory, bounds) = OutOfMemory::split(failed);
+            forks.remove(bounds, id);
+            Err(memory)
         }
     }
 }

@@ -118,10 +118,12 @@ impl Side {
         match self.highs.insert(high) {
             Ok(_) => Ok(added),
             Err(failed) => {
+                let (memory, span) = OutOfMemory::split(failed);
                 if added {
-                    self.lows.remove(&failed.value.turned());
+                    self.lows.remove(&span.turned());
+                    return Err(memory);
                 }
-                Err(OutOfMemory)
+                Err(memory)
             }
         }
     }

@@ -29,6 +29,6 @@ returns-in-Err-clause-indexed c =
     let b = c.args.bounds in
     let own : c.index_mut.result.now ≡ ranges_of id held = c.index_mut.ensures.value ∙ any_default held id c.index_mut.result.now [] c.requires.known in
     let none = was_added (is_registered c.args.forks.now b id) (sym c.if-not-branch.false ∙ c.in_ok-insert.ensures.added) in
-    let removes = subst (λ (r : Range). RemovesRange r id c.insert.new.self c.remove.new.self) c.in-Err.ensures.back c.remove.ensures in
+    let removes = subst (λ (r : Range). RemovesRange r id c.insert.new.self c.remove.new.self) (c.split-memory.ensures ∙ c.in-Err.ensures.back) c.remove.ensures in
     subst (λ hs. AreIndexed hs c.remove.new.self) (sym (ap (set held id) (c.in-Err.ensures.err ∙ own) ∙ set-get_or held id []))
     (indexed-undone held id b c.args.forks.now c.insert.new.self c.remove.new.self none c.in_ok-insert.ensures.ok removes c.requires.indexed)

@@ -12,19 +12,19 @@ abbrev turned : Span → Span
 turned s = record { first = s.second; id = s.id; second = s.first }
 
 -- what was added is taken out again
-undone : (c : goal.After-drop-turned-then-added) (r : Range) (q : ℕ) → has_low c.remove.new.self.keys r q ≡ has_low c.self.inside.lows.keys r q
+undone : (c : goal.Joined-turned-2) (r : Range) (q : ℕ) → has_low c.remove.new.self.keys r q ≡ has_low c.self.inside.lows.keys r q
 undone c r q =
     let b = c.args.bounds.now in
     let id = c.args.id in
     let had = c.self.inside.lows.keys in
-    low_removed c.insert.new.self.keys c.remove.new.self.keys b id _ (c.turned.ensures ∙ ap (λ (s : Span). turned s) c.in-Err.ensures.value_returned ∙ span_is id (c.in_ok-copy-4.ensures ∙ c.low-2.ensures) (c.in_ok-copy-3.ensures ∙ c.high-2.ensures)) c.remove.ensures.updates.0 r q
+    low_removed c.insert.new.self.keys c.remove.new.self.keys b id _ (c.turned.ensures ∙ ap (λ (s : Span). turned s) (c.split-memory.ensures ∙ c.in-Err.ensures.value_returned) ∙ span_is id (c.in_ok-copy-4.ensures ∙ c.low-3.ensures) (c.in_ok-copy-3.ensures ∙ c.high-2.ensures)) c.remove.ensures.updates.0 r q
     ∙ ap (λ h. not (is_same b id r q) && h) (low_added had c.insert.new.self.keys b id _ (span_is id (c.in_ok-copy.ensures ∙ c.low.ensures) (c.in_ok-copy-2.ensures ∙ c.high.ensures)) c.in_ok-added.ensures.updates.0 r q)
     ∙ back_out (has_low had) b id (not_true (has_low had b id) (ap (λ k. not (list_any (is_at (span_cmp k)) had)) (sym (span_is id (c.in_ok-copy.ensures ∙ c.low.ensures) (c.in_ok-copy-2.ensures ∙ c.high.ensures))) ∙ sym c.in_ok-added.ensures.added ∙ c.if-added.true)) r q
 
 pub invariant_of-self-in-Ok : goal.invariant_of-self-in-Ok
 invariant_of-self-in-Ok c = λ r id.
     let b = c.args.bounds.now in
-    high_added c.self.inside.highs.keys c.insert-2.new.self.keys b c.args.id _ (span_is c.args.id (c.in_ok-copy-3.ensures ∙ c.high-2.ensures) (c.in_ok-copy-4.ensures ∙ c.low-2.ensures)) c.in-Ok.ensures.updates.0 r id
+    high_added c.self.inside.highs.keys c.insert-2.new.self.keys b c.args.id _ (span_is c.args.id (c.in_ok-copy-3.ensures ∙ c.high-2.ensures) (c.in_ok-copy-4.ensures ∙ c.low-3.ensures)) c.in-Ok.ensures.updates.0 r id
     ∙ ap (λ h. is_same b c.args.id r id || h) (c.self.invariant r id)
     ∙ sym (low_added c.self.inside.lows.keys c.insert.new.self.keys b c.args.id _ (span_is c.args.id (c.in_ok-copy.ensures ∙ c.low.ensures) (c.in_ok-copy-2.ensures ∙ c.high.ensures)) c.in_ok-added.ensures.updates.0 r id)
 

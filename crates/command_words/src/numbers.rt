@@ -1,9 +1,8 @@
 // Numbers and names in words.
-ghost use Rattle.std.specs.Prelude.{◌≡◌, ◌≤◌, ◌-◌, ◌^◌, SomeIff};
-ghost use Rattle.semantics.specs.Outputs.{digits_value};
+ghost use Rattle.std.specs.Prelude.{◌≡◌};
 ghost use Rattle.command_words.specs.Arguments.{is_number, is_name, number_within};
 
-use key_space::decimal::are_digits;
+use key_space::decimal::{are_digits, digits_value};
 
 /// The most digits of a number.
 const MAX_DIGITS: usize = 20;
@@ -17,21 +16,6 @@ fn is_number(text: &str) -> bool
 {
     let bytes = text.as_bytes();
     1 <= bytes.len() && bytes.len() <= MAX_DIGITS && are_digits(bytes)
-}
-
-/// The number that the digits write; none where it is beyond 64 bits.
-fn digits_value(digits: &[u8]) -> Option<u64>
-    ensures { SomeIff result (digits_value digits.now ≤ 2 ^ 64 - 1) (digits_value digits.now) }
-{
-    let mut number: u64 = 0;
-    for digit in digits {
-        let next = 10 * u128::from(number) + u128::from(digit.saturating_sub(b'0'));
-        if next > u128::from(u64::MAX) {
-            return None;
-        }
-        number = next as u64;
-    }
-    Some(number)
 }
 
 /// The number that the text is, where it is one within the limits: 1 to 20 digits. Linear in the text.

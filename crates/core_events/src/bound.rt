@@ -12,7 +12,7 @@ use std::alloc::Global;
 use std::marker::Model;
 
 /// A text that may bound a range: it has at most 513 bytes, and for a table's name `T` of 1 to 64 bytes it begins with `T|`
-/// or is `T}`. A copy shares the text.
+/// or is `T}`. A copy shares a long text.
 #[derive(Debug, Drop)]
 pub struct ScanBound {
     place: KeyBound,
@@ -71,7 +71,7 @@ fn place_of(alloc: Global, text: &str) -> Result<KeyBound, OutOfMemory>
     }
     match Range::read(alloc, text, text) {
         Ok(range) => range.first_place(),
-        Err(RangeFault::OutOfMemory) => Err(OutOfMemory),
+        Err(RangeFault::OutOfMemory(memory)) => Err(memory),
         Err(RangeFault::BadRange) => unreachable!(),
     }
 }
@@ -89,11 +89,11 @@ impl ScanBound {
         }
         match place_of(alloc, text) {
             Ok(place) => Ok(ScanBound { place }),
-            Err(_) => Err(RangeFault::OutOfMemory),
+            Err(memory) => Err(RangeFault::OutOfMemory(memory)),
         }
     }
 
-    /// The first bound of a range, which shares its text. It takes constant time.
+    /// The first bound of a range, which shares a long text. It takes constant time.
     pub fn first_of(range: &Range) -> Result<ScanBound, OutOfMemory>
         ensures { IfOk result (λ bound. bound ≡ range.now.low) }
     {
@@ -101,7 +101,7 @@ impl ScanBound {
         Ok(ScanBound { place })
     }
 
-    /// The last bound of a range, which shares its text. It takes constant time.
+    /// The last bound of a range, which shares a long text. It takes constant time.
     pub fn last_of(range: &Range) -> Result<ScanBound, OutOfMemory>
         ensures { IfOk result (λ bound. bound ≡ range.now.high) }
     {
@@ -126,7 +126,7 @@ impl ScanBound {
         &self.place
     }
 
-    /// An equal bound, which shares the text. It takes constant time.
+    /// An equal bound, which shares a long text. It takes constant time.
     pub fn copy(&self) -> Result<ScanBound, OutOfMemory>
         ensures { IfOk result (λ copy. copy ≡ self.now) }
     {

@@ -11,7 +11,8 @@ pub fn empty_line_is_json()
     ensures { EmptyLineIsJson }
 {}
 
-/// A text may bound a range exactly where it has at most 513 bytes and for a name T of 1 to 64 bytes without `|` begins with `T|` or is `T}`.
+/// A text may bound a range exactly where it has at most 513 bytes and for a name T of 1 to 64 bytes without `|` begins with `T|`
+/// or is `T}`.
 pub fn bound_is_of_table()
     ensures { BoundIsOfTable }
 {}

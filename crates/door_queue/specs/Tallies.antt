@@ -10,7 +10,8 @@ abbrev pub weigh : {T : Type 0} → (T → ℕ) → List T → ℕ
 weigh weight [] = 0
 weigh weight (item ∷ items) = weight item + weigh weight items
 
--- however items are weighed, all that were put weigh what all that were taken weigh: each stands among the ones as often as among the others
+-- however items are weighed, all that were put weigh what all that were taken weigh: each stands among the ones as often as among
+-- the others
 abbrev pub EachOnce : {T : Type 0} → List T → List T → Type 0
 EachOnce {T} put taken = (weight : T → ℕ) → weigh weight put ≡ weigh weight taken
 

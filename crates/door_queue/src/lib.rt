@@ -1,10 +1,9 @@
 // A queue between threads that has room for so many items, and a bell that wakes a thread.
 //
 // The layers above may use `TalliedQueue`, `DoorQueue` and `Bell`, whose calls may wait. Of what a `TalliedQueue` keeps behind its
-// lock the tallies of its callers tell: when they are joined, each item that was put was taken once or is left; and that it was closed
-// and empty its `AllPut` tells. Of the other two
-// contracts say what each call makes of `DoorState` and `BellState`, which they keep behind a lock. No contract can say when a call
-// that waits returns.
+// lock the tallies of its callers tell: when they are joined, each item that was put was taken once or is left. `take` alone makes
+// a `Drained`, where it finds the queue closed and empty; no clause says where it does. Of the other two contracts say what each
+// call makes of `DoorState` and `BellState`, which they keep behind a lock. No contract can say when a call that waits returns.
 #![tactic(auto)]
 
 pub mod bell;
@@ -19,5 +18,5 @@ pub use bell::{Bell, Rung};
 pub use bell_state::{BellState, Heard};
 pub use door_queue::DoorQueue;
 pub use door_state::{DoorState, Next, Offered};
-pub use tallied_queue::{AllPut, TalliedQueue};
+pub use tallied_queue::{Drained, TalliedQueue};
 pub use tally::Tally;

@@ -1,5 +1,5 @@
 // Queues between threads that tell what became of each item.
-ghost use Rattle.std.specs.Prelude.{◌≡◌, ◌<◌, ◌≤◌, IfOk, MatchOption, MatchResult};
+ghost use Rattle.std.specs.Prelude.{◌≡◌, ◌<◌, ◌≤◌, true, IfOk, MatchOption, MatchResult};
 ghost use Rattle.door_queue.specs.Tallies.{EachOnce, all_parts, joined, parted, put_in, taken_out, tally_of};
 
 use crate::tally::{Both, Fair, Hand, Part, Puts, Takes, Tally};
@@ -30,19 +30,20 @@ impl<T> Model for TalliedQueue<T> {
     ghost view = { λ q. q.items.table.shared.table_id };
 }
 
-/// That a queue was closed, so that all its items are put, and that none was left at one moment. `take` alone makes it, so that who has
-/// to give one back cannot stop taking before. It has no bytes. Contracts see which queue it is of.
+/// A token of a queue that `take` found closed and empty. `take` alone makes it, so that whoever has to hand one over takes until
+/// then; no clause says when `take` makes it. Whoever closes a queue says that all items are put; `put` does not look at it. It has
+/// no bytes. Contracts see which queue it is of.
 #[derive(Drop)]
-pub struct AllPut<T> {
+pub struct Drained<T> {
     queue: Snapshot<TalliedQueue<T>>,
 }
 
-impl<T> Model for AllPut<T> {
+impl<T> Model for Drained<T> {
     ghost use Rattle.atomic_table.specs.Seated.{TableId};
 
     ghost Value = { TableId };
 
-    ghost view = { λ a. a.queue.value };
+    ghost view = { λ d. d.queue.value };
 }
 
 impl<T> TalliedQueue<T> {
@@ -84,8 +85,8 @@ impl<T> TalliedQueue<T> {
         self.items.absorb::<Both>(&mut tally.pass, other.pass)
     }
 
-    /// Puts an item in, and waits while there is no room, also where the queue is closed: who puts items closes it when all are put.
-    /// It takes no memory.
+    /// Puts an item in, and waits while there is no room, also where the queue is closed: who puts items closes it when all are
+    /// put. It takes no memory.
     pub fn put<R: Wait>(&self, rt: &R, tally: &mut Tally<T>, item: T)
         requires queue { tally.old.queue ≡ self.now }
         requires parts { 0 < tally.old.parts }
@@ -106,30 +107,45 @@ impl<T> TalliedQueue<T> {
         unreachable!()
     }
 
-    /// Takes out the item that was kept first, and waits while there is none. `AllPut`: the queue is closed, and empty then.
-    pub fn take<R: Wait>(&self, rt: &R, tally: &mut Tally<T>) -> Result<T, AllPut<T>>
+    /// Makes the token of the queue. Who asks for it says what was found: that the queue is closed, and that no item is kept. That
+    /// it was found so no clause says.
+    fn token(&self, _is_closed: bool, _is_empty: bool) -> Drained<T>
+        requires shut { _is_closed ≡ true }
+        requires empty { _is_empty ≡ true }
+        ensures { result ≡ self.now }
+    {
+        Drained {
+            queue: Snapshot::of(self),
+        }
+    }
+
+    /// Takes out the item that was kept first, and waits while there is none. `Drained`: the queue is closed, and empty then, which
+    /// no clause says.
+    pub fn take<R: Wait>(&self, rt: &R, tally: &mut Tally<T>) -> Result<T, Drained<T>>
         requires queue { tally.old.queue ≡ self.now }
         requires parts { 0 < tally.old.parts }
-        ensures { MatchResult result (λ item. tally.new ≡ taken_out tally.old item) (λ all_put. (tally.new ≡ tally.old) × (all_put ≡ self.now)) }
+        ensures { MatchResult result (λ item. tally.new ≡ taken_out tally.old item) (λ drained. (tally.new ≡ tally.old) × (drained ≡ self.now)) }
     {
         let mut closed = self.closed.lock(rt);
         for _ in rt.forever() {
-            if let Some(item) = self.items.try_pop_as::<Takes>(&mut tally.pass) {
-                self.has_room.notify_one();
-                return Ok(item);
-            }
-            if *closed {
-                return Err(AllPut {
-                    queue: Snapshot::of(self),
-                });
+            let is_empty = match self.items.try_pop_as::<Takes>(&mut tally.pass) {
+                Some(item) => {
+                    self.has_room.notify_one();
+                    return Ok(item);
+                }
+                None => true,
+            };
+            let is_closed = *closed;
+            if is_closed {
+                return Err(self.token(is_closed, is_empty));
             }
             closed = self.has_item.wait(rt, closed);
         }
         unreachable!()
     }
 
-    /// Takes out the item that was kept first of those that are left when all tallies are joined to one, and does not wait for one to be
-    /// put; it may wait for the lock. None where none is left: each item that was put was taken once.
+    /// Takes out the item that was kept first of those that are left when all tallies are joined to one, and does not wait for one
+    /// to be put; it may wait for the lock. None where none is left: each item that was put was taken once.
     pub fn take_left<R: Wait>(&self, rt: &R, tally: &mut Tally<T>) -> Option<T>
         requires queue { tally.old.queue ≡ self.now }
         requires whole { tally.old.parts ≡ all_parts }

@@ -4,16 +4,16 @@ use crossbeam_queue::protocol::{Join, Lesson, Outcome, Protocol, Split};
 use std::collections::LinkedList;
 use std::marker::Model;
 
-// What a pass knows: how many of the parts of the whole it has, and what was put and taken with it. No value of it is made. Contracts
-// alone see it; the whole has 2^64 parts.
+// What a pass knows: how many of the parts of the whole it has, and what was put and taken with it. No value of it is made.
+// Contracts alone see it; the whole has 2^64 parts.
 pub struct Hand<T> {
     pub parts: u64,
     pub put: LinkedList<T>,
     pub taken: LinkedList<T>,
 }
 
-/// The items that one caller of a queue put and took, in order. It has no bytes. A queue is made with a whole tally, of which others
-/// are split off and to which they are joined again: the whole one knows that each item that was put was taken or is left.
+/// The items that one caller of a queue put and took, in order. It has no bytes. A queue is made with a whole tally, of which
+/// others are split off and to which they are joined again: the whole one knows that each item that was put was taken or is left.
 #[derive(Drop)]
 pub struct Tally<T> {
     pub(crate) pass: Pass<T, Hand<T>>,

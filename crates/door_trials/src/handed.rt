@@ -11,7 +11,7 @@ use std::thread;
 use std::thread::{Threads, join};
 use std::time::{Clock, Duration};
 
-/// Puts a thousand items, the first of which is this one.
+/// Puts a thousand numbers, from this one up.
 fn put_thousand<R: Wait>(rt: &R, queue: &TalliedQueue<u32>, tally: &mut Tally<u32>, first: u32)
     requires queue { tally.old.queue ≡ queue.now }
     requires parts { 0 < tally.old.parts }
@@ -84,7 +84,7 @@ fn put_by_two<R: Threads + Wait + Sync>(
     queue.close(rt);
 }
 
-/// Closes the queue when those who take from it sleep, as they are to do for the test to tell something.
+/// Waits 20 ms, so that those who take from the queue sleep by then, and closes it.
 fn close_later<R: Wait + Clock>(rt: &R, queue: &TalliedQueue<u32>) {
     thread::sleep(rt, Duration::from_millis(20));
     queue.close(rt);

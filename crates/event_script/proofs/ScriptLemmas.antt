@@ -9,8 +9,7 @@ use Rattle.core_events.specs.Events.{Event}
 use Rattle.core_events.specs.Scripts.{event_of, onto_events, at_line, events_of_lines, script_lines, script_events}
 use Rattle.request_codec.specs.declared.request.LineFault.{LineFault}
 use Rattle.request_codec.specs.declared.request.LineFault.TheVariants.{Json, Form, Key, Value, Range, Syntax, OutOfMemory}
-use Rattle.request_codec.specs.Plain.{plain_fault}
-use Rattle.event_script.specs.Plain.{IsFaultOf}
+use Rattle.request_codec.specs.Plain.{plain_fault, IsFaultOf}
 
 -- ---- lines
 
@@ -73,4 +72,4 @@ named_fault Key name given e h = (plain.key, h, same_Some _ _ e)
 named_fault Value name given e h = (plain.value, h, same_Some _ _ e)
 named_fault Range name given e h = (plain.range, h, same_Some _ _ e)
 named_fault (Syntax at) name given e h = (plain.syntax at, h, same_Some _ _ e)
-named_fault OutOfMemory name given e h = absurd (none-some name e)
+named_fault (OutOfMemory _) name given e h = absurd (none-some name e)

@@ -1,17 +1,17 @@
 // Events from lines.
-ghost use Rattle.std.specs.Prelude.{◌≡◌, IfOk, IfErr, Some, Ok, map};
+ghost use Rattle.std.specs.Prelude.{◌≡◌, IfOk, IfErr, Ok, map};
 ghost use Rattle.serde_json.specs.View.{view, items_view};
-ghost use Rattle.protocol.specs.Requests.{json_of, request_of_value};
-ghost use Rattle.core_events.specs.Scripts.{append_written, begin_event, piece_event, mend_event, ranged, event_of_one, event_of_two, event_of_three, event_of_word, event_of_items, event_of_value, event_of_json, event_of};
+ghost use Rattle.protocol.specs.Requests.{request_of_value};
+ghost use Rattle.core_events.specs.Scripts.{append_written, begin_event, piece_event, mend_event, ranged, event_of_one, event_of_two, event_of_three, event_of_word, event_of_items, event_of_value, event_of};
 ghost use Rattle.core_events.specs.PlainEvents.{plain_event};
-ghost use Rattle.event_script.specs.Plain.{IsFaultOf};
+ghost use Rattle.request_codec.specs.Plain.{IsFaultOf};
 ghost use Rattle.event_script.specs.Lines.{has_one_behind, are_write, is_write, append_event, piece_of, advance_of};
 
 use crate::items::{is_word, number_of};
 use core_events::{Event, ScanBound};
 use join_types::Write;
 use key_space::Range;
-use request_codec::{LineFault, Request, position_of, read_value, text_of};
+use request_codec::{LineFault, Request, position_of, read_json, read_value, text_of};
 use serde_json::Value;
 use std::alloc::Global;
 
@@ -256,26 +256,6 @@ fn read_json_event(alloc: Global, value: &Value) -> Result<Event, LineFault>
     match value.as_array() {
         Some(items) => read_items(alloc, items.as_slice()),
         None => Err(LineFault::Form),
-    }
-}
-
-/// The JSON value of a line (RFC 8259). Linear in the line.
-fn read_json(alloc: Global, line: &[u8]) -> Result<Value, LineFault>
-    ensures value { IfOk result (λ value. json_of line.now ≡ Some (view value)) }
-    ensures fault { IfErr result (IsFaultOf (event_of_json (json_of line.now))) }
-{
-    let Ok(text) = str::from_utf8(line) else {
-        return Err(LineFault::Json);
-    };
-    match Value::from_str(alloc, text) {
-        Ok(value) => Ok(value),
-        Err(error) => {
-            if error.is_memory() {
-                Err(LineFault::OutOfMemory)
-            } else {
-                Err(LineFault::Json)
-            }
-        }
     }
 }
 

@@ -7,7 +7,6 @@
 pub mod answers;
 mod event;
 mod items;
-mod lines;
 pub mod script;
 
 pub use answers::{answers_text, marks_of_cells};

@@ -7,10 +7,9 @@ ghost use Rattle.request_codec.specs.Plain.{plain_fault};
 ghost use Rattle.event_script.specs.Plain.{plain_refusal, plain_script};
 
 use crate::event::read_event;
-use crate::lines::split_first_line;
 use core_events::Event;
 use out_of_memory::OutOfMemory;
-use request_codec::{LineFault, number_value, text_value, write_row};
+use request_codec::{LineFault, number_value, split_first_line, text_value, write_row};
 use std::alloc::Global;
 
 /// The first line of a script that is refused.
@@ -44,7 +43,7 @@ fn fault_name(fault: LineFault) -> Result<&'static str, OutOfMemory>
         LineFault::Value => Ok("value"),
         LineFault::Range => Ok("range"),
         LineFault::Syntax(_) => Ok("syntax"),
-        LineFault::OutOfMemory => Err(OutOfMemory),
+        LineFault::OutOfMemory(memory) => Err(memory),
     }
 }
 

@@ -94,8 +94,8 @@ fn expect_same(
     Ok(())
 }
 
-/// Two threads append 100 puts each, by passes of their own, which meet then. Both were pinned before the first put, and may ask for
-/// it.
+/// Two threads append 100 puts each, by passes of their own, which meet then. Both were pinned before the first put, and may ask
+/// for it.
 fn two_meet<R: Threads + Wait + Abort + Sync>(
     rt: &R,
     alloc: Global,
@@ -432,7 +432,7 @@ fn append_next<R: Wait + Abort>(
 {
     let before = history.look(rt, reader);
     let mut entered = history.append(rt, writer, write);
-    if matches!(&entered, Err(AppendFault::OutOfMemory)) {
+    if matches!(&entered, Err(AppendFault::OutOfMemory(_))) {
         assert!(rt; history.look(rt, reader) == before);
         entered = history.append(rt, writer, again);
     }

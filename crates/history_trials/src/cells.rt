@@ -196,7 +196,8 @@ fn evict<N: Naming, R: Wait + Abort>(
     Ok(())
 }
 
-/// The calls of what threads share: the cell that was used least recently goes where two weigh too much together.
+/// The calls of what threads share: the cell that was used least recently goes where two weigh too much together, and one that
+/// could not keep what it was used for.
 fn settle_two<N: Naming + Send + Sync, R: Wait + Abort>(
     rt: &R,
     alloc: Global,
@@ -217,9 +218,18 @@ fn settle_two<N: Naming + Send + Sync, R: Wait + Abort>(
         "t|a t|b 1, t|b t|c 0, ",
     )?;
     let used = [
-        Use { id: 1, rows: 2 },
-        Use { id: 7, rows: 9 },
-        Use { id: 0, rows: 3 },
+        Use {
+            id: 1,
+            rows: Some(2),
+        },
+        Use {
+            id: 7,
+            rows: Some(9),
+        },
+        Use {
+            id: 0,
+            rows: Some(3),
+        },
     ];
     cells.settle(rt, shards, &used);
     cover(
@@ -233,7 +243,10 @@ fn settle_two<N: Naming + Send + Sync, R: Wait + Abort>(
     )?;
     evict(rt, cells, shards, 0)?;
     cells.evict(rt, shards, 7);
-    cover(rt, alloc, cells, FIRST, ("t|a", "t|c"), true, "t|a t|c 0, ")
+    let bounds = ("t|a", "t|c");
+    cover(rt, alloc, cells, FIRST, bounds, true, "t|a t|c 0, ")?;
+    cells.settle(rt, shards, &[Use { id: 0, rows: None }]);
+    cover(rt, alloc, cells, FIRST, bounds, false, "t|a t|c -, ")
 }
 
 /// What is tried on two cells.

@@ -224,8 +224,8 @@ fn one_thread_reads_at_every_position(rt: HostRuntime) -> Result<(), Fail> {
     read_rows::<Brand, _>(&rt, alloc, history, seats.shards, pass)
 }
 
-/// Reads a table at the position of a put, which has so many keys then, and at that of the first one, and counts the pairs of another
-/// table. The pass is pinned meanwhile.
+/// Reads a table at the position of a put, which has so many keys then, and at that of the first one, and counts the pairs of
+/// another table. The pass is pinned meanwhile.
 fn read_both<N: Naming, R: Wait + Abort>(
     rt: &R,
     history: &History,

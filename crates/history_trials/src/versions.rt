@@ -115,6 +115,26 @@ fn pairs<L: Ledger>(
     Ok(text)
 }
 
+/// The same keys are found where many changes may be sorted for them, and where none may, none are given if there are any.
+fn expect_few(
+    rt: &impl Abort,
+    base: &BaseVersions,
+    between: (u64, u64),
+    range: &Range,
+    found: &[Key],
+) -> Result<(), Fail>
+    requires one { base.now.shards ≡ 1 }
+    requires first { base.now.shard ≡ 0 }
+    requires order { between.0 ≤ between.1 }
+{
+    let (q, p) = between;
+    let few = base.few_changed(q, p, range, 1_000)?.ok_or("few")?;
+    assert!(rt; few.as_slice() == found);
+    let none = base.few_changed(q, p, range, 0)?;
+    assert!(rt; none.is_none() || found.is_empty());
+    Ok(())
+}
+
 /// The keys of a range that change between two positions, as text.
 fn changed<L: Ledger>(
     rt: &impl Abort,
@@ -134,6 +154,7 @@ fn changed<L: Ledger>(
     let mut steps: Steps<L> = Steps::open(blank);
     assert!(rt; base.start() <= q && q <= p && p <= base.position());
     let found = base.changed(q, p, &range, &mut steps)?;
+    expect_few(rt, base, (q, p), &range, found.as_slice())?;
     let mut text = String::new(alloc);
     for key in found {
         text.push_str(key.text())?;

@@ -2,6 +2,7 @@
 use crate::holding::holds;
 use crate::streams::source_of;
 use pq_io::{Both, Doors, Failed, Link, MemDoors, MemLink, MemSink, write_link};
+use std::process::Abort;
 use std::test::Fail;
 
 /// Reads once and writes what was read twice.
@@ -73,6 +74,31 @@ fn doors_give_their_links_and_close(rt: HostRuntime) -> Result<(), Fail> {
     Ok(())
 }
 
+/// Holds the doors to telling that they were opened at these addresses, in order.
+fn were_opened_at(rt: &impl Abort, row: usize, doors: &MemDoors<MemLink>, wanted: &[&str]) {
+    let Some(told) = doors.opened() else {
+        return holds(rt, row, 0, false);
+    };
+    holds(rt, row, 1, told.len() == wanted.len());
+    for (address, wanted) in told.iter().zip(wanted.iter()) {
+        holds(rt, row, 2, address.as_str() == *wanted);
+    }
+}
+
+#[test]
+fn doors_keep_the_addresses_at_which_they_were_opened(rt: HostRuntime) -> Result<(), Fail> {
+    let alloc = rt.alloc();
+    let mut doors = MemDoors::<MemLink>::new(Vec::new(alloc), Vec::new(alloc));
+    were_opened_at(&rt, 0, &doors, &[]);
+    doors.open_at("here")?;
+    doors.open_at("")?;
+    were_opened_at(&rt, 1, &doors, &["here", ""]);
+    let mut doors = MemDoors::<MemLink>::new(Vec::new(alloc), vec![in alloc; 0]?);
+    holds(&rt, 2, 0, doors.open_at("here") == Err(Failed));
+    were_opened_at(&rt, 3, &doors, &[]);
+    Ok(())
+}
+
 #[test]
 fn doors_keep_the_receipts_that_came_back(rt: HostRuntime) -> Result<(), Fail> {
     let alloc = rt.alloc();
@@ -81,9 +107,14 @@ fn doors_keep_the_receipts_that_came_back(rt: HostRuntime) -> Result<(), Fail> {
     let mut doors = MemDoors::<MemLink>::new(Vec::new(alloc), Vec::new(alloc));
     holds(&rt, 0, 0, doors.returned().is_empty());
     write_link(&mut link, b"[\"ok\",1]\n")?;
-    doors.take_back(vec![in alloc; vec![in alloc; link.finish()]?]?);
+    doors.take_back(vec![in alloc; vec![in alloc; link.finish(None)]?]?);
     let lists = doors.returned();
     assert!(rt; lists.len() == 1 && lists[0].len() == 1);
-    holds(&rt, 1, 0, lists[0][0].bytes() == b"[\"ok\",1]\n".as_slice());
+    holds(
+        &rt,
+        1,
+        0,
+        lists[0][0].link.bytes() == b"[\"ok\",1]\n".as_slice(),
+    );
     Ok(())
 }

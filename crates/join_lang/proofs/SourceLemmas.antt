@@ -64,13 +64,13 @@ onto_some s (Ok read) ss more e n =
 -- a fault in the sources is one where some are wanted
 pub some_sources_fault : (end : ℕ) (names : List Text) (ts : List Token) (fault : ParseFault) → IsFaultOf (read_sources end names ts) fault → IsFaultOf (read_some_sources end names ts) fault
 some_sources_fault end names [] (Syntax at) h = absurd (ok_is_no_err _ at h)
-some_sources_fault end names [] OutOfMemory h = tt
+some_sources_fault end names [] (OutOfMemory _) h = tt
 some_sources_fault end names (t ∷ ts) fault h = h
 
 -- a fault behind sources is a fault
 pub fault_behind : (given : Result (List Source × List Text) ℕ) (before : List Source) (r : Result (List Source × List Text) ℕ) (fault : ParseFault) → given ≡ behind_sources before r → IsFaultOf r fault → IsFaultOf given fault
 fault_behind given before r (Syntax at) e h = e ∙ ap (behind_sources before) h
-fault_behind given before r OutOfMemory e h = tt
+fault_behind given before r (OutOfMemory _) e h = tt
 
 -- sources that are read from a token on are some
 pub sources_some : (end : ℕ) (names more : List Text) (o : Token) (ts : List Token) (ss : List Source) → read_sources end names (o ∷ ts) ≡ Ok (ss, more) → length ss ≡ 0 → ⊥

@@ -6,4 +6,4 @@ use Rattle.join_lang.specs.declared.fault.ParseFault.TheVariants.{Syntax, OutOfM
 -- the fault is what the definition gives, unless memory ran out
 abbrev pub IsFaultOf : {A : Type 0} → Result A ℕ → ParseFault → Type 0
 IsFaultOf given (Syntax at) = given ≡ Err at
-IsFaultOf given OutOfMemory = Unit {0}
+IsFaultOf given (OutOfMemory _) = Unit {0}

@@ -14,29 +14,29 @@ pub enum ParseFault {
     Syntax { at: usize },
     /// No memory was found for the join.
     #[error("out of memory")]
-    OutOfMemory,
+    OutOfMemory(OutOfMemory),
 }
 
 impl From<OutOfMemory> for ParseFault {
-    ghost from_gives = { λ _ fault. fault ≡ NoMemory };
+    ghost from_gives = { λ memory fault. fault ≡ NoMemory memory };
 
-    fn from(_want: OutOfMemory) -> Self {
-        ParseFault::OutOfMemory
+    fn from(memory: OutOfMemory) -> Self {
+        ParseFault::OutOfMemory(memory)
     }
 }
 
 impl From<AllocError> for ParseFault {
-    ghost from_gives = { λ _ fault. fault ≡ NoMemory };
+    ghost from_gives = { λ _ fault. fault ≡ NoMemory tt };
 
-    fn from(_error: AllocError) -> Self {
-        ParseFault::OutOfMemory
+    fn from(error: AllocError) -> Self {
+        ParseFault::OutOfMemory(error.into())
     }
 }
 
 impl<T: Drop> From<AllocFailed<T>> for ParseFault {
-    ghost from_gives = { λ _ fault. fault ≡ NoMemory };
+    ghost from_gives = { λ _ fault. fault ≡ NoMemory tt };
 
-    fn from(_failed: AllocFailed<T>) -> Self {
-        ParseFault::OutOfMemory
+    fn from(failed: AllocFailed<T>) -> Self {
+        ParseFault::OutOfMemory(failed.into())
     }
 }

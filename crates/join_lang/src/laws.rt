@@ -11,7 +11,8 @@ pub fn reads_back()
     ensures { ReadsBack }
 {}
 
-/// Every join that keeps the rule on names is read from its canonical text, where that has at most 4,096 bytes, and each pattern in it at most 512.
+/// Every join that keeps the rule on names is read from its canonical text, where that has at most 4,096 bytes, and each pattern in
+/// it at most 512.
 pub fn reads_each_writable()
     ensures { ReadsEachWritable }
 {}

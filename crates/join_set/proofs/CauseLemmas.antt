@@ -29,7 +29,7 @@ IsFaultOf-first (Clash position) c cs h = first_is c cs _ h
 IsFaultOf-first (Cycle positions) c cs h = first_is c cs _ h
 IsFaultOf-first Deep c cs h = first_is c cs _ h
 IsFaultOf-first Many c cs h = first_is c cs _ h
-IsFaultOf-first OutOfMemory c cs h = tt
+IsFaultOf-first (OutOfMemory _) c cs h = tt
 
 -- the cause where the test holds
 abbrev cause_where : Bool → Cause → Option Cause
@@ -162,4 +162,4 @@ IsFaultOf-is (Clash position) x c e f = f ∙ e
 IsFaultOf-is (Cycle positions) x c e f = f ∙ e
 IsFaultOf-is Deep x c e f = f ∙ e
 IsFaultOf-is Many x c e f = f ∙ e
-IsFaultOf-is OutOfMemory x c e f = cc
+IsFaultOf-is (OutOfMemory _) x c e f = cc

@@ -202,7 +202,7 @@ end_more : (m begin : ℕ) (o : Option ℕ) → IsWithinStay m begin o → end_u
 end_more m begin None w = refl
 end_more m begin (Some d) w = more m d w.1
 
-begins_up_to : (m begin : ℕ) (o : Option ℕ) → IsWithinStay m begin o → begin ≤ m
+pub begins_up_to : (m begin : ℕ) (o : Option ℕ) → IsWithinStay m begin o → begin ≤ m
 begins_up_to m begin None w = w
 begins_up_to m begin (Some d) w = omega (arith, w.0, w.1)
 

@@ -14,7 +14,7 @@ IsFaultOf (Clash position) cause = cause ≡ Some (plain.clash position)
 IsFaultOf (Cycle positions) cause = cause ≡ Some (plain.cycle positions)
 IsFaultOf Deep cause = cause ≡ Some plain.deep
 IsFaultOf Many cause = cause ≡ Some plain.many
-IsFaultOf OutOfMemory cause = Unit {0}
+IsFaultOf (OutOfMemory _) cause = Unit {0}
 
 -- the cause that the fault is; none where no memory was found
 abbrev pub plain_fault : AddFault → Option plain.Cause
@@ -24,9 +24,9 @@ plain_fault (Clash position) = Some (plain.clash position)
 plain_fault (Cycle positions) = Some (plain.cycle positions)
 plain_fault Deep = Some plain.deep
 plain_fault Many = Some plain.many
-plain_fault OutOfMemory = None
+plain_fault (OutOfMemory _) = None
 
 -- the fault is the cause against a drop; that no memory was found says nothing of it
 abbrev pub IsRemoveFaultOf : RemoveFault → Option plain.Cause → Type 0
 IsRemoveFaultOf NoJoin cause = cause ≡ Some plain.nojoin
-IsRemoveFaultOf NoRoom cause = Unit {0}
+IsRemoveFaultOf (NoRoom _) cause = Unit {0}

@@ -23,7 +23,7 @@ pub record LastDrop : Type 0 where
   pub table : Text
   pub position : ℕ
 
--- a set of joins: those that stand, the position of the last declaration or drop, and for each table the last drop of a join of it
+-- a set of joins: those that stand, the position of the last declaration or drop, and last drops that it remembers
 pub record Joins : Type 0 where
   pub standing : List DeclaredJoin
   pub changed : ℕ

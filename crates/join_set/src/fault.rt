@@ -31,22 +31,22 @@ pub enum AddFault {
     Many,
     /// No memory was found.
     #[error("out of memory")]
-    OutOfMemory,
+    OutOfMemory(OutOfMemory),
 }
 
 impl From<OutOfMemory> for AddFault {
-    ghost from_gives = { λ _ fault. fault ≡ NoMemory };
+    ghost from_gives = { λ memory fault. fault ≡ NoMemory memory };
 
-    fn from(_want: OutOfMemory) -> Self {
-        AddFault::OutOfMemory
+    fn from(memory: OutOfMemory) -> Self {
+        AddFault::OutOfMemory(memory)
     }
 }
 
 impl<T: Drop> From<AllocFailed<T>> for AddFault {
-    ghost from_gives = { λ _ fault. fault ≡ NoMemory };
+    ghost from_gives = { λ _ fault. fault ≡ NoMemory tt };
 
-    fn from(_failed: AllocFailed<T>) -> Self {
-        AddFault::OutOfMemory
+    fn from(failed: AllocFailed<T>) -> Self {
+        AddFault::OutOfMemory(failed.into())
     }
 }
 
@@ -58,13 +58,13 @@ pub enum RemoveFault {
     NoJoin,
     /// No memory was found.
     #[error("out of memory")]
-    OutOfMemory,
+    OutOfMemory(OutOfMemory),
 }
 
 impl From<OutOfMemory> for RemoveFault {
-    ghost from_gives = { λ _ fault. fault ≡ NoRoom };
+    ghost from_gives = { λ memory fault. fault ≡ NoRoom memory };
 
-    fn from(_want: OutOfMemory) -> Self {
-        RemoveFault::OutOfMemory
+    fn from(memory: OutOfMemory) -> Self {
+        RemoveFault::OutOfMemory(memory)
     }
 }

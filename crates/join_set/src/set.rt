@@ -115,8 +115,9 @@ impl JoinSet {
         self.changed
     }
 
-    /// Returns whether no join that stood at some position from q to now has its output in the table, as far as the set remembers
-    /// the drops after q. Linear in the joins and in the tables of the drops that it remembers.
+    /// Returns whether no join that stood at some position from q to now has its output in the table. It is exact for each q from
+    /// the floor on, up to which drops were forgotten; an earlier q may be answered true although a join with its output there was
+    /// dropped up to that floor. Linear in the joins and in the tables of the drops that it remembers.
     pub fn bare_since(&self, q: u64, table: &str) -> bool
         ensures { result ≡ bare_since q table.now self.now }
     {

@@ -193,7 +193,7 @@ impl Standing {
         self.entries = at;
         match self.stays.push(stay) {
             Ok(()) => Ok(()),
-            Err(_) => unreachable!(),
+            Err(_fault) => unreachable!(),
         }
     }
 
@@ -241,8 +241,8 @@ fn take_out(joins: &mut JoinSet, at: u64, position: u64) -> Result<(), OutOfMemo
 {
     match joins.remove(at, position) {
         Ok(()) => Ok(()),
-        Err(RemoveFault::OutOfMemory) => Err(OutOfMemory),
-        Err(_) => unreachable!(),
+        Err(RemoveFault::OutOfMemory(memory)) => Err(memory),
+        Err(_fault) => unreachable!(),
     }
 }
 
@@ -267,7 +267,7 @@ fn cause_of(fault: AddFault) -> Result<Cause, OutOfMemory>
         AddFault::Cycle(positions) => Ok(Cause::Cycle(positions)),
         AddFault::Deep => Ok(Cause::Deep),
         AddFault::Many => Ok(Cause::Many),
-        AddFault::OutOfMemory => Err(OutOfMemory),
+        AddFault::OutOfMemory(memory) => Err(memory),
     }
 }
 
@@ -280,7 +280,7 @@ fn add(joins: &mut JoinSet, at: u64, join: Join) -> Result<(), OutOfMemory>
 {
     match joins.add(at, join) {
         Ok(()) => Ok(()),
-        Err(AddFault::OutOfMemory) => Err(OutOfMemory),
-        Err(_) => unreachable!(),
+        Err(AddFault::OutOfMemory(memory)) => Err(memory),
+        Err(_fault) => unreachable!(),
     }
 }

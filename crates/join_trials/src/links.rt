@@ -7,10 +7,11 @@ ghost use Rattle.std.specs.Prelude.{Some, []};
 
 use crate::answer::Answer;
 use crate::words::read_numbers;
-use pq_io::{Failed, Link, MemLink, MemSink, MemSource};
+use out_of_memory::OutOfMemory;
+use pq_io::{Failed, Finished, Link, MemLink, MemSink, MemSource};
 use request_codec::{Reply, Request};
 use session::{Service, serve_link};
-use std::alloc::Global;
+use std::alloc::{AllocError, Global};
 use std::cell::Cell;
 use test_rows::{Fields, unescape};
 
@@ -29,7 +30,7 @@ impl Service for Forgetful {
     fn answer(&mut self, request: Request) -> Reply {
         let _ = request;
         self.asked = self.asked.saturating_add(1);
-        Reply::Memory
+        Reply::Memory(AllocError.into())
     }
 
     fn make_room(&self) -> bool {
@@ -54,13 +55,14 @@ impl Link for Ordered {
 
     ghost write_faults = { λ l. l.link.sink.log.faults };
 
-    type Receipt = MemLink;
+    type Receipt = Finished<MemLink>;
 
-    ghost tells = { λ l. record {
-      left = Some l.source.left;
-      taken = Some l.sink.taken;
-      read_faults = l.source.log.faults;
-      write_faults = l.sink.log.faults;
+    ghost tells = { λ r. record {
+      left = Some r.link.source.left;
+      taken = Some r.link.sink.taken;
+      read_faults = r.link.source.log.faults;
+      write_faults = r.link.sink.log.faults;
+      refused = r.refused;
     } };
 
     fn read(&mut self, into: &mut [u8]) -> Result<usize, Failed> {
@@ -73,9 +75,9 @@ impl Link for Ordered {
         self.link.write(bytes)
     }
 
-    fn finish(self) -> MemLink {
+    fn finish(self, refused: Option<OutOfMemory>) -> Finished<MemLink> {
         let Ordered { link, .. } = self;
-        link
+        link.finish(refused)
     }
 }
 

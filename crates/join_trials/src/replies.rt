@@ -8,10 +8,10 @@ use crate::answer::Answer;
 use crate::words::{read_cause, read_changes, read_pairs};
 use key_space::Value;
 use request_codec::{
-    LONG_LINE, LineFault, MEMORY_LINE, Reply, cause_name, long_line, memory_line, number_value,
-    text_value, write, write_ok, write_row,
+    LONG_LINE, LineFault, Reply, cause_name, long_line, memory_line, number_value, text_value,
+    write, write_ok, write_row,
 };
-use std::alloc::Global;
+use std::alloc::{AllocError, Global};
 use test_rows::Fields;
 
 /// The first number that is no position of a history.
@@ -19,7 +19,7 @@ const NO_POSITION: u64 = 281_474_976_710_656;
 
 /// Adds the line of a reply.
 fn tell_line(alloc: Global, reply: &Reply, answer: &mut Answer) -> Option<()>
-    requires { reply.now ≢ Reply.Unread LineFault.OutOfMemory }
+    requires { reply.now ≢ Reply.Unread (LineFault.OutOfMemory tt) }
 {
     let line = write(alloc, reply).ok()?;
     answer.say_bytes(line.as_slice());
@@ -28,19 +28,18 @@ fn tell_line(alloc: Global, reply: &Reply, answer: &mut Answer) -> Option<()>
 
 /// Tells the line of a fault of a request's line.
 fn tell_unread(alloc: Global, fields: &mut Fields<'_>, answer: &mut Answer) -> Option<()> {
-    let fault = match fields.next() {
-        "json" => LineFault::Json,
-        "form" => LineFault::Form,
-        "key" => LineFault::Key,
-        "value" => LineFault::Value,
-        "range" => LineFault::Range,
-        "syntax" => LineFault::Syntax(usize::try_from(fields.number()).ok()?),
-        _ => LineFault::OutOfMemory,
-    };
-    if fault == LineFault::OutOfMemory {
-        return None;
+    match fields.next() {
+        "json" => tell_line(alloc, &Reply::Unread(LineFault::Json), answer),
+        "form" => tell_line(alloc, &Reply::Unread(LineFault::Form), answer),
+        "key" => tell_line(alloc, &Reply::Unread(LineFault::Key), answer),
+        "value" => tell_line(alloc, &Reply::Unread(LineFault::Value), answer),
+        "range" => tell_line(alloc, &Reply::Unread(LineFault::Range), answer),
+        "syntax" => {
+            let at = usize::try_from(fields.number()).ok()?;
+            tell_line(alloc, &Reply::Unread(LineFault::Syntax(at)), answer)
+        }
+        _ => None,
     }
-    tell_line(alloc, &Reply::Unread(fault), answer)
 }
 
 /// Tells the name of a cause, and the line of a write that it refuses.
@@ -89,9 +88,8 @@ fn tell_done(alloc: Global, fields: &mut Fields<'_>, answer: &mut Answer) -> Opt
 /// Tells the lines that are fixed.
 fn tell_fixed(alloc: Global, answer: &mut Answer) -> Option<()> {
     tell_line(alloc, &Reply::Bye, answer)?;
-    tell_line(alloc, &Reply::Memory, answer)?;
-    answer.say_bytes(memory_line());
-    answer.say_bytes(MEMORY_LINE);
+    tell_line(alloc, &Reply::Memory(AllocError.into()), answer)?;
+    answer.say_bytes(memory_line(&AllocError.into()));
     tell_line(alloc, &Reply::Long, answer)?;
     answer.say_bytes(long_line());
     answer.say_bytes(LONG_LINE);

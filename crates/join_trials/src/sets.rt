@@ -10,7 +10,7 @@ use join_set::{AddFault, JoinSet, Standing};
 use join_types::{Cause, Join, Positions, Write};
 use key_space::Key;
 use out_of_memory::OutOfMemory;
-use std::alloc::Global;
+use std::alloc::{AllocError, Global};
 use test_rows::Fields;
 
 /// Returns the verdict of the write, which enters where there is none.
@@ -203,7 +203,7 @@ fn tell_fault(alloc: Global, fields: &mut Fields<'_>, answer: &mut Answer) -> Op
         "cycle" => AddFault::Cycle(Positions::of(numbers)),
         "deep" => AddFault::Deep,
         "many" => AddFault::Many,
-        "memory" => AddFault::OutOfMemory,
+        "memory" => AddFault::OutOfMemory(AllocError.into()),
         _ => return None,
     };
     answer.tell(&fault);

@@ -5,24 +5,24 @@
 // `push`; it is read back as the same join.
 use crate::answer::Answer;
 use join_lang::{ParseFault, parse, print};
-use std::alloc::Global;
+use std::alloc::{AllocError, Global};
 use test_rows::{Fields, unescape};
 
 /// Runs a row of this kind: `read` tells whether a text is a join or why not, `print` the canonical text, and `memory` the fault of
 /// a read that finds no memory.
 pub fn run(alloc: Global, kind: &str, fields: &mut Fields<'_>, answer: &mut Answer) -> Option<()> {
     let text = unescape(alloc, fields.next()).ok()?;
-    let read = parse(alloc, text.as_str());
     match kind {
-        "read" => match read {
-            Ok(_) => answer.say("a join"),
+        "read" => match parse(alloc, text.as_str()) {
+            Ok(_join) => answer.say("a join"),
             Err(fault) => answer.tell(&fault),
         },
         "print" => {
-            let printed = print(alloc, &read.ok()?).ok()?;
+            let join = parse(alloc, text.as_str()).ok()?;
+            let printed = print(alloc, &join).ok()?;
             answer.say(printed.as_str());
         }
-        "memory" => answer.tell(&ParseFault::OutOfMemory),
+        "memory" => answer.tell(&ParseFault::from(AllocError)),
         _ => return None,
     }
     Some(())

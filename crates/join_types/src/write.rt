@@ -57,7 +57,7 @@ impl Model for Pair {
 }
 
 impl Write {
-    /// An equal write, whose texts are shared where it is a put or a remove. Linear in a join.
+    /// An equal write, whose long texts are shared where it is a put or a remove. Linear in a join.
     pub fn copy(&self, alloc: Global) -> Result<Write, OutOfMemory>
         ensures { IfOk result (λ copy. plain_write copy ≡ plain_write self.now) }
     {
@@ -84,7 +84,7 @@ impl Entry {
 }
 
 impl Pair {
-    /// An equal pair, which shares its texts. It takes constant time.
+    /// An equal pair, which shares its long texts. It takes constant time.
     pub fn copy(&self) -> Result<Pair, OutOfMemory>
         ensures { IfOk result (λ copy. copy ≡ self.now) }
     {

@@ -44,7 +44,7 @@ fn read_line(alloc: Global, line: &[u8]) -> Result<Option<Join>, OutOfMemory>
     match parse(alloc, text) {
         Ok(join) => Ok(Some(join)),
         Err(ParseFault::Syntax { .. }) => Ok(None),
-        Err(ParseFault::OutOfMemory) => Err(OutOfMemory),
+        Err(ParseFault::OutOfMemory(memory)) => Err(memory),
     }
 }
 

@@ -3,8 +3,6 @@ ghost use Rattle.std.specs.Prelude.{◌≡◌, ◌<◌, ◌==◌, ◌∷◌, [],
 ghost use Rattle.std.specs.List.{list_all};
 ghost use Rattle.protocol.specs.JoinsFile.{file_lines, is_skipped, without_return};
 
-use request_codec::find_line_end;
-
 /// The line without one byte 13 at its end.
 fn without_return(line: &[u8]) -> &[u8]
     ensures { result.now ≡ without_return line.now }
@@ -12,17 +10,15 @@ fn without_return(line: &[u8]) -> &[u8]
     line.strip_suffix(b"\r").unwrap_or(line)
 }
 
-/// The first line of a text and what follows it, or nothing where the text has no line. One search for the line's end.
+/// The first line of a text, without one byte 13 at its end, and what follows it, or nothing where the text has no line. One search
+/// for the line's end.
 pub fn split_first_line(bytes: &[u8]) -> Option<(&[u8], &[u8])>
     ensures lines { MatchOption result (file_lines bytes.now ≡ []) (λ found. file_lines bytes.now ≡ found.0.now ∷ file_lines found.1.now) }
     ensures shorter { IfSome result (λ found. length found.1.now < length bytes.now) }
 {
-    if bytes.is_empty() {
-        return None;
-    }
-    match find_line_end(bytes) {
-        Some(end) => Some((without_return(&bytes[..end]), &bytes[end + 1..])),
-        None => Some((without_return(bytes), &[])),
+    match request_codec::split_first_line(bytes) {
+        Some((line, rest)) => Some((without_return(line), rest)),
+        None => None,
     }
 }
 

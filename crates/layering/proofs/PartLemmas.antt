@@ -78,7 +78,7 @@ two_make_range low middle high (pair ∷ pairs) asc first last = by (cases_Bool 
 -- ---- parts that join to a range
 
 -- where parts join from one text up to another, the one is not above the other
-join_order : (low high : Text) (parts : List Range) → JoinUpTo low high parts → is_up_to low high ≡ true
+pub join_order : (low high : Text) (parts : List Range) → JoinUpTo low high parts → is_up_to low high ≡ true
 join_order low high [] joins = subst (λ t. is_up_to low t ≡ true) joins (up_to_itself low)
 join_order low high (part ∷ parts) joins =
     subst (λ t. is_up_to t high ≡ true) joins.0 (up_to_trans part.low part.high high (up_to_from_below part.low part.high joins.1) (join_order part.high high parts joins.2))

@@ -1,7 +1,8 @@
 // Laws on what stands below a rank, in a range.
 ghost use Rattle.layering.specs.LayerLaws.{BelowNextWithin, BelowNextInAnyOrder, OutputsShareNoKey, OutputIsNewBelow, UnreachedIsVisible, VisibleWithin, VisibleAreFewer, OneReachedIsState, OneReachedLength};
 
-/// Below the next rank stands in a range what stands below the rank, merged with what the joins of the rank that the range reaches give in it.
+/// Below the next rank stands in a range what stands below the rank, merged with what the joins of the rank that the range reaches
+/// give in it.
 pub fn below_next_within()
     ensures { BelowNextWithin }
 {}

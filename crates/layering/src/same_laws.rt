@@ -1,7 +1,8 @@
 // Laws on what is the same at all positions between two.
 ghost use Rattle.layering.specs.SameLaws.{SameBelowNext, SameBelowNextWithin, SameWhereBare, SameThrough};
 
-/// Where the same joins stand, the same stands at a key below the next rank where it does below the rank and the joins of the rank make the same there.
+/// Where the same joins stand, the same stands at a key below the next rank where it does below the rank and the joins of the rank
+/// make the same there.
 pub fn same_below_next()
     ensures { SameBelowNext }
 {}

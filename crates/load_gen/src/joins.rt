@@ -22,7 +22,7 @@ fn read(alloc: Global, text: &str) -> Result<Join, OutOfMemory>
 {
     match parse(alloc, text) {
         Ok(join) => Ok(join),
-        Err(ParseFault::OutOfMemory) => Err(OutOfMemory),
+        Err(ParseFault::OutOfMemory(memory)) => Err(memory),
         Err(ParseFault::Syntax { .. }) => unreachable!(),
     }
 }

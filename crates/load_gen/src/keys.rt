@@ -14,7 +14,7 @@ fn read_key(alloc: Global, text: &str) -> Result<Key, OutOfMemory>
 {
     match Key::read(alloc, text) {
         Ok(key) => Ok(key),
-        Err(KeyFault::OutOfMemory) => Err(OutOfMemory),
+        Err(KeyFault::OutOfMemory(memory)) => Err(memory),
         Err(KeyFault::BadKey) => unreachable!(),
     }
 }
@@ -26,7 +26,7 @@ fn read_value(alloc: Global, text: &str) -> Result<Value, OutOfMemory>
 {
     match Value::read(alloc, text) {
         Ok(value) => Ok(value),
-        Err(ValueFault::OutOfMemory) => Err(OutOfMemory),
+        Err(ValueFault::OutOfMemory(memory)) => Err(memory),
         Err(ValueFault::BadValue) => unreachable!(),
     }
 }

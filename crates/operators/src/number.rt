@@ -1,30 +1,15 @@
 // Canonical decimals: the number that a value writes, and the value that writes a number.
-ghost use Rattle.std.specs.Prelude.{◌≡◌, ◌^◌, ◌≤◌, IfOk, SomeIff};
+ghost use Rattle.std.specs.Prelude.{◌≡◌, IfOk};
 ghost use Rattle.std.specs.Fmt.{signed_decimal};
-ghost use Rattle.semantics.specs.Outputs.{canonical_integer, unsigned_integer, negative_integer, digits_value};
+ghost use Rattle.semantics.specs.Outputs.{canonical_integer, unsigned_integer, negative_integer};
 
-use key_space::decimal::is_positive;
+use key_space::decimal::{digits_value, is_positive};
 use key_space::{Value, ValueFault};
 use out_of_memory::OutOfMemory;
 use std::alloc::Global;
 
 /// 2^63, the first number above those within 64 bits with a sign.
 const FIRST_ABOVE: u64 = 1 << 63;
-
-/// The number that the digits write; none where it is above 2^63.
-fn digits_value(digits: &[u8]) -> Option<u64>
-    ensures { SomeIff result (digits_value digits.now ≤ 2 ^ 63) (digits_value digits.now) }
-{
-    let mut number: u64 = 0;
-    for digit in digits {
-        let next = 10 * u128::from(number) + u128::from(digit.saturating_sub(b'0'));
-        if next > u128::from(FIRST_ABOVE) {
-            return None;
-        }
-        number = next as u64;
-    }
-    Some(number)
-}
 
 /// The whole number that a text without a sign writes.
 fn unsigned_integer(text: &[u8]) -> Option<i64>
@@ -47,8 +32,8 @@ fn negative_integer(digits: &[u8]) -> Option<i64>
         return None;
     }
     match digits_value(digits) {
-        Some(number) => Some(-i128::from(number) as i64),
-        None => None,
+        Some(number) if number <= FIRST_ABOVE => Some(-i128::from(number) as i64),
+        _ => None,
     }
 }
 
@@ -78,7 +63,7 @@ pub fn decimal(alloc: Global, number: i128) -> Result<Value, OutOfMemory>
     let text = format!(in alloc; "{number}")?;
     match Value::read(alloc, text.as_str()) {
         Ok(value) => Ok(value),
-        Err(ValueFault::OutOfMemory) => Err(OutOfMemory),
+        Err(ValueFault::OutOfMemory(memory)) => Err(memory),
         Err(ValueFault::BadValue) => unreachable!(),
     }
 }

@@ -1,20 +1,12 @@
 -- What changed between two tables, key by key.
-use Rattle.std.proofs.Common.{◌≡◌, Bool, true, false, cond, not, List, [], ◌∷◌, ◌++◌, map, filter, refl, sym, ap, ◌∙◌, append_assoc}
-use Rattle.semantics.specs.Texts.{Text, Range, Table, value_at, pairs_within}
+use Rattle.std.proofs.Common.{◌≡◌, Bool, true, false, cond, List, [], ◌∷◌, ◌++◌, map, filter, refl, sym, ap, ◌∙◌, append_assoc}
+use Rattle.semantics.specs.Texts.{Text, Range, Table, pairs_within}
 use Rattle.semantics.specs.States.{merged}
 use Rattle.semantics.proofs.TableLemmas.{IsAscending}
 use Rattle.semantics.proofs.MergedLemmas.{ascending-pairs_within}
 use Rattle.layering.proofs.MergeLemmas.{merged_into_nothing}
-use Rattle.state_changes.specs.StateChanges.{Change, same_value, differ_at, change_to, changes_among, changes_between}
+use Rattle.state_changes.specs.StateChanges.{Change, differ_at, change_to, changes_among, changes_between}
 use Rattle.state_changes.proofs.ChangeLemmas.{changes_among_pairs}
-
--- a key at which both have the same value, or none
-pub no_change : (key : Text) (before after : Table) → same_value (value_at key before) (value_at key after) ≡ true → changes_among (key ∷ []) before after ≡ []
-no_change key before after same = ap (λ b. map (change_to after) (cond (not b) (key ∷ []) [])) same
-
--- a key at which they have not
-pub one_change : (key : Text) (before after : Table) → same_value (value_at key before) (value_at key after) ≡ false → changes_among (key ∷ []) before after ≡ change_to after key ∷ []
-one_change key before after other = ap (λ b. map (change_to after) (cond (not b) (key ∷ []) [])) other
 
 -- the changes among a key and others
 among_first : (key : Text) (keys : List Text) (before after : Table) → changes_among (key ∷ keys) before after ≡ changes_among (key ∷ []) before after ++ changes_among keys before after

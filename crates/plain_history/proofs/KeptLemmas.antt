@@ -2,13 +2,13 @@
 use Rattle.std.proofs.Common.{◌≡◌, ℕ, ◌+◌, [], ◌∷◌, ◌++◌, length, Option, Some, None, option_map, refl, sym, subst}
 use Rattle.semantics.specs.Histories.{Write, History}
 use Rattle.semantics.specs.Verdicts.{Cause, verdict}
-use Rattle.semantics.proofs.EnteredLemmas.{AllEntered-push}
 use Rattle.protocol.specs.Requests.{write}
 use Rattle.protocol.specs.Replies.{done, refused}
 use Rattle.protocol.specs.Told.{Told}
+use Rattle.protocol.specs.Own.{AreOwn}
 use Rattle.protocol.proofs.TellingSteps.{told_refused, told_done}
 use Rattle.join_set.specs.Summaries.{Summary, StandsFor}
-use Rattle.plain_history.specs.Histories.{AreOwn, IsKept}
+use Rattle.plain_history.specs.Histories.{IsKept}
 
 -- where no cause was given there is none
 pub no_cause : {C : Type 0} (o : Option C) (f : C → Cause) (cause : Option Cause) → ((x : C) → o ≡ Some x → ⊥) → option_map f o ≡ cause → cause ≡ None
@@ -19,15 +19,11 @@ own_push : (h : History) (w : Write) → AreOwn h → AreOwn (h ++ record { clie
 own_push [] w own = (refl, tt)
 own_push (e ∷ h) w own = (own.0, own_push h w own.1)
 
--- an entry without a cause against it is kept
+-- an entry that the summary takes is kept
 pub kept_next : (summary after : Summary) (h : History) (w : Write) → IsKept summary h →
-    ((g : History) (client : ℕ) → StandsFor summary g → StandsFor after (g ++ record { client = client; write = w } ∷ [])) → verdict w h ≡ None →
+    ((g : History) (client : ℕ) → StandsFor summary g → StandsFor after (g ++ record { client = client; write = w } ∷ [])) →
     IsKept after (h ++ record { client = 0; write = w } ∷ [])
-kept_next summary after h w kept goes free = record {
-  stands = goes h 0 kept.stands;
-  entered = AllEntered-push h (record { client = 0; write = w }) kept.entered free;
-  own = own_push h w kept.own;
-}
+kept_next summary after h w kept goes = record { stands = goes h 0 kept.stands; own = own_push h w kept.own }
 
 -- a write that is refused
 pub told_refused_at : (h : History) (w : Write) (cause : Cause) (n : ℕ) → n ≡ length h → verdict w h ≡ Some cause → Told h h 0 (write w ∷ []) (refused n cause ∷ [])

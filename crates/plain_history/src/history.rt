@@ -8,10 +8,10 @@ ghost use Rattle.protocol.specs.Requests.{write, scan_at, changes_since};
 ghost use Rattle.protocol.specs.Replies.{answered};
 ghost use Rattle.protocol.specs.Earlier.{earlier_reply};
 ghost use Rattle.protocol.specs.Told.{IsWithinReach, Told};
+ghost use Rattle.protocol.specs.Own.{AreOwn};
 ghost use Rattle.join_types.specs.Writes.{plain_write};
 ghost use Rattle.request_codec.specs.Plain.{plain_reply, plain_request};
-ghost use Rattle.request_codec.specs.Reach.{IsOutOfReach};
-ghost use Rattle.plain_history.specs.Histories.{AreOwn};
+ghost use Rattle.request_codec.specs.Reach.{TellsReach};
 
 use crate::changing::compare;
 use join_model::{Entry, Standing, Write, afresh, state, value_afresh};
@@ -106,7 +106,7 @@ impl PlainHistory {
 
     /// The reply that the position lies ahead, or too far back. None where it lies within reach.
     fn out_of_reach(&self, at: u64) -> Option<Reply>
-        ensures { IsOutOfReach at (length self.now) result }
+        ensures { TellsReach at (length self.now) result }
     {
         let position = self.len();
         if position < at {

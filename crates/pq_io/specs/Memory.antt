@@ -1,5 +1,5 @@
 -- What contracts see of a source, a sink and a link in memory.
-use Rattle.std.specs.Prelude.{ℕ, List, Some, length, min, max, slice_index_or}
+use Rattle.std.specs.Prelude.{ℕ, List, Option, Some, length, min, max, slice_index_or, ⊤}
 use Rattle.pq_io.specs.CallLog.{CallLog}
 use Rattle.pq_io.specs.Links.{LinkTold}
 
@@ -24,6 +24,12 @@ pub record LinkState : Type 0 where
   pub source : SourceState
   pub sink : SinkState
 
--- what it tells
-abbrev pub told_of_state : LinkState → LinkTold
-told_of_state l = record { left = Some l.source.left; taken = Some l.sink.taken; read_faults = l.source.log.faults; write_faults = l.sink.log.faults }
+-- what it tells where its use has ended so
+abbrev pub told_of_state : LinkState → Option ⊤ → LinkTold
+told_of_state l refused = record {
+  left = Some l.source.left;
+  taken = Some l.sink.taken;
+  read_faults = l.source.log.faults;
+  write_faults = l.sink.log.faults;
+  refused = refused;
+}

@@ -30,7 +30,7 @@ CannotGive files name = MatchOption (bytes_under files name) ⊤ (λ bytes. MAX_
 abbrev pub has_failed : {T : Type 0} → Result T TakeFault → Bool
 has_failed (Ok x) = false
 has_failed (Err Failed) = true
-has_failed (Err OutOfMemory) = false
+has_failed (Err (OutOfMemory _)) = false
 
 -- what contracts see of a shelf in memory: its files, and the calls
 pub record ShelfState : Type 0 where

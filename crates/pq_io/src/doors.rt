@@ -1,7 +1,7 @@
 // Where links come from.
 ghost use Rattle.std.specs.Prelude.{◌≡◌, List, ℕ, IfSome, OnErr, OnOk};
 ghost use Rattle.std.specs.declared.option.Option.{Option};
-ghost use Rattle.pq_io.specs.Doors.{GivesNextLink, IsOpenAt, lists_of};
+ghost use Rattle.pq_io.specs.Doors.{GivesNextLink, OpenedAt, lists_of};
 ghost use Rattle.pq_io.specs.Faults.{HasCause};
 
 use crate::{Failed, Link};
@@ -17,8 +17,8 @@ pub trait Doors {
     /// The receipts that came back last, where they are told: a list of each who served links, in the order of serving.
     ghost returned: { Self → Option (List (List Self.Wire.Receipt)) };
 
-    /// The address at which it was opened last, if at any, where that is told.
-    ghost opened: { Self → Option (Option (List ℕ)) };
+    /// The addresses at which it was opened, in order, where they are told.
+    ghost opened: { Self → Option (List (List ℕ)) };
 
     /// How many calls have failed, up to the last value 2^64 - 1.
     ghost faults: { Self → ℕ };
@@ -27,7 +27,7 @@ pub trait Doors {
     /// `Failed`: they could not be opened there, and the count of faults rose.
     fn open_at(&mut self, address: &str) -> Result<(), Failed>
         ensures cause { HasCause (faults self.old) (faults self.new) result }
-        ensures opened { OnOk result (IsOpenAt (opened self.new) address.now) }
+        ensures opened { OnOk result (OpenedAt (opened self.old) (opened self.new) address.now) }
         ensures same_opened { OnErr result (opened self.new ≡ opened self.old) }
         ensures same_held { held self.new ≡ held self.old };
 

@@ -3,9 +3,10 @@ ghost use Rattle.std.specs.Prelude.{◌≡◌, ◌≤◌, None, IfOk, IfSome, ve
 
 use crate::fault_count::FaultCount;
 use crate::{MAX_FILE_BYTES, Shelf, TakeFault};
+use out_of_memory::OutOfMemory;
 use std::alloc::Global;
 use std::fs;
-use std::io::{Error, ErrorKind, Read};
+use std::io::{Error, Read};
 use std::marker::Model;
 use std::rt::Files;
 
@@ -57,7 +58,7 @@ impl<'a, R: Files> Shelf for FileShelf<'a, R> {
     fn take(&mut self, alloc: Global, name: &str) -> Result<Vec<u8>, TakeFault> {
         match read_named(self.rt, alloc, name) {
             Ok(bytes) => Ok(bytes),
-            Err(TakeFault::OutOfMemory) => Err(TakeFault::OutOfMemory),
+            Err(TakeFault::OutOfMemory(memory)) => Err(TakeFault::OutOfMemory(memory)),
             Err(TakeFault::Failed) => Err(self.faults.raise().into()),
         }
     }
@@ -65,10 +66,9 @@ impl<'a, R: Files> Shelf for FileShelf<'a, R> {
 
 // The answer to an error of the system.
 fn fault_of(error: &Error) -> TakeFault {
-    if error.kind() == ErrorKind::OutOfMemory {
-        TakeFault::OutOfMemory
-    } else {
-        TakeFault::Failed
+    match OutOfMemory::of_system(error) {
+        Some(memory) => TakeFault::OutOfMemory(memory),
+        None => TakeFault::Failed,
     }
 }
 

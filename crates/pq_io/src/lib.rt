@@ -14,6 +14,7 @@ mod call_log;
 mod doors;
 mod fault_count;
 mod file_shelf;
+mod finished;
 mod gate;
 mod link;
 mod mem_doors;
@@ -28,6 +29,7 @@ mod tcp;
 
 pub use doors::Doors;
 pub use file_shelf::FileShelf;
+pub use finished::Finished;
 pub use gate::{Gate, OpenGate};
 pub use link::{Both, Link, write_link, write_whole};
 pub use mem_doors::MemDoors;

@@ -8,7 +8,8 @@ ghost use Rattle.pq_io.specs.Faults.{HasCause};
 ghost use Rattle.pq_io.specs.Links.{LinkTold, link_told};
 ghost use Rattle.pq_io.specs.Streams.{GivesNext, TakesFirst, Took, TookProperPrefix};
 
-use crate::{Failed, Sink, Source};
+use crate::{Failed, Finished, Sink, Source};
+use out_of_memory::OutOfMemory;
 use std::snapshot::Snapshot;
 
 /// An object that gives bytes and takes bytes. Each side has a count of faults of its own.
@@ -56,9 +57,10 @@ pub trait Link {
         ensures same_faults { read_faults self.new ≡ read_faults self.old }
         ensures same_borrows { borrows self.new ≡ borrows self.old };
 
-    /// Ends the use of the link, and gives its receipt. It takes no memory and cannot fail.
-    fn finish(self) -> Self::Receipt
-        ensures told { tells result ≡ link_told left taken read_faults write_faults self };
+    /// Ends the use of the link, and gives its receipt. It takes the refusal for which the link was not served, if that was so. It
+    /// takes no memory and cannot fail.
+    fn finish(self, refused: Option<OutOfMemory>) -> Self::Receipt
+        ensures told { tells result ≡ record (link_told left taken read_faults write_faults self) { refused = refused } };
 }
 
 /// A link that reads from a source and writes to a sink.
@@ -81,8 +83,7 @@ impl<'a, R, W> Both<'a, R, W> {
 }
 
 impl<'a, R: Source, W: Sink> Link for Both<'a, R, W> {
-    /// It has no bytes.
-    type Receipt = Snapshot<Both<'a, R, W>>;
+    type Receipt = Finished<Snapshot<Both<'a, R, W>>>;
 
     ghost left = { λ b. R.left b.source.now };
 
@@ -96,10 +97,11 @@ impl<'a, R: Source, W: Sink> Link for Both<'a, R, W> {
         (R.borrows b.source.now ++ W.borrows b.sink.now) };
 
     ghost tells = { λ r. record {
-      left = R.left r.value.source.now;
-      taken = W.taken r.value.sink.now;
-      read_faults = R.faults r.value.source.now;
-      write_faults = W.faults r.value.sink.now;
+      left = R.left r.link.value.source.now;
+      taken = W.taken r.link.value.sink.now;
+      read_faults = R.faults r.link.value.source.now;
+      write_faults = W.faults r.link.value.sink.now;
+      refused = r.refused;
     } };
 
     fn read(&mut self, into: &mut [u8]) -> Result<usize, Failed> {
@@ -110,8 +112,9 @@ impl<'a, R: Source, W: Sink> Link for Both<'a, R, W> {
         self.sink.write(bytes)
     }
 
-    fn finish(self) -> Snapshot<Both<'a, R, W>> {
-        Snapshot::of(&self)
+    fn finish(self, refused: Option<OutOfMemory>) -> Finished<Snapshot<Both<'a, R, W>>> {
+        let link = Snapshot::of(&self);
+        Finished { link, refused }
     }
 }
 

@@ -1,11 +1,12 @@
 // Doors in memory, for tests: the links that they give, and which of their calls fail, are chosen beforehand.
-ghost use Rattle.std.specs.Prelude.{◌≡◌, ◌↔◌, [], Some, None, IfSome, IsErr, Contains, OnErr, OnOk, is_err};
+ghost use Rattle.std.specs.Prelude.{◌≡◌, ◌↔◌, ◌++◌, ◌∷◌, [], map, string_bytes, option_copied, option_map, Some, IfOk, IfSome, IsErr, Contains, OnErr, OnOk, is_err};
 ghost use Rattle.pq_io.specs.CallLog.{NextIsListed, after_call, after_opening, no_calls};
-ghost use Rattle.pq_io.specs.Doors.{GivesNextLink, IsOpenAt, lists_of, opened_of};
+ghost use Rattle.pq_io.specs.Doors.{GivesNextLink, OpenedAt, lists_of, opened_of};
 ghost use Rattle.pq_io.specs.Faults.{HasCause};
 
 use crate::call_log::Calls;
 use crate::{Doors, Failed, Link};
+use out_of_memory::OutOfMemory;
 use std::alloc::Global;
 use std::collections::VecDeque;
 use std::marker::Model;
@@ -16,8 +17,8 @@ pub struct MemDoors<K: Link> {
     links: VecDeque<K>,
     calls: Calls,
     returned: Option<Vec<Vec<K::Receipt>>>,
-    /// The address at which they were opened last, if at any. None where no memory was found to keep it.
-    opened: Option<Option<String>>,
+    /// The addresses at which they were opened, in order. None once no memory was found to keep one.
+    opened: Option<Vec<String>>,
 }
 
 impl<K: Link> Model for MemDoors<K> {
@@ -28,12 +29,29 @@ impl<K: Link> Model for MemDoors<K> {
     ghost view = { λ d. record { links = d.links.items; log = d.calls; returned = returned_of d.returned; opened = opened_of d.opened } };
 }
 
-// The address as doors keep it. None where no memory is found.
-fn keep_address(alloc: Global, address: &str) -> Option<Option<String>>
-    ensures { IsOpenAt (opened_of result) address.now }
+/// Adds an address behind the others.
+fn add_address(
+    alloc: Global,
+    mut all: Vec<String>,
+    address: &str,
+) -> Result<Vec<String>, OutOfMemory>
+    ensures { IfOk result (λ more. map string_bytes more.items ≡ map string_bytes all.items ++ address.now ∷ []) }
 {
-    match String::from_str(alloc, address) {
-        Ok(text) => Some(Some(text)),
+    let text = String::from_str(alloc, address)?;
+    all.push(text)?;
+    Ok(all)
+}
+
+/// The addresses as doors keep them once they are opened at one more. None where no memory is found for it, or was not found
+/// before.
+fn keep_address(alloc: Global, opened: Option<Vec<String>>, address: &str) -> Option<Vec<String>>
+    ensures { OpenedAt (opened_of opened) (opened_of result) address.now }
+{
+    let Some(known) = opened else {
+        return None;
+    };
+    match add_address(alloc, known, address) {
+        Ok(all) => Some(all),
         Err(_) => None,
     }
 }
@@ -42,13 +60,14 @@ impl<K: Link> MemDoors<K> {
     /// Doors that give these links in order. A call of `next` fails exactly where its number, counted from 1, is in `fails`,
     /// and `open_at` exactly where 0 is.
     pub fn new(links: Vec<K>, fails: Vec<usize>) -> MemDoors<K>
-        ensures { result ≡ record { links = links.items; log = no_calls fails.items; returned = []; opened = Some None } }
+        ensures { result ≡ record { links = links.items; log = no_calls fails.items; returned = []; opened = Some [] } }
     {
+        let alloc = *links.allocator();
         MemDoors {
             links: VecDeque::from(links),
             calls: Calls::new(fails),
             returned: None,
-            opened: Some(None),
+            opened: Some(Vec::new(alloc)),
         }
     }
 
@@ -59,6 +78,16 @@ impl<K: Link> MemDoors<K> {
         match &self.returned {
             Some(lists) => lists.as_slice(),
             None => &[],
+        }
+    }
+
+    /// The addresses at which they were opened, in order. None once no memory was found to keep one.
+    pub fn opened(&self) -> Option<&[String]>
+        ensures { option_map (map string_bytes) (option_copied result) ≡ self.now.opened }
+    {
+        match &self.opened {
+            Some(all) => Some(all.as_slice()),
+            None => None,
         }
     }
 }
@@ -74,11 +103,11 @@ impl<K: Link + Send + Drop> Doors for MemDoors<K> {
 
     ghost faults = { λ d. d.log.faults };
 
-    /// Keeps the address. Takes a step for each number in `fails` and each byte of the address. Where no memory is found for a copy it
-    /// is told no more at which address they are open.
+    /// Keeps a copy of the address. Where no memory is found for it, they do not tell any more at which addresses they were opened.
+    /// Takes a step for each number in `fails` and each byte of the address.
     fn open_at(&mut self, address: &str) -> Result<(), Failed>
         ensures cause { HasCause self.old.log.faults self.new.log.faults result }
-        ensures opened { OnOk result (IsOpenAt self.new.opened address.now) }
+        ensures opened { OnOk result (OpenedAt self.old.opened self.new.opened address.now) }
         ensures same_opened { OnErr result (self.new.opened ≡ self.old.opened) }
         ensures same_held { Some self.new.links ≡ Some self.old.links }
         ensures listed { IsErr result ↔ Contains self.old.log.fails 0 }
@@ -86,7 +115,8 @@ impl<K: Link + Send + Drop> Doors for MemDoors<K> {
     {
         self.calls.open()?;
         let alloc = *self.links.allocator();
-        self.opened = keep_address(alloc, address);
+        let opened = self.opened.take();
+        self.opened = keep_address(alloc, opened, address);
         Ok(())
     }
 

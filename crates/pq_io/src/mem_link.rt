@@ -8,11 +8,12 @@ ghost use Rattle.pq_io.specs.Links.{link_told};
 ghost use Rattle.pq_io.specs.Memory.{given_count, told_of_state};
 ghost use Rattle.pq_io.specs.Streams.{GivesNext, TakesFirst};
 
-use crate::{Failed, Link, MemSink, MemSource, Sink, Source};
+use crate::{Failed, Finished, Link, MemSink, MemSource, Sink, Source};
+use out_of_memory::OutOfMemory;
 use std::marker::Model;
 
-/// A link that reads from a source in memory and writes to a sink in memory. It is its own receipt. Contracts see it as a
-/// `LinkState`.
+/// A link that reads from a source in memory and writes to a sink in memory. Its receipt holds the link itself. Contracts see it as
+/// a `LinkState`.
 #[derive(Drop)]
 pub struct MemLink {
     source: MemSource,
@@ -44,7 +45,7 @@ impl MemLink {
 }
 
 impl Link for MemLink {
-    type Receipt = MemLink;
+    type Receipt = Finished<MemLink>;
 
     ghost left = { λ l. Some l.source.left };
 
@@ -54,7 +55,7 @@ impl Link for MemLink {
 
     ghost write_faults = { λ l. l.sink.log.faults };
 
-    ghost tells = { told_of_state };
+    ghost tells = { λ r. told_of_state r.link r.refused };
 
     /// Reads from the source, as `MemSource` does.
     fn read(&mut self, into: &mut [u8]) -> Result<usize, Failed>
@@ -85,12 +86,15 @@ impl Link for MemLink {
         self.sink.write(bytes)
     }
 
-    /// Gives the link itself.
-    fn finish(self) -> MemLink
-        ensures same { result ≡ self }
-        ensures told { told_of_state result
-            ≡ link_told (λ l. Some l.source.left) (λ l. Some l.sink.taken) (λ l. l.source.log.faults) (λ l. l.sink.log.faults) self }
+    /// Gives the link itself, and the refusal.
+    fn finish(self, refused: Option<OutOfMemory>) -> Finished<MemLink>
+        ensures same { result.link ≡ self }
+        ensures told { told_of_state result.link result.refused
+            ≡ record (link_told (λ l. Some l.source.left) (λ l. Some l.sink.taken) (λ l. l.source.log.faults) (λ l. l.sink.log.faults) self) { refused = refused } }
     {
-        self
+        Finished {
+            link: self,
+            refused,
+        }
     }
 }

@@ -6,15 +6,16 @@ ghost use Rattle.pq_io.specs.Shelf.{File, bytes_under};
 ghost use Rattle.pq_io.specs.declared.shelf.TakeFault.TheVariants as faults;
 
 use crate::{Failed, MAX_FILE_BYTES};
+use out_of_memory::OutOfMemory;
 use std::alloc::{AllocError, Global};
 
 /// Why a shelf gave no file.
-#[derive(Clone, Copy, Debug, PartialEq, Eq)]
+#[derive(Debug, Drop, PartialEq, Eq)]
 pub enum TakeFault {
     /// The shelf couldn't give the file, and its count of faults rose.
     Failed,
     /// There was no memory for the bytes.
-    OutOfMemory,
+    OutOfMemory(OutOfMemory),
 }
 
 impl From<Failed> for TakeFault {
@@ -26,10 +27,10 @@ impl From<Failed> for TakeFault {
 }
 
 impl From<AllocError> for TakeFault {
-    ghost from_gives = { λ _ fault. fault ≡ faults.OutOfMemory };
+    ghost from_gives = { λ _ fault. fault ≡ faults.OutOfMemory tt };
 
-    fn from(_: AllocError) -> Self {
-        TakeFault::OutOfMemory
+    fn from(error: AllocError) -> Self {
+        TakeFault::OutOfMemory(error.into())
     }
 }
 

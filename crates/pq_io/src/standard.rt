@@ -10,8 +10,8 @@ use crate::{Failed, Sink, Source};
 use std::io::{Read, Write};
 use std::marker::Model;
 
-/// A source over a reader. What is left is not told as a source tells it; each read gives what the reader tells that it gave. Contracts
-/// see it as the reader and its count of faults.
+/// A source over a reader. It does not tell what is left (`left` is none); `given` says of each read that it gave what the reader
+/// gave, as far as the reader tells it. Contracts see it as the reader and its count of faults.
 #[derive(Drop)]
 pub struct Reading<R> {
     inner: R,
@@ -61,8 +61,8 @@ impl<R: Read> Source for Reading<R> {
     }
 }
 
-/// A sink over a writer. What was taken is not told as a sink tells it; the writer tells that it took what each write says. Contracts see
-/// it as the writer and its count of faults.
+/// A sink over a writer. It does not tell what was taken (`taken` is none); the clause `taken` says of each write what the writer
+/// took, as far as the writer tells it. Contracts see it as the writer and its count of faults.
 #[derive(Drop)]
 pub struct Writing<W> {
     inner: W,

@@ -8,7 +8,8 @@ ghost use Rattle.pq_io.specs.Streams.{GivesNext, TakesFirst};
 use crate::fault_count::FaultCount;
 use crate::standard::{read_piece, write_piece};
 use crate::tcp::accepting::{Accepting, after_error};
-use crate::{Doors, Failed, Link};
+use crate::{Doors, Failed, Finished, Link};
+use out_of_memory::OutOfMemory;
 use std::io::{Read, Write};
 use std::marker::Model;
 use std::net::{Net, OpenListener, OpenStream, TcpListener};
@@ -21,9 +22,9 @@ mod accepting;
 /// How long the doors wait before they ask again, in milliseconds, where the system takes no connection now.
 const MOMENT: u64 = 10;
 
-/// A link over a stream that reads and writes. What is left and what was taken are not told as a link tells them; the stream tells that
-/// it gave and took what each call says. Contracts see it as the stream and its two counts of faults. Its receipt has no bytes, so that
-/// a list of any number of them takes no memory.
+/// A link over a stream that reads and writes. It tells neither what is left nor what was taken; `given` and `taken` say of each
+/// call what the stream gave and took, as far as it tells it. Contracts see it as the stream and its two counts of faults. Its
+/// receipt has no bytes, so that a list of any number of them takes no memory.
 #[derive(Drop)]
 pub struct TcpLink<S> {
     stream: S,
@@ -67,7 +68,7 @@ impl<S> TcpLink<S> {
 }
 
 impl<S: Read + Write + Drop> Link for TcpLink<S> {
-    type Receipt = Snapshot<TcpLink<S>>;
+    type Receipt = Snapshot<Finished<TcpLink<S>>>;
 
     ghost left = { λ _. None };
 
@@ -77,7 +78,13 @@ impl<S: Read + Write + Drop> Link for TcpLink<S> {
 
     ghost write_faults = { λ l. l.writes };
 
-    ghost tells = { λ r. record { left = None; taken = None; read_faults = r.value.reads; write_faults = r.value.writes } };
+    ghost tells = { λ r. record {
+      left = None;
+      taken = None;
+      read_faults = r.value.link.reads;
+      write_faults = r.value.link.writes;
+      refused = r.value.refused;
+    } };
 
     /// Makes one read, which waits for bytes or for the end. Each error is a fault, also that the peer has closed the link
     /// with bytes on the way.
@@ -104,8 +111,12 @@ impl<S: Read + Write + Drop> Link for TcpLink<S> {
     }
 
     /// Closes the stream.
-    fn finish(self) -> Snapshot<TcpLink<S>> {
-        Snapshot::of(&self)
+    fn finish(self, refused: Option<OutOfMemory>) -> Snapshot<Finished<TcpLink<S>>> {
+        let finished = Finished {
+            link: self,
+            refused,
+        };
+        Snapshot::of(&finished)
     }
 }
 
@@ -209,7 +220,7 @@ where
     }
 
     /// Lets go of them.
-    fn take_back(&mut self, _receipts: Vec<Vec<Snapshot<TcpLink<R::Stream>>>>)
+    fn take_back(&mut self, _receipts: Vec<Vec<Snapshot<Finished<TcpLink<R::Stream>>>>>)
         ensures same { self.new ≡ self.old }
     {}
 }

@@ -1,7 +1,7 @@
 -- What one client alone is told decides its replies: they are those of the fold over its lines.
 use Rattle.std.proofs.Common.{◌≡◌, ℕ, suc, ◌+◌, ◌-◌, ◌<◌, ◌≤◌, ◌⊎◌, inl, inr, List, [], ◌∷◌, ◌++◌, length, get_or, take, map, Bool, true, false, Some, None, Result, Ok, Err, refl, sym, ap, ap₂, ◌∙◌, subst, arith, append_assoc, append-nil, length-append}
 use Rattle.std.specs.Prelude.{⊤, slice_get, if◌then◌else◌, ◌||◌}
-use Rattle.std.specs.List.{AllZip, AllByRecursion, list_any}
+use Rattle.std.specs.List.{AllZip, list_any}
 use Rattle.std.proofs.lemmas.Bool.{eq-eqb}
 use Rattle.std.proofs.lemmas.List.{take-append-le}
 use Rattle.std.proofs.Math.Seq.{take-append_seam}
@@ -15,6 +15,7 @@ use Rattle.protocol.specs.Requests.{Request, write, read, earlier, quit, Earlier
 use Rattle.protocol.specs.Replies.{Reply, done, answered, refused, gone, ahead, changed, unread, long, memory, bye}
 use Rattle.protocol.specs.Earlier.{reach_back, asked_position, told_back, earlier_reply}
 use Rattle.protocol.specs.Told.{IsWithinReach, AnswersScanAt, AnswersChangesSince, answer_position, Answers, Place, own_entry, after_entries, reaching, anywhere, place_of, places, InOrder, done_positions, own_positions}
+use Rattle.protocol.specs.Own.{AreOwn}
 use Rattle.protocol.specs.Transcript.{Reading, Step, write_step, step_of, memory_step, line_step, onto_replies, after_step, outcome_from}
 use Rattle.protocol.specs.Session.{AnswersLine, told_pairs, is_bye}
 use Rattle.protocol.proofs.WrittenLines.{is_memory}
@@ -23,10 +24,6 @@ use Rattle.protocol.proofs.EarlierLemmas.{earlier_reply-within, earlier_reply-go
 -- every form of a request is read, whatever the history is
 abbrev pub every_form : Reading
 every_form h line = request_of line
-
--- the entries are those of the client with the number 0
-abbrev pub AreOwn : History → Type 0
-AreOwn = AllByRecursion (λ e. e.client ≡ 0)
 
 -- no reply but the last is `bye`
 abbrev pub ByeLast : List Reply → Type 0

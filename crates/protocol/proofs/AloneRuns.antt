@@ -19,12 +19,13 @@ use Rattle.protocol.specs.Transcript.{Outcome, outcome_of, reply_texts, long_tex
 use Rattle.protocol.specs.Session.{Serves, BeginLines, is_bye, NoBye, NothingLeft, Ending, closed, quit_line, long_line, read_fault, write_fault, spent, no_memory, Link, AllServed, ServedTo, CutsText, Served}
 use Rattle.protocol.specs.Run.{IsTranscript, BeginsText, memory_lines_and_next, BeginsTranscript, QuitsBefore, is_drained, Ran}
 use Rattle.protocol.specs.AloneLaws.{AloneIsTranscript}
+use Rattle.protocol.specs.Own.{AreOwn}
 use Rattle.protocol.proofs.OneLine.{has_feed}
 use Rattle.protocol.proofs.Cuts.{pieces-whole}
 use Rattle.protocol.proofs.ReplyTexts.{reply_front, reply_text-front, has_feed-reply_front}
 use Rattle.protocol.proofs.WrittenLines.{is_memory, whole_lines-reply_texts, memory_lines-reply_texts}
 use Rattle.protocol.proofs.RunSteps.{reply_texts-push, SkipsByReplies, HasRun, HasRun-over, run_text, transcript_of_run, run_begins_transcript}
-use Rattle.protocol.proofs.Alone.{every_form, AreOwn, ByeLast, alone_outcome}
+use Rattle.protocol.proofs.Alone.{every_form, ByeLast, alone_outcome}
 
 -- ---- the run of a client alone
 

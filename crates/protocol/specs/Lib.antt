@@ -6,6 +6,7 @@ pub mod Requests
 pub mod Replies
 pub mod Earlier
 pub mod Told
+pub mod Own
 pub mod Transcript
 pub mod ReplyLaws
 pub mod RunLaws

@@ -40,7 +40,7 @@ placed_patterns j ok = all_from_each (λ p. is_pattern p.1.pattern) (placed_sour
 -- ---- keys of the table
 
 -- the value at a key, where there is one
-value_by : (o : Option Text) → is_some o ≡ true → (value : Text) × (o ≡ Some value)
+pub value_by : (o : Option Text) → is_some o ≡ true → (value : Text) × (o ≡ Some value)
 value_by None h = absurd (false≢true h)
 value_by (Some value) h = (value, refl)
 

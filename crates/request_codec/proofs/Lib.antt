@@ -1,4 +1,6 @@
 pub mod FeedLemmas
+pub mod LineLemmas
 pub mod TokenLemmas
 pub mod FormLemmas
+pub mod JsonLemmas
 pub mod ReachLemmas

@@ -13,19 +13,19 @@ use Rattle.request_codec.specs.declared.request.LineFault.TheVariants.{Key, Valu
 -- the key is none, or found no memory
 abbrev pub fault_of_key : KeyFault → LineFault
 fault_of_key keys.BadKey = Key
-fault_of_key keys.OutOfMemory = OutOfMemory
+fault_of_key (keys.OutOfMemory memory) = OutOfMemory memory
 
 -- the value is none, or found no memory
 abbrev pub fault_of_value : ValueFault → LineFault
 fault_of_value values.BadValue = Value
-fault_of_value values.OutOfMemory = OutOfMemory
+fault_of_value (values.OutOfMemory memory) = OutOfMemory memory
 
 -- the range is none, or found no memory
 abbrev pub fault_of_range : RangeFault → LineFault
 fault_of_range ranges.BadRange = Range
-fault_of_range ranges.OutOfMemory = OutOfMemory
+fault_of_range (ranges.OutOfMemory memory) = OutOfMemory memory
 
 -- the join is none from a byte on, or found no memory
 abbrev pub fault_of_join : ParseFault → LineFault
 fault_of_join (joins.Syntax at) = Syntax at
-fault_of_join joins.OutOfMemory = OutOfMemory
+fault_of_join (joins.OutOfMemory memory) = OutOfMemory memory

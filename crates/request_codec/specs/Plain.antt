@@ -1,5 +1,6 @@
 -- Requests, faults and replies as the data that the definitions speak of.
 use Rattle.std.specs.Prelude.{◌≡◌, Option, Some, None, Result, Err}
+use Rattle.serde_json.specs.Data.{Data}
 use Rattle.semantics.specs.Histories as writes
 use Rattle.semantics.specs.Answers as answers
 use Rattle.protocol.specs.Requests as plain
@@ -32,15 +33,25 @@ plain_fault Key = Some plain.key
 plain_fault Value = Some plain.value
 plain_fault Range = Some plain.range
 plain_fault (Syntax at) = Some (plain.syntax at)
-plain_fault OutOfMemory = None
+plain_fault (OutOfMemory _) = None
 
-abbrev fault_is : Result plain.Request plain.LineFault → Option plain.LineFault → Type 0
+abbrev fault_is : {A : Type 0} → Result A plain.LineFault → Option plain.LineFault → Type 0
 fault_is given None = Unit {0}
 fault_is given (Some fault) = given ≡ Err fault
 
 -- the fault is what the definition gives, unless memory ran out
-abbrev pub IsFaultOf : Result plain.Request plain.LineFault → LineFault → Type 0
+abbrev pub IsFaultOf : {A : Type 0} → Result A plain.LineFault → LineFault → Type 0
 IsFaultOf given fault = fault_is given (plain_fault fault)
+
+-- why a line gave no JSON value: it has none, or memory ran out
+abbrev pub IsNoJson : Option Data → LineFault → Type 0
+IsNoJson found Json = found ≡ None
+IsNoJson found Form = ⊥
+IsNoJson found Key = ⊥
+IsNoJson found Value = ⊥
+IsNoJson found Range = ⊥
+IsNoJson found (Syntax at) = ⊥
+IsNoJson found (OutOfMemory _) = Unit {0}
 
 abbrev unread_or_memory : Option plain.LineFault → replies.Reply
 unread_or_memory None = replies.memory
@@ -58,5 +69,5 @@ plain_reply (Ahead position) = replies.ahead position
 plain_reply (Changes from position changes) = replies.changed from position changes.items
 plain_reply (Unread fault) = unread_or_memory (plain_fault fault)
 plain_reply Long = replies.long
-plain_reply Memory = replies.memory
+plain_reply (Memory _) = replies.memory
 plain_reply Bye = replies.bye

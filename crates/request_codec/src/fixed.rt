@@ -3,9 +3,10 @@ ghost use Rattle.std.specs.Prelude.{◌≡◌, ◌<◌, ◌≤◌, ◌+◌, ◌^
 ghost use Rattle.protocol.specs.Replies.{reply_text, done, memory, long};
 
 use itoa::Buffer;
+use out_of_memory::OutOfMemory;
 
 /// The line of `Memory`.
-pub const MEMORY_LINE: &[u8] = b"[\"error\",\"memory\"]\n";
+const MEMORY_LINE: &[u8] = b"[\"error\",\"memory\"]\n";
 
 /// The line of `Long`.
 pub const LONG_LINE: &[u8] = b"[\"error\",\"long\"]\n";
@@ -50,8 +51,8 @@ pub fn write_ok(position: u64) -> OkLine
     line
 }
 
-/// The line of `Memory`, which takes no memory, in constant time.
-pub fn memory_line() -> &'static [u8]
+/// The line of `Memory`, which takes no memory, in constant time. Whoever writes it shows what was refused.
+pub fn memory_line(_memory: &OutOfMemory) -> &'static [u8]
     ensures { result.now ≡ reply_text memory }
 {
     MEMORY_LINE

@@ -1,7 +1,8 @@
 // Request lines in, reply lines out.
 //
-// The layers above cut bytes into lines with `Lines`, read each with `read`, and write each reply with `write` and other rows
-// with `write_row`; contracts speak of requests and replies by the definitions of `protocol`.
+// The layers above cut bytes into lines with `Lines`, or a text that is there whole with `split_first_line`, read each with
+// `read`, and write each reply with `write` and other rows with `write_row`; contracts speak of requests and replies by the
+// definitions of `protocol`.
 #![tactic(auto)]
 
 pub mod fixed;
@@ -14,10 +15,10 @@ pub mod request;
 pub mod rows;
 pub mod writing;
 
-pub use fixed::{LONG_LINE, MEMORY_LINE, OkLine, long_line, memory_line, write_ok};
+pub use fixed::{LONG_LINE, OkLine, long_line, memory_line, write_ok};
 pub use items::{position_of, text_of};
-pub use lines::{Fed, LINE_END, Lines, find_line_end};
-pub use reading::{read, read_value};
+pub use lines::{Fed, LINE_END, Lines, find_line_end, split_first_line};
+pub use reading::{read, read_json, read_value};
 pub use reply::Reply;
 pub use request::{LineFault, Request};
 pub use rows::{number_value, text_value, write_row};

@@ -1,6 +1,8 @@
 // Lines, cut from pieces of bytes as they come.
-ghost use Rattle.std.specs.Prelude.{◌≡◌, ◌+◌, ◌≤◌, ◌++◌, [], IfOk, length, vec_len, vec_capacity, false, position};
+ghost use Rattle.std.specs.Prelude.{◌≡◌, ◌+◌, ◌<◌, ◌≤◌, ◌∷◌, ◌++◌, [], IfOk, IfSome, MatchOption, length, vec_len, vec_capacity, false, position};
 ghost use Rattle.std.specs.List.{list_any};
+ghost use Rattle.semantics.specs.Patterns.{pieces};
+ghost use Rattle.protocol.specs.JoinsFile.{counted_lines};
 ghost use Rattle.protocol.specs.Lines.{line_limit};
 ghost use Rattle.request_codec.specs.Feeding.{is_feed, before_feed, fed, fed_by, line_fed, ends};
 
@@ -60,6 +62,21 @@ pub fn find_line_end(bytes: &[u8]) -> Option<usize>
     ensures { result ≡ position is_feed bytes.now }
 {
     bytes.iter().position(|byte| *byte == LINE_END)
+}
+
+/// Cuts the first line off a text, and gives it, without the byte 10 that ends it, and what follows; nothing where the text has no
+/// line. The last line counts where it is not empty. One search for the line's end.
+pub fn split_first_line(bytes: &[u8]) -> Option<(&[u8], &[u8])>
+    ensures lines { MatchOption result (counted_lines (pieces 10 bytes.now) ≡ []) (λ found. counted_lines (pieces 10 bytes.now) ≡ found.0.now ∷ counted_lines (pieces 10 found.1.now)) }
+    ensures shorter { IfSome result (λ found. length found.1.now < length bytes.now) }
+{
+    if bytes.is_empty() {
+        return None;
+    }
+    match find_line_end(bytes) {
+        Some(end) => Some((&bytes[..end], &bytes[end + 1..])),
+        None => Some((bytes, &[])),
+    }
 }
 
 /// How many bytes of the piece stand before its first byte 10.

@@ -2,17 +2,17 @@
 ghost use Rattle.std.specs.Prelude.{◌≡◌, IfOk, IfErr, Some, None, Ok};
 ghost use Rattle.serde_json.specs.Data.{item, no_items};
 ghost use Rattle.serde_json.specs.View.{view, items_view};
-ghost use Rattle.protocol.specs.Requests.{json_of, text_of, position_of, put_request, remove_request, get_request, scan_request, earlier_request, scan_at, changes_since, bounds_request, join_or_syntax, request_of_one, request_of_two, request_of_three, request_of_value, request_of_json, request_of};
+ghost use Rattle.protocol.specs.Requests.{json_of, text_of, position_of, put_request, remove_request, get_request, scan_request, earlier_request, scan_at, changes_since, bounds_request, join_or_syntax, request_of_one, request_of_two, request_of_three, request_of_value, request_of};
 ghost use Rattle.protocol.specs.JoinText.{read_join};
 ghost use Rattle.request_codec.specs.Items.{request_of_items, request_of_numbered};
-ghost use Rattle.request_codec.specs.Plain.{plain_request, IsFaultOf};
+ghost use Rattle.request_codec.specs.Plain.{plain_request, IsFaultOf, IsNoJson};
 
 use crate::items::{position_of, text_of};
 use crate::request::{LineFault, Request};
 use join_lang::parse;
 use key_space::{Key, Range, Value};
 use serde_json::Value as Json;
-use std::alloc::Global;
+use std::alloc::{AllocError, Global};
 
 /// The request to put a value at a key. Linear in both texts.
 fn read_put(alloc: Global, key: &str, value: &str) -> Result<Request, LineFault>
@@ -252,10 +252,11 @@ pub fn read_value(alloc: Global, value: &Json) -> Result<Request, LineFault>
     }
 }
 
-/// The JSON value of a line (RFC 8259). Linear in the line.
-fn read_json(alloc: Global, line: &[u8]) -> Result<Json, LineFault>
+/// Gives the JSON value of a line (RFC 8259). `Json` comes only where it has none, and no other fault but `OutOfMemory`, which says
+/// nothing of the line. Linear in the line.
+pub fn read_json(alloc: Global, line: &[u8]) -> Result<Json, LineFault>
     ensures value { IfOk result (λ value. json_of line.now ≡ Some (view value)) }
-    ensures fault { IfErr result (IsFaultOf (request_of_json (json_of line.now))) }
+    ensures fault { IfErr result (IsNoJson (json_of line.now)) }
 {
     let Ok(text) = str::from_utf8(line) else {
         return Err(LineFault::Json);
@@ -263,8 +264,9 @@ fn read_json(alloc: Global, line: &[u8]) -> Result<Json, LineFault>
     match Json::from_str(alloc, text) {
         Ok(value) => Ok(value),
         Err(error) => {
+            // It says that it is one, and carries no refusal.
             if error.is_memory() {
-                Err(LineFault::OutOfMemory)
+                Err(LineFault::OutOfMemory(AllocError.into()))
             } else {
                 Err(LineFault::Json)
             }

@@ -3,6 +3,7 @@ use crate::request::LineFault;
 use change_lists::Change;
 use join_types::{Cause, Pair};
 use key_space::Value;
+use out_of_memory::OutOfMemory;
 
 /// What a line is answered. Each number is a position of the history.
 #[derive(Debug, Drop)]
@@ -28,7 +29,7 @@ pub enum Reply {
     /// The line is too long.
     Long,
     /// No memory was found for the answer.
-    Memory,
+    Memory(OutOfMemory),
     /// The session ends.
     Bye,
 }

@@ -4,6 +4,7 @@ ghost use Rattle.std.specs.Prelude.{◌≡◌};
 use join_lang::ParseFault;
 use join_types::Join;
 use key_space::{Key, KeyFault, Range, RangeFault, Value, ValueFault};
+use out_of_memory::OutOfMemory;
 
 /// What a line asks for.
 #[derive(Debug, Drop)]
@@ -29,7 +30,7 @@ pub enum Request {
 }
 
 /// Why a line was not read as a request.
-#[derive(Clone, Copy, Debug, PartialEq, Eq)]
+#[derive(Debug, Drop, PartialEq, Eq)]
 pub enum LineFault {
     /// The line is no JSON value.
     Json,
@@ -44,7 +45,7 @@ pub enum LineFault {
     /// The join's text stops being one at this byte.
     Syntax(usize),
     /// No memory was found for the request. This says nothing of the line.
-    OutOfMemory,
+    OutOfMemory(OutOfMemory),
 }
 
 impl From<KeyFault> for LineFault {
@@ -55,7 +56,7 @@ impl From<KeyFault> for LineFault {
     fn from(fault: KeyFault) -> Self {
         match fault {
             KeyFault::BadKey => LineFault::Key,
-            KeyFault::OutOfMemory => LineFault::OutOfMemory,
+            KeyFault::OutOfMemory(memory) => LineFault::OutOfMemory(memory),
         }
     }
 }
@@ -68,7 +69,7 @@ impl From<ValueFault> for LineFault {
     fn from(fault: ValueFault) -> Self {
         match fault {
             ValueFault::BadValue => LineFault::Value,
-            ValueFault::OutOfMemory => LineFault::OutOfMemory,
+            ValueFault::OutOfMemory(memory) => LineFault::OutOfMemory(memory),
         }
     }
 }
@@ -81,7 +82,7 @@ impl From<RangeFault> for LineFault {
     fn from(fault: RangeFault) -> Self {
         match fault {
             RangeFault::BadRange => LineFault::Range,
-            RangeFault::OutOfMemory => LineFault::OutOfMemory,
+            RangeFault::OutOfMemory(memory) => LineFault::OutOfMemory(memory),
         }
     }
 }
@@ -94,7 +95,7 @@ impl From<ParseFault> for LineFault {
     fn from(fault: ParseFault) -> Self {
         match fault {
             ParseFault::Syntax { at } => LineFault::Syntax(at),
-            ParseFault::OutOfMemory => LineFault::OutOfMemory,
+            ParseFault::OutOfMemory(memory) => LineFault::OutOfMemory(memory),
         }
     }
 }

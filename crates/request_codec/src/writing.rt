@@ -194,9 +194,9 @@ fn write_cause(writer: &mut Writer, position: u64, cause: &Cause) -> Result<(), 
 }
 
 /// Writes the items of the answer to a line that is no request. It takes constant time.
-fn write_fault(writer: &mut Writer, fault: LineFault) -> Result<(), AllocError>
-    requires { fault ≢ LineFault.OutOfMemory }
-    ensures { OnOk result (Appends writer.old writer.new (reply_items (plain_reply (Reply.Unread fault)))) }
+fn write_fault(writer: &mut Writer, fault: &LineFault) -> Result<(), AllocError>
+    requires { fault.now ≢ LineFault.OutOfMemory tt }
+    ensures { OnOk result (Appends writer.old writer.new (reply_items (plain_reply (Reply.Unread fault.now)))) }
 {
     match fault {
         LineFault::Json => write_error(writer, "json"),
@@ -204,14 +204,14 @@ fn write_fault(writer: &mut Writer, fault: LineFault) -> Result<(), AllocError>
         LineFault::Key => write_error(writer, "key"),
         LineFault::Value => write_error(writer, "value"),
         LineFault::Range => write_error(writer, "range"),
-        LineFault::Syntax(at) => write_refusal(writer, "syntax", at as u64),
-        LineFault::OutOfMemory => unreachable!(),
+        LineFault::Syntax(at) => write_refusal(writer, "syntax", *at as u64),
+        LineFault::OutOfMemory(_) => unreachable!(),
     }
 }
 
 /// Writes the items of the array that a reply is. Linear in them.
 fn write_items(writer: &mut Writer, reply: &Reply) -> Result<(), AllocError>
-    requires { reply.now ≢ Reply.Unread LineFault.OutOfMemory }
+    requires { reply.now ≢ Reply.Unread (LineFault.OutOfMemory tt) }
     ensures { OnOk result (Appends writer.old writer.new (reply_items (plain_reply reply.now))) }
 {
     match reply {
@@ -231,16 +231,16 @@ fn write_items(writer: &mut Writer, reply: &Reply) -> Result<(), AllocError>
         Reply::Changes(from, position, changes) => {
             write_changed(writer, *from, *position, changes.as_slice())
         }
-        Reply::Unread(fault) => write_fault(writer, *fault),
+        Reply::Unread(fault) => write_fault(writer, fault),
         Reply::Long => write_error(writer, "long"),
-        Reply::Memory => write_error(writer, "memory"),
+        Reply::Memory(_) => write_error(writer, "memory"),
         Reply::Bye => writer.string("bye"),
     }
 }
 
 /// Writes the array that a reply is. Linear in its text.
 fn write_reply(writer: &mut Writer, reply: &Reply) -> Result<(), AllocError>
-    requires { reply.now ≢ Reply.Unread LineFault.OutOfMemory }
+    requires { reply.now ≢ Reply.Unread (LineFault.OutOfMemory tt) }
     ensures { OnOk result (Appends writer.old writer.new (list_of (reply_items (plain_reply reply.now)) ∷ [])) }
 {
     writer.begin_array()?;
@@ -254,7 +254,7 @@ fn write_reply(writer: &mut Writer, reply: &Reply) -> Result<(), AllocError>
 /// `Unread` of `OutOfMemory` has no line of its own: what is answered for such a line is `Memory`. `OutOfMemory` comes
 /// only where none is found for the line.
 pub fn write(alloc: Global, reply: &Reply) -> Result<Vec<u8>, OutOfMemory>
-    requires { reply.now ≢ Reply.Unread LineFault.OutOfMemory }
+    requires { reply.now ≢ Reply.Unread (LineFault.OutOfMemory tt) }
     ensures { IfOk result (λ line. line.items ≡ reply_text (plain_reply reply.now)) }
 {
     let mut writer = Writer::new(Vec::with_capacity(alloc, reply_room(reply))?);

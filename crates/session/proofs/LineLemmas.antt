@@ -182,7 +182,7 @@ ends_then WriteFault before between after client bytes written line more written
       cuts_text_then written written' so_far.replies replies long so_far.texts cuts,
     )
 ends_then Spent before between after client bytes written line more written' left so_far ends = ends
-ends_then OutOfMemory before between after client bytes written line more written' left so_far ends = ends
+ends_then (OutOfMemory _) before between after client bytes written line more written' left so_far ends = ends
 
 -- ---- how serving ends at one line
 
@@ -316,4 +316,4 @@ ends_served Long link ends = ends
 ends_served ReadFault link ends = absurd ends
 ends_served WriteFault link ends = ends
 ends_served Spent link ends = absurd ends
-ends_served OutOfMemory link ends = absurd ends
+ends_served (OutOfMemory _) link ends = absurd ends

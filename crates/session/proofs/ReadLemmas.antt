@@ -86,5 +86,5 @@ given_spent count before now client left left1 taken taken1 line short all (byte
     (bytes, so_far.0, gave, so_far.1, ends_spent before now client bytes so_far.0 line left1 short so_far.2 (omega (arith, all, many)))
 
 -- no memory was found at first
-pub given_nothing : (view : History) (client : ℕ) (left taken : Option Text) → LinkServed OutOfMemory view view client left left taken taken
+pub given_nothing : (view : History) (client : ℕ) (left taken : Option Text) → LinkServed (OutOfMemory tt) view view client left left taken taken
 given_nothing view client left taken = ([], [], Gave-nothing left, Took-nothing taken, (refl, refl, refl))

@@ -1,5 +1,5 @@
 -- What is sent for a reply.
-use Rattle.std.proofs.Common.{◌≡◌, ℕ, ◌-◌, ◌^◌, ◌<◌, [], ◌∷◌, length, map, take, Bool, true, false, refl, subst, arith, inl, inr}
+use Rattle.std.proofs.Common.{◌≡◌, ◌≢◌, ℕ, ◌-◌, ◌^◌, ◌<◌, [], ◌∷◌, length, map, take, Bool, true, false, refl, subst, arith, inl, inr}
 use Rattle.std.specs.Prelude.{Option, Some, None, Result, Ok, Err, OnOk, slice_get, nat_le, if◌then◌else◌}
 use Rattle.std.specs.Result.{IfErr}
 use Rattle.std.proofs.lemmas.Bool.{leb-false}
@@ -32,7 +32,7 @@ sends_part A Long old new text reply same (e, part) = absurd (cc)
 sends_part A ReadFault old new text reply same (e, part) = absurd (cc)
 sends_part A WriteFault old new text reply same (e, part) = subst (TookProperPrefix old new) same part
 sends_part A Spent old new text reply same (e, part) = absurd (cc)
-sends_part A OutOfMemory old new text reply same (e, part) = absurd (cc)
+sends_part A (OutOfMemory _) old new text reply same (e, part) = absurd (cc)
 
 -- the text of a reply other than `bye`, which was written or in part
 pub sends_text : (A : Type 0) (result : Result A End) (old new : Option Text) (text : Text) (reply : Reply) → text ≡ reply_text reply → is_bye reply ≡ false →
@@ -78,8 +78,12 @@ is_bye-plain long plain = refl
 is_bye-plain memory plain = refl
 is_bye-plain bye plain = absurd plain
 
+-- a line that another fault refuses has a text of its own
+pub has_text : (reply : codec.Reply) (fault : codec_request.LineFault) → reply ≡ replies.Unread fault → ((m : Unit {0}) → fault ≡ faults.OutOfMemory m → ⊥) → reply ≢ replies.Unread (faults.OutOfMemory tt)
+has_text reply fault is other = λ e. let same : fault ≡ faults.OutOfMemory tt = cc in other tt same
+
 -- a line for which memory ran out is sent `memory`
-pub memory_unread : (reply : codec.Reply) (fault : codec_request.LineFault) → reply ≡ replies.Unread fault → fault ≡ faults.OutOfMemory → IsSentAs (plain_reply reply) memory
+pub memory_unread : (reply : codec.Reply) (fault : codec_request.LineFault) → reply ≡ replies.Unread fault → fault ≡ faults.OutOfMemory tt → IsSentAs (plain_reply reply) memory
 memory_unread reply fault e f = rw (e, f) refl
 
 -- ---- a line with its reply, as it is sent

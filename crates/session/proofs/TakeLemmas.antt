@@ -83,7 +83,7 @@ ends_at_line A ReadFault before after client bytes line old new left ended sent 
 ends_at_line A WriteFault before after client bytes line old new left ended sent first at_end served (n, part, took) =
     (take n (reply_text sent), took, ends_by_write_fault before after client bytes line left ended sent n first at_end served part)
 ends_at_line A Spent before after client bytes line old new left ended sent first at_end served sends = absurd sends
-ends_at_line A OutOfMemory before after client bytes line old new left ended sent first at_end served sends = absurd sends
+ends_at_line A (OutOfMemory _) before after client bytes line old new left ended sent first at_end served sends = absurd sends
 
 -- at a line that is too long, which was not written whole
 pub ends_at_long_part : (end : End) (view : History) (client : ℕ) (bytes text : Text) (old new left : Option Text) → text ≡ reply_text long → lines_of bytes false ≡ long_mark →
@@ -96,7 +96,7 @@ ends_at_long_part WriteFault view client bytes text old new left same is_long (e
     let of_long = subst (TookProperPrefix old new) same part in
     (take of_long.0 (reply_text long), of_long.2, ends_by_long_fault view client bytes left of_long.0 is_long of_long.1)
 ends_at_long_part Spent view client bytes text old new left same is_long (e, part) = absurd (cc)
-ends_at_long_part OutOfMemory view client bytes text old new left same is_long (e, part) = absurd (cc)
+ends_at_long_part (OutOfMemory _) view client bytes text old new left same is_long (e, part) = absurd (cc)
 
 -- at a line that is too long, which was written
 pub ends_at_long : (view : History) (client : ℕ) (bytes text : Text) (old new left : Option Text) → text ≡ reply_text long → lines_of bytes false ≡ long_mark →

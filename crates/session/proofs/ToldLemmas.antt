@@ -1,5 +1,5 @@
 -- What is told of no request, of one and of several in two parts; and a reply for which no memory was found.
-use Rattle.std.proofs.Common.{◌≡◌, ℕ, ◌+◌, List, [], ◌∷◌, ◌++◌, length, map, drop, refl, sym, ap, ◌∙◌, subst, arith, append-nil, append_assoc, inl, inr}
+use Rattle.std.proofs.Common.{◌≡◌, ℕ, ◌+◌, List, [], ◌∷◌, ◌++◌, length, map, drop, refl, sym, ap, ◌∙◌, subst, arith, append_assoc, inl, inr}
 use Rattle.std.proofs.lemmas.Bool.{or_from}
 use Rattle.std.proofs.lemmas.List.{map-append}
 use Rattle.std.proofs.lemmas.List.Folds.{list_any-append}
@@ -11,22 +11,10 @@ use Rattle.protocol.specs.Replies.{Reply, done, answered, refused, gone, ahead, 
 use Rattle.protocol.specs.Told.{Told, own_positions}
 use Rattle.protocol.specs.Session.{told_pairs, Serves, NoBye, is_bye}
 use Rattle.protocol.proofs.Telling.{told-append, AllZip-append}
+use Rattle.protocol.proofs.TellingSteps.{told_nothing}
 use Rattle.session.specs.Serving.{IsSentAs}
 
 -- ---- parts
-
-drop-all : {A : Type 0} (xs : List A) → drop (length xs) xs ≡ []
-drop-all [] = refl
-drop-all (x ∷ xs) = drop-all xs
-
--- nothing is told where the view stays
-pub told_nothing : (view : History) (client : ℕ) → Told view view client [] []
-told_nothing view client = record {
-  grows = ([], sym (append-nil view));
-  answers = tt;
-  ordered = tt;
-  own = ap (own_positions client (length view + 1)) (drop-all view);
-}
 
 -- what is told of lines in two parts, where each line of the first has a reply
 pub told_pairs-append : (lines more : List Text) (replies others : List Reply) → length replies ≡ length lines →

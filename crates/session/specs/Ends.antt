@@ -11,4 +11,4 @@ plain_end Long = long_line
 plain_end ReadFault = read_fault
 plain_end WriteFault = write_fault
 plain_end Spent = spent
-plain_end OutOfMemory = no_memory
+plain_end (OutOfMemory _) = no_memory

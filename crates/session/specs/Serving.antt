@@ -38,7 +38,7 @@ EndsAmongLines Long link = Served long_line link
 EndsAmongLines ReadFault link = ⊥
 EndsAmongLines WriteFault link = Served write_fault link
 EndsAmongLines Spent link = ⊥
-EndsAmongLines OutOfMemory link = ⊥
+EndsAmongLines (OutOfMemory _) link = ⊥
 
 -- a reply is sent as itself, or as `memory` where it is not `done`
 abbrev pub IsSentAs : Reply → Reply → Type 0
@@ -88,4 +88,4 @@ Sends (Err Long) old new reply = ⊥
 Sends (Err ReadFault) old new reply = ⊥
 Sends (Err WriteFault) old new reply = TookProperPrefix old new (reply_text reply)
 Sends (Err Spent) old new reply = ⊥
-Sends (Err OutOfMemory) old new reply = ⊥
+Sends (Err (OutOfMemory _)) old new reply = ⊥

@@ -1,7 +1,8 @@
 // How serving a link ends.
+use out_of_memory::OutOfMemory;
 
 /// How serving a link ends.
-#[derive(Clone, Copy, Debug, PartialEq, Eq)]
+#[derive(Debug, Drop, PartialEq, Eq)]
 pub enum End {
     /// The link gave no more bytes, and every line was answered.
     Closed,
@@ -16,5 +17,5 @@ pub enum End {
     /// The link gave bytes 2^40 times, and no other end came.
     Spent,
     /// No memory was found at the start. Nothing was read or written, and the service is unchanged.
-    OutOfMemory,
+    OutOfMemory(OutOfMemory),
 }

@@ -31,7 +31,7 @@ fn answer_line<S: Service>(alloc: Global, service: &mut S, line: &[u8]) -> Reply
     match read(alloc, line) {
         Ok(Request::Quit) => Reply::Bye,
         Ok(request) => service.answer(request),
-        Err(LineFault::OutOfMemory) => Reply::Memory,
+        Err(LineFault::OutOfMemory(memory)) => Reply::Memory(memory),
         Err(fault) => Reply::Unread(fault),
     }
 }
@@ -61,7 +61,7 @@ fn send_text<S: Service, L: Link>(
     link: &mut L,
     reply: &Reply,
 ) -> Result<(), End>
-    requires has_text { reply.now ≢ Reply.Unread LineFault.OutOfMemory }
+    requires has_text { reply.now ≢ Reply.Unread (LineFault.OutOfMemory tt) }
     requires plain { IsPlain (plain_reply reply.now) }
     ensures sent { (sent : PlainReply) × IsSentAs (plain_reply reply.now) sent × Sends result (L.taken link.old) (L.taken link.new) sent }
     ensures cause { HasCause (L.write_faults link.old) (L.write_faults link.new) result }
@@ -71,9 +71,9 @@ fn send_text<S: Service, L: Link>(
 {
     match write(alloc, reply) {
         Ok(text) => send(link, text.as_slice()),
-        Err(_) => {
+        Err(memory) => {
             service.make_room();
-            send(link, memory_line())
+            send(link, memory_line(&memory))
         }
     }
 }
@@ -105,12 +105,12 @@ fn send_reply<S: Service, L: Link>(
             Ok(()) => Err(End::Quit),
             Err(end) => Err(end),
         },
-        Reply::Memory => {
+        Reply::Memory(memory) => {
             service.make_room();
-            send(link, memory_line())
+            send(link, memory_line(memory))
         }
         Reply::Unread(fault) => match fault {
-            LineFault::OutOfMemory => send(link, memory_line()),
+            LineFault::OutOfMemory(memory) => send(link, memory_line(memory)),
             _ => send_text(alloc, service, link, reply),
         },
         reply => send_text(alloc, service, link, reply),

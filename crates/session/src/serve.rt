@@ -148,12 +148,12 @@ pub fn serve_link<S: Service, L: Link>(alloc: Global, service: &mut S, link: &mu
     ensures write_fault { result ≡ End.WriteFault → Rose (L.write_faults link.old) (L.write_faults link.new) }
 
     // Where no memory was found at the start, the arguments are unchanged.
-    ensures same_service { result ≡ End.OutOfMemory → service.new ≡ service.old }
-    ensures same_link { result ≡ End.OutOfMemory → link.new ≡ link.old }
+    ensures same_service { result ≡ End.OutOfMemory tt → service.new ≡ service.old }
+    ensures same_link { result ≡ End.OutOfMemory tt → link.new ≡ link.old }
 {
     let mut lines = match Lines::new(alloc) {
         Ok(lines) => lines,
-        Err(_) => return End::OutOfMemory,
+        Err(memory) => return End::OutOfMemory(memory),
     };
     let mut piece = [0; PIECE_BYTES];
     for _ in 0..MAX_READS {

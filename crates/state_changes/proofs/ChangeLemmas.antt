@@ -93,6 +93,16 @@ both_has range before after key up inside other =
 both_ascend : (range : Range) (before after : Table) → IsAscending before → IsStrictlySortedBy text_cmp (keys_of_both range before after)
 both_ascend range before after up = sorted_keys (pairs_within range (merged before after)) (ascending-pairs_within range (merged before after) (ascending-merged before after up))
 
+-- ---- one key
+
+-- a key at which both have the same value, or none
+pub no_change : (key : Text) (before after : Table) → same_value (value_at key before) (value_at key after) ≡ true → changes_among (key ∷ []) before after ≡ []
+no_change key before after e = ap (λ b. map (change_to after) (cond (not b) (key ∷ []) [])) e
+
+-- a key at which they have not
+pub one_change : (key : Text) (before after : Table) → same_value (value_at key before) (value_at key after) ≡ false → changes_among (key ∷ []) before after ≡ change_to after key ∷ []
+one_change key before after e = ap (λ b. map (change_to after) (cond (not b) (key ∷ []) [])) e
+
 -- ---- one table
 
 -- at each key a table has what it has

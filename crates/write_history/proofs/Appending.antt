@@ -49,7 +49,7 @@ log_after (Ok count) h log e m m' has entered declined =
       },
     )
 log_after (Err (Refused position cause)) h log e m m' has entered declined = (h, log, subst (HasLog h log) (sym (declined h log has).2) (record { held = has.held; carried = has.carried; is_log = has.is_log }))
-log_after (Err OutOfMemory) h log e m m' has entered declined = (h, log, subst (HasLog h log) (sym (declined h log has)) has)
+log_after (Err (OutOfMemory _)) h log e m m' has entered declined = (h, log, subst (HasLog h log) (sym (declined h log has)) has)
 
 -- what has come of a write
 pub record Ended (number : ℕ) (t t' : TableId) (m m' : Sat) (e : Entry) (r : Result ℕ AppendFault) : Type 0 where
@@ -116,11 +116,11 @@ module _ (number : ℕ) (t t' : TableId) (same : t' ≡ t) (m : Sat) (e : Entry)
         once = tt;
         fault = (now.0, now.1, mine);
       })
-  ends (Err OutOfMemory) m1 m2 m3 turn by below entered declined freed =
+  ends (Err (OutOfMemory memory)) m1 m2 m3 turn by below entered declined freed =
       let now = declined turn.history turn.log (taken_log m m1 turn rest.empty) in
       let is : m3 ≡ back turn.floor 0 m.0.seen =
       freed ∙ ap (λ (x : Sat). (record x.0 { held = None }, [])) now ∙ ap (λ (x : Sat). (record x.0 { held = None }, [])) turn.is in
-      subst (λ (x : Sat). Ended number t t' m x e (Err OutOfMemory)) (sym is) (record {
+      subst (λ (x : Sat). Ended number t t' m x e (Err (OutOfMemory memory))) (sym is) (record {
         resting = rests turn.floor 0 m.0.seen rest.recorded;
         goes_on = goes turn.floor 0 m.0.seen (prefix_refl m.0.seen) rest.recorded;
         position = tt;

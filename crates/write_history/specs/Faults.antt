@@ -10,4 +10,4 @@ use Rattle.write_history.specs.declared.fault.AppendFault.TheVariants.{Refused, 
 -- a refusal carries the length of the view and the verdict of the write after it; where no memory was found, the pass is as it was
 abbrev pub SaysWhy : PassView → PassView → Write → AppendFault → Type 0
 SaysWhy old new write (Refused position cause) = (position ≡ length new.view) × (verdict write new.view ≡ Some (plain_cause cause)) × (own new ≡ own old)
-SaysWhy old new write OutOfMemory = new ≡ old
+SaysWhy old new write (OutOfMemory _) = new ≡ old

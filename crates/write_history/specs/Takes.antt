@@ -20,7 +20,7 @@ pub record Takes (h : History) (floor : ℕ) (e : Entry) (count : ℕ) (log : St
 -- a refusal carries the number of entries and the verdict after them
 abbrev pub SaysVerdict : History → Write → AppendFault → Type 0
 SaysVerdict h write (Refused position cause) = (position ≡ length h) × (verdict write h ≡ Some (plain_cause cause))
-SaysVerdict h write OutOfMemory = Unit {0}
+SaysVerdict h write (OutOfMemory _) = Unit {0}
 
 -- the log that the seat has has taken the entry, and what the seat knows is as it was
 pub record Carries (h : History) (e : Entry) (count : ℕ) (m m' : Sat) : Type 0 where
@@ -37,7 +37,7 @@ pub record Enters (h : History) (e : Entry) (count : ℕ) (m m' : Sat) : Type 0 
 -- the entry has not entered: with a verdict the seat has seen the whole history, and without memory nothing has changed
 abbrev pub Declines : History → Write → Sat → Sat → AppendFault → Type 0
 Declines h write m m' (Refused position cause) = (position ≡ length h) × (verdict write h ≡ Some (plain_cause cause)) × (m' ≡ (record m.0 { seen = h; passed = 0; low = before position }, m.1))
-Declines h write m m' OutOfMemory = m' ≡ m
+Declines h write m m' (OutOfMemory _) = m' ≡ m
 
 -- the log has dropped its first entries up to a floor, and what the seat knows is as it was
 pub record Drops (h : History) (floor : ℕ) (m m' : Sat) : Type 0 where

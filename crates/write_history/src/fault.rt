@@ -11,13 +11,13 @@ pub enum AppendFault {
     /// The verdict of the write after so many entries.
     Refused(u64, Cause),
     /// No memory was found.
-    OutOfMemory,
+    OutOfMemory(OutOfMemory),
 }
 
 impl From<OutOfMemory> for AppendFault {
-    ghost from_gives = { λ _ fault. fault ≡ NoMemory };
+    ghost from_gives = { λ memory fault. fault ≡ NoMemory memory };
 
-    fn from(_fault: OutOfMemory) -> Self {
-        AppendFault::OutOfMemory
+    fn from(memory: OutOfMemory) -> Self {
+        AppendFault::OutOfMemory(memory)
     }
 }

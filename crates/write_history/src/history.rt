@@ -30,7 +30,7 @@ use base_versions::Placed;
 use join_set::JoinSet;
 use join_types::{Entry, Write};
 use out_of_memory::OutOfMemory;
-use std::alloc::Global;
+use std::alloc::{AllocError, Global};
 use std::marker::Model;
 use std::sync::Wait;
 
@@ -99,7 +99,19 @@ fn make_board(
     logs.push(Log::new(alloc)?)?;
     match Board::new(alloc, &words, logs, &kinds) {
         Ok(made) => Ok(made),
-        Err(_) => Err(OutOfMemory),
+        // What the table answers where it finds no memory carries no refusal.
+        Err(_) => Err(OutOfMemory::from(AllocError)),
+    }
+}
+
+/// How many passes two numbers of them are together. `OutOfMemory`: they would be more than 2^32 - 1.
+fn together(some: u32, more: u32) -> Result<u32, OutOfMemory>
+    ensures { IfOk result (λ count. count ≡ some + more) }
+{
+    match some.checked_add(more) {
+        Some(count) => Ok(count),
+        // Nothing refuses them: passes have numbers of 32 bits.
+        None => Err(OutOfMemory::from(AllocError)),
     }
 }
 
@@ -149,9 +161,7 @@ impl History {
         ensures count { IfOk result (λ made. length made.1.items ≡ writers + readers) }
         ensures each { IfOk result (λ made. (number : ℕ) → number < writers + readers → slice_get made.1.items number ≡ Some (new_pass made.0 number)) }
     {
-        let Some(count) = writers.checked_add(readers) else {
-            return Err(OutOfMemory);
-        };
+        let count = together(writers, readers)?;
         let kinds = Kinds {
             writers,
             pinned: 0,
@@ -184,15 +194,9 @@ impl History {
         ensures count { IfOk result (λ made. length made.1.items ≡ writers + pinned + shards + readers) }
         ensures each { IfOk result (λ made. (number : ℕ) → number < writers + pinned + shards + readers → slice_get made.1.items number ≡ Some (new_pass made.0 number)) }
     {
-        let Some(pin_words) = writers.checked_add(pinned) else {
-            return Err(OutOfMemory);
-        };
-        let Some(pass_words) = pin_words.checked_add(shards) else {
-            return Err(OutOfMemory);
-        };
-        let Some(count) = pass_words.checked_add(readers) else {
-            return Err(OutOfMemory);
-        };
+        let pin_words = together(writers, pinned)?;
+        let pass_words = together(pin_words, shards)?;
+        let count = together(pass_words, readers)?;
         let kinds = Kinds {
             writers,
             pinned,
@@ -297,7 +301,7 @@ impl History {
 
     /// Equal entries of the view, from the one after `from` up to the one at `to`, positions counted from 1. The pass is
     /// unchanged. It asks for none that may be dropped: `from` is not below the position that the pass has noted, or the pass is
-    /// pinned and `from` is not below that position less 65,536. Linear in the entries, under the turn; their texts are shared.
+    /// pinned and `from` is not below that position less 65,536. Linear in the entries, under the turn; their long texts are shared.
     pub fn entries<R: Wait>(
         &self,
         rt: &R,
@@ -321,8 +325,8 @@ impl History {
     }
 
     /// Equal entries of the view, from the one after `from` up to the one at `to`, that put or remove a key of a table of the part
-    /// with a number, of 16; each with its position. The pass is unchanged, and `from` is bounded as that of `entries` is. Under the
-    /// turn it costs two searches by halves, and is linear in the part's entries; their texts are shared.
+    /// with a number, of 16; each with its position. The pass is unchanged, and `from` is bounded as that of `entries` is. Under
+    /// the turn it costs two searches by halves, and is linear in the part's entries; their long texts are shared.
     pub fn entries_of<R: Wait>(
         &self,
         rt: &R,
@@ -378,8 +382,8 @@ impl History {
     }
 
     /// Gives the first position that the pinned pass may ask for: the one at which it is pinned less 65,536, and 0 where that is
-    /// below 0. The pass is unchanged. Constant time: it loads a word that no other pass stores. Nothing is allocated, and no turn is
-    /// taken.
+    /// below 0. The pass is unchanged. Constant time: it loads a word that no other pass stores. Nothing is allocated, and no turn
+    /// is taken.
     pub fn reach(&self, pass: &mut Pass) -> u64
         requires same_history { pass.old.history ≡ self.now }
         requires pinned { (position : ℕ) × (pass.old.mark ≡ Pinned position) }

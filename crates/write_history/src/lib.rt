@@ -4,12 +4,11 @@
 // passes it has of each kind, and a pass as its number, the number of passes that may write, the entries that it has seen, what its
 // word says, and a number of first entries that it knows to be dropped. All views of one history are beginnings of one list.
 //
-// The history is a table of words and one slot. The words are the turn, the number of entries, the number of first entries that
-// the log no longer stores, and for each pass that is pinned or notes positions one that says where; each lies on a cache line of
-// its own. The slot holds the log, and whoever has the turn has the log too. For each of 16 parts of the tables the log keeps, beside
-// the entries, the positions of those that put or remove a key of the part. What
-// is true of the words, the slot and the passes at any moment is the rule of `specs/Rule.antt`, and what each step tells
-// is in `specs/Steps.antt`.
+// The history is a table of words and one slot. The words are the turn, the number of entries, the number of first entries that the
+// log no longer stores, and for each pass that is pinned or notes positions one that says where; each lies on a cache line of its
+// own. The slot holds the log, and whoever has the turn has the log too. For each of 16 parts of the tables the log keeps, beside
+// the entries, the positions of those that put or remove a key of the part. What is true of the words, the slot and the passes at
+// any moment is the rule of `specs/Rule.antt`, and what each step tells is in `specs/Steps.antt`.
 #![tactic(auto)]
 
 mod entry_list;

@@ -2,8 +2,6 @@
 ghost use Rattle.std.specs.Prelude.{◌≡◌, ℕ, ◌+◌, ◌-◌, ◌≤◌, [], ◌∷◌, ◌++◌, length, take, drop, IfOk, IfErr, OnErr, Some, None};
 ghost use Rattle.semantics.specs.Histories.{History};
 ghost use Rattle.semantics.specs.Verdicts.{verdict};
-ghost use Rattle.join_types.specs.Writes.{plain_write};
-ghost use Rattle.growing_history.specs.Entered.{IsWrite};
 ghost use Rattle.join_set.specs.Sets.{AreJoins};
 ghost use Rattle.write_history.specs.Looks.{TellsJoins};
 ghost use Rattle.base_versions.specs.Own.{own_from};
@@ -14,8 +12,8 @@ use crate::entry_list::EntryList;
 use crate::fault::AppendFault;
 use crate::part_numbers::PartNumbers;
 use base_versions::Placed;
-use join_set::{JoinSet, Standing};
-use join_types::{Entry, Write};
+use join_set::{JoinSet, Standing, look_at_write};
+use join_types::Entry;
 use out_of_memory::OutOfMemory;
 use std::alloc::Global;
 use std::marker::Model;
@@ -39,24 +37,6 @@ impl Model for Log {
     ghost view = { λ l. record { lacks = l.entries.lacks; entries = l.entries.entries; summary = l.standing } };
 
     ghost invariant = { λ l. (l.standing.length ≡ l.entries.lacks + length l.entries.entries) × AreNumbered l.entries.lacks l.entries.entries l.numbers × (l.standing.floor ≡ l.entries.lacks) };
-}
-
-/// Looks at the key or the join of a write, and so knows that it is one.
-fn look_at(write: &Write)
-    ensures { IsWrite (plain_write write.now) }
-{
-    match write {
-        Write::Put(key, _) => {
-            let _key = key.text();
-        }
-        Write::Remove(key) => {
-            let _key = key.text();
-        }
-        Write::Declare(join) => {
-            let _names = &join.names;
-        }
-        Write::Drop(_) => {}
-    }
 }
 
 impl Log {
@@ -86,7 +66,7 @@ impl Log {
         self.entries.reserve()?;
         self.numbers.reserve(&entry.write)?;
         self.standing.enter(&entry.write)?;
-        look_at(&entry.write);
+        look_at_write(&entry.write);
         let count = self.standing.length();
         self.numbers.push(&entry.write, count);
         self.entries.push(entry);

@@ -165,7 +165,7 @@ pub(crate) fn enter(
             look(board, place);
             Err(AppendFault::Refused(position, cause))
         }
-        Err(AppendFault::OutOfMemory) => Err(AppendFault::OutOfMemory),
+        Err(AppendFault::OutOfMemory(memory)) => Err(AppendFault::OutOfMemory(memory)),
     }
 }
 

@@ -3,7 +3,7 @@ use Rattle.semantics.specs.Joins.{reads_output}
 use Rattle.semantics.specs.Histories.{DeclaredJoin}
 use Rattle.join_set.proofs.ReadingLemmas.{edges_step, edges_last}
 use Rattle.join_set.proofs.reading.add_edges.Goals as goal
-use Rattle.join_set.proofs.reading.add_edges.Goals.{then-reads_output+in_ok-push, else-reads_output}
+use Rattle.join_set.proofs.reading.add_edges.Goals.{then-reads_output+in_ok-push, else-reads_output, then-reads_output-2+in_ok-push-2, else-reads_output-2}
 
 pub loop-other-preserved : goal.loop-other-preserved
 loop-other-preserved c =
@@ -18,14 +18,15 @@ loop-other-preserved c =
           cc (none, step))
     ]
 
-pub returns-in_ok-push-2 : goal.returns-in_ok-push-2
-returns-in_ok-push-2 c = λ at.
+pub returns : goal.returns
+returns c = λ at.
     let all : length c.args.joins.now ≤ c.loop-other.other = omega arith in
-    c.in_ok-push-2.ensures.items
-    ∙ edges_last c.args.number c.args.reader.now c.args.joins.now c.loop-other.other at c.args.join.now true c.args.edges.now.items c.loop-other.edges.items all (sym c.reads_output-2.ensures ∙ c.if-reads_output-2.true) c.loop-other.invariant
-
-pub returns-else-reads_output-2 : goal.returns-else-reads_output-2
-returns-else-reads_output-2 c = λ at.
-    let all : length c.args.joins.now ≤ c.loop-other.other = omega arith in
-    sym (append-nil c.loop-other.edges.items)
-    ∙ edges_last c.args.number c.args.reader.now c.args.joins.now c.loop-other.other at c.args.join.now false c.args.edges.now.items c.loop-other.edges.items all (sym c.reads_output-2.ensures ∙ c.if-reads_output-2.false) c.loop-other.invariant
+    elim c.if-reads_output-2.branch [
+      | then-reads_output-2+in_ok-push-2 w ↦
+          (let last = edges_last c.args.number c.args.reader.now c.args.joins.now c.loop-other.other at c.args.join.now true c.args.edges.now.items c.loop-other.edges.items all (sym c.reads_output-2.ensures ∙ w.if-reads_output-2.true) c.loop-other.invariant in
+          cc (w.in_ok-push-2.ensures.items, last))
+      | else-reads_output-2 w ↦
+          (let last = edges_last c.args.number c.args.reader.now c.args.joins.now c.loop-other.other at c.args.join.now false c.args.edges.now.items c.loop-other.edges.items all (sym c.reads_output-2.ensures ∙ w.if-reads_output-2.false) c.loop-other.invariant in
+          let none = append-nil c.loop-other.edges.items in
+          cc (none, last))
+    ]

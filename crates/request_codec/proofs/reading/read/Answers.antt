@@ -1,12 +1,14 @@
+use Rattle.std.proofs.Common.{refl}
 use Rattle.std.proofs.lemmas.Result.{err_from_is_err_and}
-use Rattle.protocol.specs.Requests.{request_of}
+use Rattle.protocol.specs.Requests.{json_of, request_of, request_of_json}
+use Rattle.request_codec.proofs.JsonLemmas.{fault_of_json}
 use Rattle.request_codec.proofs.reading.read.Goals as goal
 
 pub returns-in_err-value-clause-fault : goal.returns-in_err-value-clause-fault
 unfolding request_of
 returns-in_err-value-clause-fault c =
     let p = err_from_is_err_and c.from_residual.result c.from_residual.ensures.1 in
-    rw (p.1, p.2) c.in_err-value.ensures.fault
+    rw (p.1, p.2) (fault_of_json request_of_json (json_of c.args.line.now) _ refl c.in_err-value.ensures.fault)
 
 pub returns-clause-request : goal.returns-clause-request
 unfolding request_of

@@ -4,13 +4,12 @@ use Rattle.std.proofs.lemmas.Str.{IsUtf8-from_is_utf8, is_utf8-from_IsUtf8}
 use Rattle.std.specs.Str.{is_utf8}
 use Rattle.std.proofs.lemmas.Bool.{false_from_ne_true}
 use Rattle.serde_json.specs.Read.{read as read_json}
-use Rattle.protocol.specs.Requests.{request_of_json}
 use Rattle.request_codec.proofs.reading.read_json.Goals as goal
 
 pub returns-in_default-clause-fault : goal.returns-in_default-clause-fault
 returns-in_default-clause-fault c =
     let no : is_utf8 c.args.line.now ≡ false = false_from_ne_true _ (λ e. c.in_default.ensures.cases.0 (IsUtf8-from_is_utf8 c.args.line.now e)) in
-    ap (λ b. request_of_json (if b then read_json c.args.line.now else None)) no
+    ap (λ b. if b then read_json c.args.line.now else None) no
 
 pub returns-in-Ok-from_str-clause-value : goal.returns-in-Ok-from_str-clause-value
 returns-in-Ok-from_str-clause-value c =

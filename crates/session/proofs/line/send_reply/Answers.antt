@@ -1,9 +1,13 @@
 -- What was sent is the reply, or `memory`.
 use Rattle.std.proofs.Common.{refl, inl, arith}
 use Rattle.protocol.specs.Replies.{done, memory, bye}
-use Rattle.session.proofs.SendLemmas.{sends_text, sends_part}
+use Rattle.session.proofs.SendLemmas.{has_text, sends_text, sends_part}
 use Rattle.session.proofs.line.send_reply.Goals as goal
 use Rattle.session.proofs.SendLemmas.{memory_unread}
+
+-- a fault that is not one of memory
+pub send_text-requires-clause-has_text : goal.send_text-requires-clause-has_text
+send_text-requires-clause-has_text g c = has_text c.args.reply.now c.in-Unread.fault c.in-Unread.is c.in_default-fault.not-OutOfMemory
 
 pub returns-in-Done-clause-sent : goal.returns-in-Done-clause-sent
 returns-in-Done-clause-sent g c = (

@@ -6,4 +6,4 @@ use Rattle.plain_history.proofs.history.PlainHistory.beginning.Goals as goal
 
 pub returns-clause-entered : goal.returns-clause-entered
 returns-clause-entered c =
-    subst (λ (h : History). AllEntered (take c.args.at h)) (sym c.as_slice.ensures.value) (entered_taken c.args.at c.self.inside.entries.items c.self.invariant.entered)
+    subst (λ (h : History). AllEntered (take c.args.at h)) (sym c.as_slice.ensures.value) (entered_taken c.args.at c.self.inside.entries.items c.self.invariant.stands.entered)

@@ -7,6 +7,4 @@ pub returns-in-Some : goal.returns-in-Some
 returns-in-Some c = c.in-Some.ensures (changes_since c.args.range.now c.args.from) c.args.self.now refl refl
 
 pub compare-requires : goal.compare-requires
-compare-requires c =
-    let near = in_reach c.args.from (length c.args.self.now) c.out_of_reach.result c.out_of_reach.ensures c.in-None.is in
-    record { not_ahead = near.0; not_gone = near.1 }
+compare-requires c = in_reach c.args.from (length c.args.self.now) c.out_of_reach.result c.out_of_reach.ensures c.in-None.is

@@ -1,5 +1,5 @@
 use Rattle.std.proofs.Common.{length, ap, ◌∙◌, subst}
-use Rattle.plain_history.specs.Histories.{AreOwn}
+use Rattle.protocol.specs.Own.{AreOwn}
 use Rattle.plain_history.proofs.history.PlainHistory.len.Goals as goal
 
 pub returns-clause-length : goal.returns-clause-length

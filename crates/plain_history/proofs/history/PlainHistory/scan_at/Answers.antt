@@ -10,10 +10,10 @@ returns-in-Some c = c.in-Some.ensures (scan_at c.args.range.now c.args.at) c.arg
 pub pairs_at-requires : goal.pairs_at-requires
 pairs_at-requires c =
     let none : c.out_of_reach.result ≡ None = cc in
-    (in_reach c.args.at (length c.args.self.now) c.out_of_reach.result c.out_of_reach.ensures none).0
+    (in_reach c.args.at (length c.args.self.now) c.out_of_reach.result c.out_of_reach.ensures none).not_ahead
 
 pub returns : goal.returns
 returns c =
     let none : c.out_of_reach.result ≡ None = cc in
     let near = in_reach c.args.at (length c.args.self.now) c.out_of_reach.result c.out_of_reach.ensures none in
-    scan_at_told c.args.range.now c.args.at c.args.self.now c.in_ok-pairs.pairs.items (record { not_ahead = near.0; not_gone = near.1 }) c.in_ok-pairs.ensures
+    scan_at_told c.args.range.now c.args.at c.args.self.now c.in_ok-pairs.pairs.items near c.in_ok-pairs.ensures

@@ -20,12 +20,10 @@ returns-in-Some-clause-told c =
 
 pub invariant_of-self-2 : goal.invariant_of-self-2
 invariant_of-self-2 c =
-    let free : verdict (plain_write c.args.change) c.self.inside.entries.items ≡ None =
-    no_cause _ plain_cause _ c.in_default.not-Some (c.in_ok-cause.ensures.verdict c.self.inside.entries.items c.self.invariant.stands) in
     let items : c.push.new.self.items ≡ c.self.inside.entries.items ++ (record { client = 0; write = plain_write c.args.change } ∷ []) =
     c.in-Ok.ensures.items ∙ ap (λ es. es ++ (record { client = 0; write = plain_write c.args.change } ∷ [])) c.in_ok-reserve.ensures.items in
     subst (IsKept c.enter.new.self) (sym items)
-    (kept_next c.self.inside.standing c.enter.new.self c.self.inside.entries.items (plain_write c.args.change) c.self.invariant c.in_ok-enter.ensures.history free)
+    (kept_next c.self.inside.standing c.enter.new.self c.self.inside.entries.items (plain_write c.args.change) c.self.invariant c.in_ok-enter.ensures.history)
 
 pub returns-clause-told : goal.returns-clause-told
 returns-clause-told c =

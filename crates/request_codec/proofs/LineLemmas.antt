@@ -1,5 +1,5 @@
 -- The first line of a text and what follows it.
-use Rattle.std.proofs.Common.{◌≡◌, ℕ, ◌+◌, ◌-◌, ◌<◌, ◌≤◌, ◌==◌, List, [], ◌∷◌, ◌++◌, length, take, drop, map, Bool, true, false, cond, nat_lt, refl, sym, ap, ◌∙◌, length-drop}
+use Rattle.std.proofs.Common.{◌≡◌, ℕ, ◌+◌, ◌-◌, ◌<◌, ◌≤◌, ◌==◌, List, [], ◌∷◌, ◌++◌, length, take, drop, Bool, true, false, cond, nat_lt, refl, sym, ap, ◌∙◌, length-drop}
 use Rattle.std.proofs.Math.Seq.{take-length}
 use Rattle.std.specs.Prelude.{position, Some, None}
 use Rattle.std.specs.List.{before_first}
@@ -7,7 +7,7 @@ use Rattle.std.proofs.lemmas.Bool.{ltb-true, ltb-false}
 use Rattle.std.proofs.lemmas.Option.{none-some, same_Some}
 use Rattle.semantics.specs.Texts.{Text}
 use Rattle.semantics.specs.Patterns.{pieces}
-use Rattle.protocol.specs.JoinsFile.{counted_lines, without_return, file_lines}
+use Rattle.protocol.specs.JoinsFile.{counted_lines}
 use Rattle.protocol.proofs.Cuts.{first_piece, pieces-whole, pieces-first}
 use Rattle.request_codec.specs.Feeding.{is_feed, before_feed}
 use Rattle.request_codec.proofs.FeedLemmas.{has_feed, has_feed-before, split_at_feed, before_first-all}
@@ -37,31 +37,28 @@ counted_last : (t : Text) → (length t == 0) ≡ false → counted_lines (t ∷
 counted_last t e = rw e
 
 -- the lines of a text in two parts with the byte 10 between them
-file_lines-split : (front rest : Text) → has_feed front ≡ false → file_lines (front ++ 10 ∷ rest) ≡ without_return front ∷ file_lines rest
-file_lines-split front rest none =
+lines-split : (front rest : Text) → has_feed front ≡ false → counted_lines (pieces 10 (front ++ 10 ∷ rest)) ≡ front ∷ counted_lines (pieces 10 rest)
+lines-split front rest none =
     let parts = first_piece 10 rest in
-    ap (λ ps. map without_return (counted_lines ps)) (pieces-first 10 front rest none)
-    ∙ ap (map without_return) (counted_more front (pieces 10 rest) parts.0 parts.1 parts.2)
+    ap counted_lines (pieces-first 10 front rest none) ∙ counted_more front (pieces 10 rest) parts.0 parts.1 parts.2
 
 -- the lines of a text whose first byte 10 stands there
-file_lines-first : (t : Text) (end : ℕ) → position is_feed t ≡ Some end → file_lines t ≡ without_return (take end t) ∷ file_lines (drop (end + 1) t)
-file_lines-first t end h =
+lines-first : (t : Text) (end : ℕ) → position is_feed t ≡ Some end → counted_lines (pieces 10 t) ≡ take end t ∷ counted_lines (pieces 10 (drop (end + 1) t))
+lines-first t end h =
     let at = found_by (before_feed t) (length t) end _ refl h in
-    ap file_lines (split_at_feed t at.0)
-    ∙ file_lines-split (before_first is_feed t) (drop (before_feed t + 1) t) (has_feed-before t)
-    ∙ ap (λ n. without_return (take n t) ∷ file_lines (drop (n + 1) t)) at.1
+    ap (λ u. counted_lines (pieces 10 u)) (split_at_feed t at.0)
+    ∙ lines-split (before_first is_feed t) (drop (before_feed t + 1) t) (has_feed-before t)
+    ∙ ap (λ n. take n t ∷ counted_lines (pieces 10 (drop (n + 1) t))) at.1
 
 -- the lines of a text without the byte 10
-pub file_lines-last : (t : Text) → (length t == 0) ≡ false → position is_feed t ≡ None → file_lines t ≡ without_return t ∷ []
-file_lines-last t some h =
-    ap (λ ps. map without_return (counted_lines ps)) (pieces-whole 10 t (feedless t h))
-    ∙ ap (map without_return) (counted_last t some)
+pub lines-last : (t : Text) → (length t == 0) ≡ false → position is_feed t ≡ None → counted_lines (pieces 10 t) ≡ t ∷ []
+lines-last t some h = ap counted_lines (pieces-whole 10 t (feedless t h)) ∙ counted_last t some
 
 -- what is cut from a text at that byte, as the program cuts it
-pub file_lines-cut : (t line rest : Text) (end : ℕ) → position is_feed t ≡ Some end → line ≡ without_return (take end t) → rest ≡ take (length t - (end + 1)) (drop (end + 1) t) →
-    file_lines t ≡ line ∷ file_lines rest
-file_lines-cut t line rest end h front back =
+pub lines-cut : (t line rest : Text) (end : ℕ) → position is_feed t ≡ Some end → line ≡ take end t → rest ≡ take (length t - (end + 1)) (drop (end + 1) t) →
+    counted_lines (pieces 10 t) ≡ line ∷ counted_lines (pieces 10 rest)
+lines-cut t line rest end h front back =
     let whole : take (length t - (end + 1)) (drop (end + 1) t) ≡ drop (end + 1) t = ap (λ n. take n (drop (end + 1) t)) (sym (length-drop (end + 1) t)) ∙ take-length (drop (end + 1) t) in
-    file_lines-first t end h
-    ∙ ap (λ l. l ∷ file_lines (drop (end + 1) t)) (sym front)
-    ∙ ap (λ r. line ∷ file_lines r) (sym (back ∙ whole))
+    lines-first t end h
+    ∙ ap (λ l. l ∷ counted_lines (pieces 10 (drop (end + 1) t))) (sym front)
+    ∙ ap (λ r. line ∷ counted_lines (pieces 10 r)) (sym (back ∙ whole))

@@ -1,9 +1,0 @@
-use Rattle.std.proofs.Common.{◌∙◌, sym, refl}
-use Rattle.event_script.proofs.LineLemmas.{script_lines-cut, script_lines-last}
-use Rattle.event_script.proofs.lines.split_first_line.Goals as goal
-
-pub returns-in-Some-clause-lines : goal.returns-in-Some-clause-lines
-returns-in-Some-clause-lines c = script_lines-cut c.args.bytes.now _ _ c.in-Some.end (sym c.in-Some.ensures) refl refl
-
-pub returns-in-None-clause-lines : goal.returns-in-None-clause-lines
-returns-in-None-clause-lines c = script_lines-last c.args.bytes.now (sym c.is_empty.ensures ∙ c.if-is_empty.false) (sym c.in-None.ensures)

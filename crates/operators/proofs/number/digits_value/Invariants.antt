@@ -1,6 +1,0 @@
-use Rattle.std.proofs.Common.{◌≡◌, ◌≤◌, ◌^◌, take}
-use Rattle.semantics.specs.Outputs.{digits_value}
-use Rattle.operators.proofs.number.digits_value.Given as goal
-
-abbrev pub invariant-loop-digit : goal.invariant-loop-digit
-invariant-loop-digit l = (l.number ≡ digits_value (take l.digit-index l.digits)) × (l.number ≤ 2 ^ 63)

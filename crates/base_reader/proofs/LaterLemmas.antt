@@ -1,24 +1,21 @@
 -- Joins where none is declared or dropped after a position.
-use Rattle.std.proofs.Common.{◌≡◌, ℕ, ◌≤◌, ◌&&◌, ◌||◌, List, [], ◌∷◌, length, take, nat_le, not, Option, Some, None, refl, sym, ap, ◌∙◌, arith, le-leb, length-take}
+use Rattle.std.proofs.Common.{◌≡◌, ℕ, ◌≤◌, ◌&&◌, ◌||◌, List, [], ◌∷◌, length, take, nat_le, not, refl, sym, ap, ◌∙◌, arith, le-leb, length-take}
 use Rattle.semantics.specs.Texts.{Text}
 use Rattle.semantics.specs.Histories.{History, changed_at}
 use Rattle.semantics.specs.Stays.{Stay, is_after, stays_of}
-use Rattle.semantics.proofs.StayLemmas.{IsWithinStay, AreUpTo, stays_up_to}
+use Rattle.semantics.proofs.StayLemmas.{AreUpTo, stays_up_to}
 use Rattle.growing_history.specs.Changes.{has_table, bare_between}
 use Rattle.layering.proofs.StandingLemmas.{same_joins_since, same_stays_since, same_change_since}
 use Rattle.join_set.specs.Sets.{Joins, AreJoins}
+use Rattle.join_set.proofs.TimelineLemmas.{begins_up_to}
 
 -- ---- no declaration or drop later
-
-begins_within : (m begin : ℕ) (o : Option ℕ) → IsWithinStay m begin o → begin ≤ m
-begins_within m begin None within = within
-begins_within m begin (Some d) within = omega (arith, within.0, within.1)
 
 -- stays that begin up to a position leave a table bare up to it where they leave it bare up to a later one
 bare_up_to : (q m n : ℕ) (table : Text) (stays : List Stay) → m ≤ n → AreUpTo m stays → bare_between q n table stays ≡ bare_between q m table stays
 bare_up_to q m n table [] more upto = refl
 bare_up_to q m n table (s ∷ stays) more upto =
-    let early = begins_within m s.position s.until upto.0 in
+    let early = begins_up_to m s.position s.until upto.0 in
     let begun : nat_le s.position n ≡ nat_le s.position m = le-leb s.position n (omega (arith, early)) ∙ sym (le-leb s.position m early) in
     let rest = bare_up_to q m n table stays more upto.1 in
     λ i. (not (begun i && is_after q s.until) || not (has_table s.join.output table)) && rest i

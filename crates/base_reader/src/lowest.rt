@@ -1,6 +1,6 @@
 // Reading at rank 0, from any source of base pairs and joins.
-ghost use Rattle.std.specs.Prelude.{◌≡◌, ◌+◌, ◌≤◌, length, map, not, take, true, IfOk};
-ghost use Rattle.semantics.specs.Texts.{is_range, pairs_where, pairs_within};
+ghost use Rattle.std.specs.Prelude.{◌≡◌, ◌+◌, ◌≤◌, length, map, not, take, IfOk};
+ghost use Rattle.semantics.specs.Texts.{pairs_where, pairs_within};
 ghost use Rattle.semantics.specs.Histories.{base_of, is_computed, joins_of};
 ghost use Rattle.semantics.specs.States.{below};
 ghost use Rattle.growing_history.specs.Changes.{changed_keys, IsBareAt, IsBareThroughout};
@@ -15,17 +15,11 @@ use crate::reaching::{between, reached_in};
 use crate::source::BaseSource;
 use join_eval::{Between, Changed};
 use join_types::Pair;
+use key_space::range::look_at;
 use key_space::{Key, Range};
 use out_of_memory::OutOfMemory;
 use std::sync::ledger::Ledger;
 use steps::Steps;
-
-/// Looks at the range, and so knows that its bounds are those of a range.
-fn look_at(range: &Range)
-    ensures { is_range range.now.low range.now.high ≡ true }
-{
-    let _low = range.lo();
-}
 
 /// Those of the base pairs after the first p entries that no output hides.
 fn visible<S: BaseSource>(

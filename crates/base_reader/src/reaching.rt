@@ -75,8 +75,8 @@ pub fn join_of(joins: &JoinSet, at: u64) -> Option<&Join>
 }
 
 /// Says what is so of the joins, for the range, from a position on up to the one after which these stand. It compares two
-/// numbers; where a join is declared or dropped between, it is linear in the joins, and in the tables of those that were
-/// dropped.
+/// numbers; where a join is declared or dropped between, it is linear in the joins, and in the tables of the drops that they
+/// remember.
 pub fn between(joins: &JoinSet, q: u64, range: &Range) -> Between
     ensures { SaysBetween joins.now q range.now result }
 {

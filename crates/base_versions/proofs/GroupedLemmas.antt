@@ -1,5 +1,5 @@
 -- The changes of a table by groups: one more, one fewer, and those that a range needs.
-use Rattle.std.proofs.Common.{◌≡◌, ◌≤◌, ℕ, ◌+◌, List, [], ◌∷◌, ◌++◌, filter, drop, Bool, true, false, cond, refl, sym, ap, ◌∙◌, arith}
+use Rattle.std.proofs.Common.{◌≡◌, ◌≤◌, ℕ, ◌+◌, List, [], ◌∷◌, ◌++◌, filter, drop, Bool, true, false, cond, refl, sym, ap, ◌∙◌, inl, subst, arith}
 use Rattle.std.proofs.lemmas.Bool.{false≢true, false_from_ne_true}
 use Rattle.std.proofs.lemmas.List.{append-nil}
 use Rattle.std.proofs.lemmas.List.Elements.{filter-append}
@@ -8,8 +8,9 @@ use Rattle.semantics.proofs.PieceLemmas.{equal_by_same, same_by_equal}
 use Rattle.growing_history.specs.Changes.{in_order}
 use Rattle.base_versions.specs.declared.changes.Change.{Change}
 use Rattle.base_versions.specs.Positions.{AscendBy}
-use Rattle.base_versions.specs.Changes.{is_between, keys_within}
+use Rattle.base_versions.specs.Changes.{Ascend, changed_in, is_between, keys_within}
 use Rattle.base_versions.specs.Groups.{group_of, of_group, Groups, changes_among, ByGroup, AreGrouped, AddsChange, LosesFirst, HoldsChanges}
+use Rattle.base_versions.specs.Kept.{TableKept, FindsChanged}
 use Rattle.base_versions.proofs.NamedLemmas.{IsSetAt}
 use Rattle.base_versions.proofs.PositionLemmas.{ascend_from_less}
 
@@ -118,3 +119,10 @@ holds-group r group all h = record {
 -- and all are
 pub holds-all : (r : Range) (all : List Change) → HoldsChanges r all all
 holds-all r all = record { ascend = λ a. a; changed = λ q p. refl }
+
+-- the keys of those changes between the positions that are searched are found
+pub found_by_changes : (q p : ℕ) (r : Range) (table : TableKept) (all some taken : List Change) (keys : List Text) → all ≡ table.changes → HoldsChanges r all some → Ascend 0 table.changes → (Ascend 0 some → taken ≡ filter (is_between q p) some) →
+    keys ≡ in_order (keys_within r taken) → FindsChanged q p r table keys
+found_by_changes q p r table all some taken keys is holds ascend exact e =
+    let in_turn = holds.ascend (subst (λ (cs : List Change). Ascend 0 cs) (sym is) ascend) in
+    inl (e ∙ ap (λ (cs : List Change). in_order (keys_within r cs)) (exact in_turn) ∙ holds.changed q p ∙ ap (changed_in q p r) is)

@@ -167,9 +167,9 @@ impl BaseVersions {
     }
 
     /// The keys of the range that are put or removed after the first q entries, up to the p-th: in order, each once. It costs the
-    /// search for these changes: of the range's group where it lies inside one, and otherwise of its table. At most 16 are sorted. Of
-    /// more it costs the search for the range too, and then a look at each key of the range that stands or changed since the start, or
-    /// to sort these changes, whichever are fewer.
+    /// search for these changes: of the range's group where it lies inside one, and otherwise of its table. At most 16 are sorted.
+    /// Of more it costs the search for the range too, and then a look at each key of the range that stands or changed since the
+    /// start, or to sort these changes, whichever are fewer.
     ///
     /// The steps are as many as the keys, and one. On `OutOfMemory` they are not counted.
     pub fn changed<L: Ledger>(
@@ -189,6 +189,28 @@ impl BaseVersions {
         let keys = self.find_changed(q, p, range)?;
         steps.count_call(keys.len());
         Ok(keys)
+    }
+
+    /// Lists the keys of the range that are put or removed after the first q entries, up to the p-th: in order, each once. None
+    /// where more than so many changes would be sorted for them: those of the range's group where it lies inside one, and otherwise
+    /// of its table. It costs the search for these changes, and to sort them where they are not more.
+    ///
+    /// No step is counted: who asks counts what it hands on.
+    pub fn few_changed(
+        &self,
+        q: u64,
+        p: u64,
+        range: &Range,
+        most: usize,
+    ) -> Result<Option<Vec<Key>>, OutOfMemory>
+        requires order { q ≤ p }
+        requires own { has_table self.now (table_of range.now.low) ≡ true }
+        ensures { IfOk result (λ found. (start : ℕ) (h : History) → StandsFor start self.now h → start ≤ q → IfSome found (λ keys. keys.items ≡ changed_keys q p range.now h)) }
+    {
+        match self.tables.get(range.table()) {
+            None => Ok(Some(Vec::new(self.alloc))),
+            Some(table) => table.few_changed(self.alloc, q, p, range, most),
+        }
     }
 
     /// The base pairs of the range after the first p entries.
@@ -264,8 +286,8 @@ impl BaseVersions {
     /// Lets go what nobody asks for who asks from a position on: the changes up to there, and of each of their keys the versions
     /// up to there but the last, or that too where it is a removal and no other follows. Nothing is allocated.
     ///
-    /// It costs look-ups of the table, of the key and of its group for each of these changes. So a caller who must not be long goes on
-    /// in steps of some hundred positions.
+    /// It costs look-ups of the table, of the key and of its group for each of these changes. So a caller who must not be long goes
+    /// on in steps of some hundred positions.
     pub fn trim(&mut self, to: u64)
         requires order { self.old.start ≤ to }
         requires within { to ≤ self.old.position }

@@ -68,8 +68,8 @@ impl OlderVersions {
         }
     }
 
-    /// Takes the first version out, where the second is not after a position: nobody asks for it who asks from there on. Room that is
-    /// not needed goes.
+    /// Takes the first version out, where the second is not after a position: nobody asks for it who asks from there on. Room that
+    /// is not needed goes.
     pub fn trim(&mut self, to: u64)
         ensures { AscendFrom 0 self.old → IsTrimmed to self.old self.new }
     {

@@ -60,8 +60,8 @@ impl TableVersions {
         }
     }
 
-    /// The key is given a value at a position, or none. Logarithmic in the keys, and in the groups that have changes. On `OutOfMemory`
-    /// each key has the versions that it had.
+    /// The key is given a value at a position, or none. Logarithmic in the keys, and in the groups that have changes. On
+    /// `OutOfMemory` each key has the versions that it had.
     pub fn enter(
         &mut self,
         alloc: Global,
@@ -122,8 +122,9 @@ impl TableVersions {
     }
 
     /// The keys of the range that are put or removed after the first q entries, up to the p-th: in order, each once. It takes the
-    /// search for these changes: of the range's group where it lies inside one, and otherwise of the table. At most 16 are sorted. Of
-    /// more it takes the search for the range too, and then as long as to look at its keys or at these changes, whichever are fewer.
+    /// search for these changes: of the range's group where it lies inside one, and otherwise of the table. At most 16 are sorted.
+    /// Of more it takes the search for the range too, and then as long as to look at its keys or at these changes, whichever are
+    /// fewer.
     pub fn changed(
         &self,
         alloc: Global,
@@ -147,8 +148,32 @@ impl TableVersions {
         }
     }
 
-    /// Takes out what nobody asks for who asks from a position on: the first change, where it is not after it, and versions of
-    /// the key as `Versions::trim` does. A key without versions is taken out too. Logarithmic in the keys and in the groups that have
+    /// Lists the keys of the range that are put or removed after the first q entries, up to the p-th: in order, each once. None
+    /// where more than so many changes would be sorted for them: those of the range's group where it lies inside one, and otherwise
+    /// of the table. It takes the search for these changes, and to sort them where they are not more.
+    pub fn few_changed(
+        &self,
+        alloc: Global,
+        q: u64,
+        p: u64,
+        range: &Range,
+        most: usize,
+    ) -> Result<Option<Vec<Key>>, OutOfMemory>
+        ensures { Ascend 0 self.now.changes → IfOk result (λ found. IfSome found (λ keys. FindsChanged q p range.now self.now keys.items)) }
+    {
+        let Some(changes) = changes_for(&self.changes, &self.groups, range) else {
+            return Ok(Some(Vec::new(alloc)));
+        };
+        let (first, last) = between(changes, q, p);
+        if last - first > most {
+            return Ok(None);
+        }
+        let keys = keys_in_order(alloc, changes, first, last, range)?;
+        Ok(Some(keys))
+    }
+
+    /// Takes out what nobody asks for who asks from a position on: the first change, where it is not after it, and versions of the
+    /// key as `Versions::trim` does. A key without versions is taken out too. Logarithmic in the keys and in the groups that have
     /// changes.
     pub fn trim(&mut self, to: u64, key: &Key)
         ensures versions { TrimsTracks to self.old.tracks self.new.tracks }

@@ -52,8 +52,9 @@ impl Versions {
         if let Some(before) = self.newest.take()
             && let Err(refused) = self.older.push(before)
         {
-            self.newest = Some(refused.value);
-            return Err(OutOfMemory);
+            let (memory, before) = OutOfMemory::split(refused);
+            self.newest = Some(before);
+            return Err(memory);
         }
         self.newest = Some(version);
         Ok(())

@@ -1,5 +1,6 @@
 -- How readers leave slots, and readers that are as they were.
-use Rattle.std.proofs.Common.{◌≡◌, ℕ, zero, suc, ◌+◌, ◌<◌, ◌≤◌, List, [], ◌∷◌, length, slice_get, slice_set, Option, Some, inl, inr, refl, sym, ap, ◌∙◌, subst, arith}
+use Rattle.std.proofs.Common.{◌≡◌, ℕ, zero, suc, ◌+◌, ◌<◌, ◌≤◌, List, [], ◌∷◌, length, slice_get, slice_set, Option, Some, ◌⊎◌, inl, inr, refl, sym, ap, ◌∙◌, subst, arith}
+use Rattle.std.specs.Option.{option_and_then}
 use Rattle.std.proofs.lemmas.Bool.{cases_eq}
 use Rattle.std.proofs.lemmas.Option.{same_Some, slice_get_within}
 use Rattle.std.proofs.lemmas.List.{length-set}
@@ -10,7 +11,7 @@ use Rattle.join_eval.proofs.MovesLemmas.{moves_refl}
 use Rattle.kept_ranges.specs.Sound.{KeptRange}
 use Rattle.cell_slots.specs.declared.slot.Slot.{Slot}
 use Rattle.cell_slots.specs.declared.slot.Slot.TheVariants.{Free, Lent, Held}
-use Rattle.cell_slots.specs.Slots.{Holdings, with_slot, with_lent, IsLeft, Frame}
+use Rattle.cell_slots.specs.Slots.{Holdings, with_slot, with_lent, place_of, place_at, KeepPlaces, IsLeft, Frame}
 use Rattle.cell_slots.specs.FrameLaws.{frame_refl}
 
 -- ---- one element of a list is set
@@ -41,6 +42,7 @@ pub frame_weaker : (top more : ℕ) (a b : Holdings) → top ≤ more → Frame 
 frame_weaker top more a b up frame = record {
   same_count = frame.same_count;
   left = λ id slot is left. frame.left id slot is (left_weaker top more slot up left);
+  places = frame.places;
   lent = frame.lent;
   unused = λ none. frame.unused (omega (arith, up, none));
   same_setting = frame.same_setting;
@@ -67,13 +69,27 @@ not_left rank at id was slot slots least held is left =
 held_not_lent : (at from : ℕ) (s : KeptRange) (range : Range) → ◌≡◌ {A = Option Slot} (Some (Held at s)) (Some (Lent from range)) → ⊥
 held_not_lent at from s range e = cc
 
--- taking a kept range out of a slot, working below its rank, and giving it back leaves what a reader of one rank more leaves
+-- the places stay where a kept range is taken out of its slot, others are worked on, and it is put back for the same range
+pub places_around : (before lent mid after : List Slot) (id at : ℕ) (was s : KeptRange) (range : Range) → slice_get before id ≡ Some (Held at was) → lent ≡ slice_set before id (Lent at range) → KeepPlaces lent mid → id < length mid →
+    after ≡ slice_set mid id (Held at s) → s.range ≡ was.range → KeepPlaces before after
+places_around before lent mid after id at was s range held is places inside set same = λ k place kept. by k place kept (cases_eq k id)
+  where
+    by : (k : ℕ) (place : ℕ × Range) → place_at before k ≡ Some place → (k ≡ id) ⊎ (k ≡ id → ⊥) → place_at after k ≡ Some place
+    by k place kept (inl e) =
+        ap (place_at after) e ∙ ap (λ o. option_and_then place_of o) (ap (λ slots. slice_get slots id) set ∙ get-set_same mid id (Held at s) inside)
+        ∙ ap (λ (r : Range). Some (at, r)) same ∙ sym (ap (λ o. option_and_then place_of o) held) ∙ ap (place_at before) (sym e) ∙ kept
+    by k place kept (inr apart) =
+        ap (λ o. option_and_then place_of o) (ap (λ slots. slice_get slots k) set ∙ get-set_other mid id k (Held at s) apart)
+        ∙ places k place (ap (λ o. option_and_then place_of o) (ap (λ slots. slice_get slots k) is ∙ get-set_other before id k (Lent at range) apart) ∙ kept)
+
+-- taking a kept range out of a slot, working below its rank, and giving it back for the same range leaves what a reader of one rank more leaves
 pub frame_around : (before lent mid after : Holdings) (id at rank : ℕ) (was s : KeptRange) (range : Range) →
     slice_get before.slots id ≡ Some (Held at was) → was.rank ≤ rank → lent ≡ with_lent id at range before → Frame rank lent mid → after ≡ with_slot id (Held at s) mid →
-    Frame (rank + 1) before after
-frame_around before lent mid after id at rank was s range held least lent_is frame after_is =
+    s.range ≡ was.range → Frame (rank + 1) before after
+frame_around before lent mid after id at rank was s range held least lent_is frame after_is same =
     let is : lent.slots ≡ slice_set before.slots id (Lent at range) = ap (λ (c : Holdings). c.slots) lent_is in
     let set : after.slots ≡ slice_set mid.slots id (Held at s) = ap (λ (c : Holdings). c.slots) after_is in
+    let mid_in : id < length mid.slots = omega (arith, slice_get_within before.slots id (Held at was) held, frame.same_count, ap length is, length-set before.slots id (Lent at range)) in
     record {
       same_count = ap length set ∙ length-set mid.slots id (Held at s) ∙ frame.same_count ∙ ap length is ∙ length-set before.slots id (Lent at range);
       left = λ k slot at_k left. elim (cases_eq k id) [
@@ -82,10 +98,9 @@ frame_around before lent mid after id at rank was s range held least lent_is fra
             ap (λ slots. slice_get slots k) set ∙ get-set_other mid.slots id k (Held at s) apart
             ∙ frame.left k slot (ap (λ slots. slice_get slots k) is ∙ get-set_other before.slots id k (Lent at range) apart ∙ at_k) (left_weaker rank (rank + 1) slot (omega arith) left)
       ];
+      places = places_around before.slots lent.slots mid.slots after.slots id at was s range held is frame.places mid_in set same;
       lent = λ k from kept at_k. elim (cases_eq k id) [
-        | inl e ↦
-            let mid_in : id < length mid.slots = omega (arith, slice_get_within before.slots id (Held at was) held, frame.same_count, ap length is, length-set before.slots id (Lent at range)) in
-            absurd (held_not_lent at from s kept (sym (ap (λ slots. slice_get slots id) set ∙ get-set_same mid.slots id (Held at s) mid_in) ∙ ap (slice_get after.slots) (sym e) ∙ at_k))
+        | inl e ↦ absurd (held_not_lent at from s kept (sym (ap (λ slots. slice_get slots id) set ∙ get-set_same mid.slots id (Held at s) mid_in) ∙ ap (slice_get after.slots) (sym e) ∙ at_k))
         | inr apart ↦
             sym (ap (λ slots. slice_get slots k) is ∙ get-set_other before.slots id k (Lent at range) apart)
             ∙ frame.lent k from kept (sym (ap (λ slots. slice_get slots k) set ∙ get-set_other mid.slots id k (Held at s) apart) ∙ at_k)

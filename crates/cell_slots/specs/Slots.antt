@@ -1,11 +1,10 @@
 -- The slots of cells, and how they change.
-use Rattle.std.specs.Prelude.{◌≡◌, ℕ, ◌-◌, ◌≤◌, List, [], ◌∷◌, ◌++◌, length, take, slice_get, slice_set, true, false, Option, Some, None, is_some}
+use Rattle.std.specs.Prelude.{◌≡◌, ℕ, ◌-◌, ◌≤◌, List, [], ◌∷◌, ◌++◌, length, take, slice_get, slice_set, true, Option, Some, None, is_some}
 use Rattle.semantics.specs.Texts.{Table, Range, pairs_within}
 use Rattle.semantics.specs.Joins.{Join}
 use Rattle.semantics.specs.Histories.{declare, Entry, History, DeclaredJoin, joins_of}
 use Rattle.semantics.specs.Outputs.{out}
 use Rattle.semantics.specs.States.{below}
-use Rattle.key_ranges.specs.Ranges.{meets}
 use Rattle.key_ranges.specs.Containing.{bind_range}
 use Rattle.layering.specs.Parts.{IsWithin}
 use Rattle.layering.specs.Reached.{StandsWithRank}
@@ -14,6 +13,7 @@ use Rattle.range_state.specs.Ready.{IsReady, StandsAt}
 use Rattle.range_serving.specs.Serving.{IsPast, StandsFrom}
 use Rattle.cell_slots.specs.declared.slot.Slot.{Slot}
 use Rattle.cell_slots.specs.declared.slot.Slot.TheVariants.{Free, Lent, Held}
+use Rattle.cell_slots.specs.Places.{MeetsNoPlace, place_in}
 
 -- over what cells are held: how many entries the history has, and how much what they keep may weigh together
 pub record Setting : Type 0 where
@@ -47,6 +47,14 @@ abbrev pub place_of : Slot → Option (ℕ × Range)
 place_of Free = None
 place_of (Lent at range) = Some (at, range)
 place_of (Held at s) = Some (at, s.range)
+
+-- the place that the slot with a number keeps, if there is one and it keeps one
+abbrev pub place_at : List Slot → ℕ → Option (ℕ × Range)
+place_at slots id = place_in place_of slots id
+
+-- each place that a slot keeps it keeps afterwards: no cell was freed, nor given to another range
+abbrev pub KeepPlaces : List Slot → List Slot → Type 0
+KeepPlaces before after = (id : ℕ) (place : ℕ × Range) → place_at before id ≡ Some place → place_at after id ≡ Some place
 
 -- ---- joins by their positions
 
@@ -105,7 +113,7 @@ pub record HasFree (slots : List Slot) : Type 0 where
 
 -- no slot keeps a place for a range of the join that was declared at a position and that meets a range
 abbrev pub MeetsNone : List Slot → ℕ → Range → Type 0
-MeetsNone slots at range = (id : ℕ) (slot : Slot) (kept : Range) → slice_get slots id ≡ Some slot → place_of slot ≡ Some (at, kept) → meets kept range ≡ false
+MeetsNone slots at range = MeetsNoPlace (place_at slots) at range
 
 -- the slot with a number holds a kept range that can be read over a range at a position
 pub record IsReadySlot (slots : List Slot) (id at p : ℕ) (range : Range) (s : KeptRange) : Type 0 where
@@ -140,20 +148,22 @@ IsLeft top Free = ⊥
 IsLeft top (Lent at range) = Unit {0}
 IsLeft top (Held at s) = top ≤ s.rank
 
--- how a reader of a top rank leaves the cells: there are as many slots, those that it leaves are as they were, those that are lent afterwards were before, a reader of the lowest rank uses no cell, and they are held over the same
+-- how a reader of a top rank leaves the cells: there are as many slots, those that it leaves are as they were, each place that was kept is kept, those that are lent afterwards were before, a reader of the lowest rank uses no cell, and they are held over the same
 pub record Frame (top : ℕ) (before after : Holdings) : Type 0 where
   pub same_count : length after.slots ≡ length before.slots
   pub left : (id : ℕ) (slot : Slot) → slice_get before.slots id ≡ Some slot → IsLeft top slot → slice_get after.slots id ≡ Some slot
+  pub places : KeepPlaces before.slots after.slots
   pub lent : (id at : ℕ) (range : Range) → slice_get after.slots id ≡ Some (Lent at range) → slice_get before.slots id ≡ Some (Lent at range)
   pub unused : top ≡ 0 → after.used ≡ before.used
   pub same_setting : after.setting ≡ before.setting
 
--- a kept range is taken out of a slot, which keeps its place, and the cell is used: the kept range is of the join that was declared at the position, with this rank, is sound, holds the part, and stands nowhere, or from a floor on and not past a position
+-- a kept range is taken out of a slot, which keeps its place, and the cell is used: the kept range is for that place, of the join that was declared at the position, with this rank, is sound, holds the part, and stands nowhere, or from a floor on and not past a position
 pub record Takes (h : History) (floor : ℕ) (before after : Holdings) (id at rank p : ℕ) (part : Range) (state : KeptRange) : Type 0 where
   pub was : KeptRange
   pub held : slice_get before.slots id ≡ Some (Held at was)
   pub least : was.rank ≤ rank
   pub lent : after ≡ with_lent id at state.range before
+  pub same_range : was.range ≡ state.range
   pub ranked : state.rank ≡ rank
   pub right : IsRightFor h at state
   pub from : StandsFrom floor state

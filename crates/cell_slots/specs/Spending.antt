@@ -1,5 +1,5 @@
 -- What reading costs where one output alone is reached, and what it leaves in the cells.
-use Rattle.std.specs.Prelude.{◌≡◌, ℕ, ◌+◌, ◌<◌, ◌≤◌, List, [], ◌∷◌, ◌++◌, length, take, slice_get, true, Some}
+use Rattle.std.specs.Prelude.{◌≡◌, ℕ, ◌+◌, ◌<◌, ◌≤◌, List, [], ◌∷◌, ◌++◌, length, take, slice_get, true, Some, None}
 use Rattle.semantics.specs.Texts.{Range, pairs_within}
 use Rattle.semantics.specs.Joins.{Join, push}
 use Rattle.semantics.specs.Histories.{History, DeclaredJoin, joins_of, base_of}
@@ -10,9 +10,9 @@ use Rattle.layering.specs.Reached.{reached, ReachesNoneBelow}
 use Rattle.layering.specs.Parts.{IsWithin}
 use Rattle.kept_ranges.specs.Sound.{KeptRange}
 use Rattle.range_state.specs.Held.{forgotten}
-use Rattle.range_state.specs.Ready.{StandsAt}
+use Rattle.range_state.specs.Ready.{StandsAt, pending_meets}
 use Rattle.source_changes.specs.Asking.{AreBareThroughout}
-use Rattle.range_serving.specs.Serving.{WasAdvanced}
+use Rattle.range_serving.specs.Serving.{WasAdvanced, WasMended}
 use Rattle.cell_slots.specs.declared.slot.Part.{Part}
 use Rattle.cell_slots.specs.declared.slot.Slot.{Slot}
 use Rattle.cell_slots.specs.declared.slot.Slot.TheVariants.{Free, Held}
@@ -29,6 +29,10 @@ row_count h p range rank j = length (pairs_within range (out j (below (take p h)
 -- the whole range as one part, which a cell holds
 abbrev pub one_part : Range → ℕ → List Part
 one_part range id = record { range = range; cell = Some id } ∷ []
+
+-- the whole range as one part, which no cell holds
+abbrev pub one_gap : Range → List Part
+one_gap range = record { range = range; cell = None } ∷ []
 
 -- a ready range is covered by its cell alone, and no cell changes
 pub record CoversReady (before after : Holdings) (id : ℕ) (range : Range) (parts : List Part) : Type 0 where
@@ -53,7 +57,7 @@ pub record StaysReady (before after : Holdings) (id at p : ℕ) (range : Range) 
   pub is : IsReadySlot after.slots id at p range s
   pub used : after.used ≡ before.used ++ id ∷ []
 
--- a slot holds a kept range of the join at a position that stood at q, below p, when the ranges of its needs were bare from there on to p, and that holds a part
+-- the slot with a number holds a kept range of the join at a position: it stands at q, below p, the ranges of its needs are bare from q to p, and a part lies within it
 pub record StandsBehind (h : History) (slots : List Slot) (id at q p : ℕ) (part : Range) (s : KeptRange) : Type 0 where
   pub held : slice_get slots id ≡ Some (Held at s)
   pub whole : IsWithin part s.range
@@ -66,6 +70,19 @@ pub record HoldsAdvanced (h : History) (slots : List Slot) (id at q p : ℕ) (pa
   pub state : KeptRange
   pub held : slice_get slots id ≡ Some (Held at state)
   pub was : WasAdvanced h q p part s state before after
+
+-- the slot with a number holds a kept range of the join at a position: it stands at p, something pending meets a part, and the part lies within it
+pub record StandsPending (slots : List Slot) (id at p : ℕ) (part : Range) (s : KeptRange) : Type 0 where
+  pub held : slice_get slots id ≡ Some (Held at s)
+  pub whole : IsWithin part s.range
+  pub stands : StandsAt p s
+  pub meets : pending_meets s part ≡ true
+
+-- what such a slot held was mended for the part: the slot holds what that leaves
+pub record HoldsMended (h : History) (slots : List Slot) (id at p : ℕ) (part : Range) (s : KeptRange) (before after : ℕ) : Type 0 where
+  pub state : KeptRange
+  pub held : slice_get slots id ≡ Some (Held at state)
+  pub was : WasMended h p part s state before after
 
 -- a range may be kept: its join is a push join, a cell is free, and none keeps a part of the range
 pub record MayKeep (slots : List Slot) (at : ℕ) (j : Join) (range : Range) : Type 0 where
@@ -86,11 +103,12 @@ pub record Covers (h : History) (before after : Holdings) (at rank p : ℕ) (ran
   pub reserved : (j : Join) → StandsAs h p at rank j → is_open range ≡ true → MayKeep before.slots at j range → Reserves before after at rank j range parts
   pub pulled : (j : Join) → StandsAs h p at rank j → (j.kind ≡ push → ⊥) → after ≡ before
 
--- a part is read: with one step and its rows where its cell can be read over it, which stays then; what its cell holds is advanced where it stands behind; and a cell that was reserved for it holds it afterwards
+-- a part is read: with one step and its rows where its cell can be read over it, which stays then; what its cell holds is advanced where it stands behind, and mended where something is pending there that meets the part; and a cell that was reserved for it holds it afterwards
 pub record Took (h : History) (before after : Holdings) (at rank p : ℕ) (part : Part) (rows added : ℕ) : Type 0 where
   pub ready : (id : ℕ) (s : KeptRange) → part.cell ≡ Some id → s.rank ≡ rank → IsReadySlot before.slots id at p part.range s → added ≡ 1 + rows
   pub stays : (id : ℕ) (s : KeptRange) → part.cell ≡ Some id → s.rank ≡ rank → IsReadySlot before.slots id at p part.range s → StaysReady before after id at p part.range s
   pub behind : (id q : ℕ) (s : KeptRange) → part.cell ≡ Some id → s.rank ≡ rank → StandsBehind h before.slots id at q p part.range s → HoldsAdvanced h after.slots id at q p part.range s (1 + rows) added
+  pub pending : (id : ℕ) (s : KeptRange) → part.cell ≡ Some id → s.rank ≡ rank → StandsPending before.slots id at p part.range s → HoldsMended h after.slots id at p part.range s (1 + rows) added
   pub held : (id : ℕ) (j : Join) → part.cell ≡ Some id → slice_get before.slots id ≡ Some (Held at (forgotten j rank part.range)) → KeepsJust before after rank at p part.range
 
 -- reading what joins give: nothing where there are none, and of one alone, by the position of its declaration, what that one costs and leaves

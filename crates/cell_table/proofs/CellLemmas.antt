@@ -1,8 +1,9 @@
 -- Parts that get cells.
-use Rattle.std.proofs.Common.{◌≡◌, ℕ, ◌+◌, ◌<◌, true, false, List, [], ◌∷◌, ◌++◌, length, map, take, drop, get_or, slice_get, slice_set, Contains, Option, Some, None, ◌⊎◌, inl, inr, refl, sym, ap, ◌∙◌, subst}
+use Rattle.std.proofs.Common.{◌≡◌, ℕ, true, false, List, [], ◌∷◌, ◌++◌, length, map, slice_get, slice_set, Contains, Option, Some, None, ◌⊎◌, inl, inr, refl, sym, ap, ◌∙◌, subst}
+use Rattle.std.specs.Option.{option_and_then}
 use Rattle.std.proofs.lemmas.Bool.{and_from, cases_eq, false_from_ne_true}
-use Rattle.std.proofs.lemmas.Option.{same_Some, slice_get_within}
-use Rattle.std.proofs.lemmas.List.{drop_more, length-set, map-id, take-append-drop}
+use Rattle.std.proofs.lemmas.Option.{none-some, same_Some, slice_get_within}
+use Rattle.std.proofs.lemmas.List.{length-set}
 use Rattle.semantics.specs.Texts.{Range, Text, is_range, table_of}
 use Rattle.semantics.specs.Joins.{Join}
 use Rattle.semantics.proofs.MemberLemmas.{Has, contains_from_has, has_append_left, has_append_right, has_mapped}
@@ -18,12 +19,13 @@ use Rattle.range_set.proofs.JoinedLemmas.{joined_are_of_table, joined_has_in}
 use Rattle.cell_slots.specs.declared.slot.Slot.{Slot}
 use Rattle.cell_slots.specs.declared.slot.Slot.TheVariants.{Free, Lent, Held}
 use Rattle.cell_slots.specs.declared.slot.Part.{Part}
-use Rattle.cell_slots.specs.Slots.{Frame, HasFree, Holdings, IsLeft, MeetsNone, place_of}
-use Rattle.cell_slots.specs.Spending.{CoversReady, Reserves, one_part}
+use Rattle.cell_slots.specs.Places.{KeepsPlace}
+use Rattle.cell_slots.specs.Slots.{Frame, HasFree, Holdings, IsLeft, MeetsNone, place_at, place_of}
+use Rattle.cell_slots.specs.Spending.{CoversReady, Reserves, one_gap, one_part}
 use Rattle.cell_slots.proofs.FrameLemmas.{get-set_other, get-set_same}
-use Rattle.cell_table.specs.Stores.{AreOfTable, IsGap, Store, one_gap}
+use Rattle.cell_slots.proofs.PlaceLemmas.{one_place, place_from_slot}
+use Rattle.cell_table.specs.Stores.{AreOfTable, IsGap, Store}
 use Rattle.cell_table.specs.Moves.{GetCells, GetsCell, GetsCellAs, IsReserved, ReservesParts}
-use Rattle.cell_table.proofs.SlotLemmas.{keeper, place_from_slot}
 use Rattle.cell_table.proofs.PartLemmas.{part}
 
 -- ---- one after another
@@ -50,10 +52,11 @@ pub record Grows (at rank : ℕ) (j : Join) (parts : List Part) (before after : 
   pub same_used : after.holdings.used ≡ before.holdings.used
   pub same_setting : after.holdings.setting ≡ before.holdings.setting
   pub same_limit : after.limit ≡ before.limit
+  pub same_book : after.book ≡ before.book
   pub each : (id : ℕ) → (slice_get after.holdings.slots id ≡ slice_get before.holdings.slots id) ⊎ IsFor at rank j parts before.holdings.slots after.holdings.slots id
 
 grows_not : (at rank : ℕ) (j : Join) (parts : List Part) (store : Store) → Grows at rank j parts store store
-grows_not at rank j parts store = record { same_count = refl; same_used = refl; same_setting = refl; same_limit = refl; each = λ id. inl refl }
+grows_not at rank j parts store = record { same_count = refl; same_used = refl; same_setting = refl; same_limit = refl; same_book = refl; each = λ id. inl refl }
 
 set_by : (at rank : ℕ) (j : Join) (x : Part) (slots : List Slot) (id other : ℕ) → slice_get slots id ≡ Some Free → (other ≡ id) ⊎ (other ≡ id → ⊥) →
     (slice_get (slice_set slots id (Held at (forgotten j rank x.range))) other ≡ slice_get slots other) ⊎ IsFor at rank j (x ∷ []) slots (slice_set slots id (Held at (forgotten j rank x.range))) other
@@ -73,6 +76,7 @@ grows_by at rank j x a b None (Some id) g = subst (λ (s : Store). Grows at rank
   same_used = refl;
   same_setting = refl;
   same_limit = refl;
+  same_book = refl;
   each = λ other. set_by at rank j x a.holdings.slots id other g.0 (cases_eq other id);
 })
 grows_by at rank j x a b None None g = subst (λ (s : Store). Grows at rank j (x ∷ []) a s) (sym g.1) (grows_not at rank j (x ∷ []) a)
@@ -100,6 +104,7 @@ grows_from at rank j a b (x ∷ xs) (y ∷ ys) h =
       same_used = rest.same_used ∙ first.same_used;
       same_setting = rest.same_setting ∙ first.same_setting;
       same_limit = rest.same_limit ∙ first.same_limit;
+      same_book = rest.same_book ∙ first.same_book;
       each = λ id. each_then at rank j x xs a.holdings.slots h.0.holdings.slots b.holdings.slots id (first.each id) (rest.each id);
     }
 
@@ -150,34 +155,30 @@ apart_before range xs zs x y j h = false_from_ne_true (meets y.range x.range) (�
 -- ---- the next part
 
 -- the place of a slot that holds a part
-held_place : (at rank : ℕ) (j : Join) (r kept : Range) (a : ℕ) (slots : List Slot) (id : ℕ) (slot : Slot) → slice_get slots id ≡ Some (Held at (forgotten j rank r)) → slice_get slots id ≡ Some slot → place_of slot ≡ Some (a, kept) → r ≡ kept
-held_place at rank j r kept a slots id slot holds stands place =
-    let e : Some (at, r) ≡ Some (a, kept) = ap place_of (same_Some (Held at (forgotten j rank r)) slot (sym holds ∙ stands)) ∙ place in
-    ap (λ (p : ℕ × Range). p.1) (same_Some (at, r) (a, kept) e)
+held_place : (at rank : ℕ) (j : Join) (r kept : Range) (slots : List Slot) (id : ℕ) → slice_get slots id ≡ Some (Held at (forgotten j rank r)) → KeepsPlace (place_at slots) id at kept → r ≡ kept
+held_place at rank j r kept slots id holds keeps = (one_place (place_at slots) id at at r kept (place_from_slot place_of slots id (Held at (forgotten j rank r)) holds) keeps).1
 
-none_by : (at rank : ℕ) (j : Join) (range : Range) (xs zs : List Part) (x : Part) (a b : List Slot) (id : ℕ) (slot : Slot) (kept : Range) → JoinTo range (ranges (xs ++ x ∷ zs)) → MeetsNone a at x.range → slice_get b id ≡ Some slot → place_of slot ≡ Some (at, kept) →
+none_by : (at rank : ℕ) (j : Join) (range : Range) (xs zs : List Part) (x : Part) (a b : List Slot) (id : ℕ) (kept : Range) → JoinTo range (ranges (xs ++ x ∷ zs)) → MeetsNone a at x.range → KeepsPlace (place_at b) id at kept →
     (slice_get b id ≡ slice_get a id) ⊎ IsFor at rank j xs a b id → meets kept x.range ≡ false
-none_by at rank j range xs zs x a b id slot kept join none stands place (inl same) = none id slot kept (sym same ∙ stands) place
-none_by at rank j range xs zs x a b id slot kept join none stands place (inr f) =
-    subst (λ (r : Range). meets r x.range ≡ false) (held_place at rank j f.one.range kept at b id slot f.holds stands place) (apart_before range xs zs x f.one join f.among)
+none_by at rank j range xs zs x a b id kept join none keeps (inl same) = none id kept (ap (option_and_then place_of) (sym same) ∙ keeps)
+none_by at rank j range xs zs x a b id kept join none keeps (inr f) =
+    subst (λ (r : Range). meets r x.range ≡ false) (held_place at rank j f.one.range kept b id f.holds keeps) (apart_before range xs zs x f.one join f.among)
 
 -- the next gap is still one
 pub gap_stays : (at rank : ℕ) (j : Join) (range : Range) (xs zs : List Part) (x : Part) (a b : Store) → JoinTo range (ranges (xs ++ x ∷ zs)) → Grows at rank j xs a b → IsGap a.holdings.slots at x.range → IsGap b.holdings.slots at x.range
 gap_stays at rank j range xs zs x a b join grows gap = record {
   not_empty = gap.not_empty;
-  apart = λ id slot kept stands place. none_by at rank j range xs zs x a.holdings.slots b.holdings.slots id slot kept join gap.apart stands place (grows.each id);
+  apart = λ id kept keeps. none_by at rank j range xs zs x a.holdings.slots b.holdings.slots id kept join gap.apart keeps (grows.each id);
 }
 
-table_by : (at rank : ℕ) (j : Join) (name : Text) (xs : List Part) (a b : List Slot) (id : ℕ) (slot : Slot) (kept : Range) → AreOfTable a at name → ((y : Part) → Has xs y → table_of y.range.low ≡ name) → slice_get b id ≡ Some slot → place_of slot ≡ Some (at, kept) →
+table_by : (at rank : ℕ) (j : Join) (name : Text) (xs : List Part) (a b : List Slot) (id : ℕ) (kept : Range) → AreOfTable a at name → ((y : Part) → Has xs y → table_of y.range.low ≡ name) → KeepsPlace (place_at b) id at kept →
     (slice_get b id ≡ slice_get a id) ⊎ IsFor at rank j xs a b id → table_of kept.low ≡ name
-table_by at rank j name xs a b id slot kept old these stands place (inl same) = old id kept (place_from_slot a id slot (sym same ∙ stands) ∙ place)
-table_by at rank j name xs a b id slot kept old these stands place (inr f) =
-    ap (λ (r : Range). table_of r.low) (sym (held_place at rank j f.one.range kept at b id slot f.holds stands place)) ∙ these f.one f.among
+table_by at rank j name xs a b id kept old these keeps (inl same) = old id kept (ap (option_and_then place_of) (sym same) ∙ keeps)
+table_by at rank j name xs a b id kept old these keeps (inr f) = ap (λ (r : Range). table_of r.low) (sym (held_place at rank j f.one.range kept b id f.holds keeps)) ∙ these f.one f.among
 
 -- all places are still of the table
 pub table_stays : (at rank : ℕ) (j : Join) (name : Text) (xs : List Part) (a b : Store) → AreOfTable a.holdings.slots at name → ((y : Part) → Has xs y → table_of y.range.low ≡ name) → Grows at rank j xs a b → AreOfTable b.holdings.slots at name
-table_stays at rank j name xs a b old these grows = λ id kept h.
-    let k = keeper b.holdings.slots id at kept h in table_by at rank j name xs a.holdings.slots b.holdings.slots id k.slot kept old these k.stands k.place (grows.each id)
+table_stays at rank j name xs a b old these grows = λ id kept keeps. table_by at rank j name xs a.holdings.slots b.holdings.slots id kept old these keeps (grows.each id)
 
 -- ---- what follows
 
@@ -246,11 +247,16 @@ free_not_left Free e left = left
 free_not_left (Lent at range) e left = cc
 free_not_left (Held at s) e left = cc
 
+frame_places_by : (a b : List Slot) (at rank : ℕ) (j : Join) (range : Range) (id : ℕ) (place : ℕ × Range) → place_at a id ≡ Some place → (slice_get b id ≡ slice_get a id) ⊎ IsReserved a b id at rank j range → place_at b id ≡ Some place
+frame_places_by a b at rank j range id place kept (inl same) = ap (λ o. option_and_then place_of o) same ∙ kept
+frame_places_by a b at rank j range id place kept (inr r) = absurd (none-some place (sym (ap (λ o. option_and_then place_of o) r.free) ∙ kept))
+
 -- reserving parts leaves cells as a reader of the lowest rank does
 pub frame_from : (a b : Holdings) (at rank : ℕ) (j : Join) (range : Range) → ReservesParts a b at rank j range → Frame 0 a b
 frame_from a b at rank j range r = record {
   same_count = r.same_count;
   left = λ id slot was left. frame_left_by a.slots b.slots at rank j range id slot was (λ e. free_not_left slot e left) (r.each id);
+  places = λ id place kept. frame_places_by a.slots b.slots at rank j range id place kept (r.each id);
   lent = λ id place kept is. frame_lent_by a.slots b.slots at rank j range id place kept is (r.each id);
   unused = λ e. r.same_used;
   same_setting = r.same_setting;
@@ -262,13 +268,6 @@ reserves_none a at rank j range = record { same_count = refl; same_used = refl; 
 
 -- ---- in a loop
 
--- a list by what came before one of its elements
-pub at_turn : {A : Type 0} (all before : List A) (x : A) → map (λ (y : A). y) before ≡ take (length before) all → (length before < length all) × (x ≡ get_or all (length before) x) → all ≡ before ++ x ∷ drop (length before + 1) all
-at_turn {A} all before x so_far turn =
-    let first : before ≡ take (length before) all = sym (map-id before) ∙ so_far in
-    let rest : drop (length before) all ≡ x ∷ drop (length before + 1) all = drop_more all (length before) x turn.0 ∙ ap (λ (y : A). y ∷ drop (length before + 1) all) (sym turn.1) in
-    sym (take-append-drop (length before) all) ∙ ap (λ (xs : List A). xs ++ drop (length before) all) (sym first) ∙ ap (λ (xs : List A). before ++ xs) rest
-
 -- the parts so far, of which some are reserved
 pub so_far : (at rank : ℕ) (j : Join) (range : Range) (all xs zs ys : List Part) (a b : Store) → all ≡ xs ++ zs → JoinTo range (ranges all) → GetCells at rank j a xs ys b → ReservesParts a.holdings b.holdings at rank j range
 so_far at rank j range all xs zs ys a b is join got =
@@ -278,6 +277,10 @@ so_far at rank j range all xs zs ys a b is join got =
 -- the limit stays
 pub limit_stays : (at rank : ℕ) (j : Join) (xs ys : List Part) (a b : Store) → GetCells at rank j a xs ys b → b.limit ≡ a.limit
 limit_stays at rank j xs ys a b got = (grows_from at rank j a b xs ys got).same_limit
+
+-- and so does the book
+pub book_stays : (at rank : ℕ) (j : Join) (xs ys : List Part) (a b : Store) → GetCells at rank j a xs ys b → b.book ≡ a.book
+book_stays at rank j xs ys a b got = (grows_from at rank j a b xs ys got).same_book
 
 -- the next part, if no cell holds it, is a gap
 pub next_gap : (at rank : ℕ) (j : Join) (range : Range) (all xs zs ys : List Part) (x : Part) (a b : Store) → all ≡ xs ++ x ∷ zs → JoinTo range (ranges all) → ((r : Range) → Contains all (part r None) → IsGap a.holdings.slots at r) →
@@ -297,14 +300,13 @@ next_table at rank j range all xs zs ys x a b is join range_is of_table got =
 
 -- ---- for the layers above
 
-reserved_of_table : (a b : List Slot) (at rank : ℕ) (j : Join) (range : Range) (id : ℕ) (slot : Slot) (kept : Range) → is_range range.low range.high ≡ true → AreOfTable a at (table_of range.low) → slice_get b id ≡ Some slot → place_of slot ≡ Some (at, kept) →
+reserved_of_table : (a b : List Slot) (at rank : ℕ) (j : Join) (range : Range) (id : ℕ) (kept : Range) → is_range range.low range.high ≡ true → AreOfTable a at (table_of range.low) → KeepsPlace (place_at b) id at kept →
     (slice_get b id ≡ slice_get a id) ⊎ IsReserved a b id at rank j range → table_of kept.low ≡ table_of range.low
-reserved_of_table a b at rank j range id slot kept range_is of_table stands place (inl same) = of_table id kept (place_from_slot a id slot (sym same ∙ stands) ∙ place)
-reserved_of_table a b at rank j range id slot kept range_is of_table stands place (inr r) =
-    ap (λ (t : Range). table_of t.low) (sym (held_place at rank j r.part kept at b id slot r.holds stands place)) ∙
+reserved_of_table a b at rank j range id kept range_is of_table keeps (inl same) = of_table id kept (ap (option_and_then place_of) (sym same) ∙ keeps)
+reserved_of_table a b at rank j range id kept range_is of_table keeps (inr r) =
+    ap (λ (t : Range). table_of t.low) (sym (held_place at rank j r.part kept b id r.holds keeps)) ∙
     within_table range r.part.low range_is (and_from _ _ r.inside.begins (below_up_to r.part.low r.part.high range.high r.not_empty r.inside.ends))
 
 -- where parts of a range are reserved, all places of its join stay of its table
 pub reserved_stay_of_table : (a b : Holdings) (at rank : ℕ) (j : Join) (range : Range) → is_range range.low range.high ≡ true → AreOfTable a.slots at (table_of range.low) → ReservesParts a b at rank j range → AreOfTable b.slots at (table_of range.low)
-reserved_stay_of_table a b at rank j range range_is of_table r = λ id kept h.
-    let k = keeper b.slots id at kept h in reserved_of_table a.slots b.slots at rank j range id k.slot kept range_is of_table k.stands k.place (r.each id)
+reserved_stay_of_table a b at rank j range range_is of_table r = λ id kept keeps. reserved_of_table a.slots b.slots at rank j range id kept range_is of_table keeps (r.each id)

@@ -1,18 +1,19 @@
 -- Kept ranges that are evicted.
-use Rattle.std.proofs.Common.{◌≡◌, ◌≢◌, ℕ, zero, suc, ◌+◌, ◌^◌, ◌<◌, ◌≤◌, Bool, true, false, cond, not, ◌==◌, nat_le, eq-eqb, List, [], ◌∷◌, ◌++◌, length, get_or, slice_get, slice_set, Some, ◌⊎◌, inl, inr, refl, sym, ◌∙◌, subst, arith}
+use Rattle.std.proofs.Common.{◌≡◌, ◌≢◌, ℕ, zero, suc, ◌+◌, ◌^◌, ◌<◌, ◌≤◌, Bool, true, false, cond, not, ◌==◌, nat_le, eq-eqb, List, [], ◌∷◌, ◌++◌, length, take, get_or, slice_get, slice_set, Result, Ok, Err, OnOk, Option, Some, None, ◌⊎◌, inl, inr, refl, sym, ap, ◌∙◌, subst, arith}
 use Rattle.std.proofs.lemmas.Bool.{cases_eq, false≢true, not-true}
-use Rattle.std.proofs.lemmas.Option.{slice_get_within}
-use Rattle.std.proofs.lemmas.List.{length-set}
+use Rattle.std.proofs.lemmas.Option.{none-some, slice_get_within}
+use Rattle.std.proofs.lemmas.List.{length-set, take_more}
 use Rattle.std.proofs.lemmas.List.Sums.{sum_by-cons}
+use Rattle.semantics.specs.Texts.{Range}
 use Rattle.semantics.proofs.MemberLemmas.{Has, has_append_cases, has_append_left, has_append_right, has_filter}
 use Rattle.kept_ranges.specs.Sound.{KeptRange}
-use Rattle.evict_book.specs.Books.{Used, total_weight, victims_of, weigh, with_use, without}
+use Rattle.evict_book.specs.Books.{Used, left_of, total_weight, victims_of, weigh, with_use, without}
 use Rattle.evict_book.proofs.BookLemmas.{first_goes, none_go}
 use Rattle.cell_slots.specs.declared.slot.Slot.{Slot}
-use Rattle.cell_slots.specs.declared.slot.Slot.TheVariants.{Free, Held}
+use Rattle.cell_slots.specs.declared.slot.Slot.TheVariants.{Free, Lent, Held}
 use Rattle.cell_slots.proofs.FrameLemmas.{get-set_same, get-set_other}
-use Rattle.cell_table.specs.Stores.{Store}
-use Rattle.cell_table.specs.Moves.{Evicts, IsEvicted, IsHeld, IsTooHeavy}
+use Rattle.cell_table.specs.Stores.{Store, unused, with_book, without_cell}
+use Rattle.cell_table.specs.Moves.{Evicts, IsEvicted, IsHeld, IsTooHeavy, SettlesFirst, freed, freed_all, freed_by, settled, settled_all, settled_by, weighed}
 
 -- nothing is evicted
 pub evicts_none : (slots : List Slot) → Evicts slots slots
@@ -37,8 +38,56 @@ evicted_by slots id held other (inr apart) = inl (get-set_other slots id other F
 pub evicts_one : (slots : List Slot) (id : ℕ) → IsHeld slots id → Evicts slots (slice_set slots id Free)
 evicts_one slots id held = record { same_count = length-set slots id Free; each = λ other. evicted_by slots id held other (cases_eq other id) }
 
+-- ---- one after another
+
+not_held_free : (at : ℕ) (s : KeptRange) → Some Free ≡ Some (Held at s) → ⊥
+not_held_free at s e = cc
+
+not_held_lent : (at other : ℕ) (range : Range) (s : KeptRange) → Some (Lent at range) ≡ Some (Held other s) → ⊥
+not_held_lent at other range s e = cc
+
+freed_where : (o : Option Slot) (id : ℕ) (before after : Store) → slice_get before.holdings.slots id ≡ o → (IsHeld before.holdings.slots id → after ≡ without_cell id before) → ((IsHeld before.holdings.slots id → ⊥) → after ≡ before) →
+    after ≡ freed_by o id before
+freed_where None id before after is held none = none (λ h. none-some (Held h.at h.state) (sym is ∙ h.held))
+freed_where (Some Free) id before after is held none = none (λ h. not_held_free h.at h.state (sym is ∙ h.held))
+freed_where (Some (Lent at range)) id before after is held none = none (λ h. not_held_lent at h.at range h.state (sym is ∙ h.held))
+freed_where (Some (Held at s)) id before after is held none = held (record { at = at; state = s; held = is })
+
+-- a cell is freed where it holds a kept range
+freed_from : (id : ℕ) (before after : Store) → (IsHeld before.holdings.slots id → after ≡ without_cell id before) → ((IsHeld before.holdings.slots id → ⊥) → after ≡ before) → after ≡ freed id before
+freed_from id before after held none = freed_where (slice_get before.holdings.slots id) id before after refl held none
+
+-- one more is freed
+freed_more : (ids : List ℕ) (id : ℕ) (before : Store) → freed_all (ids ++ id ∷ []) before ≡ freed id (freed_all ids before)
+freed_more [] id before = refl
+freed_more (x ∷ xs) id before = freed_more xs id (freed x before)
+
+settled_where : (o : Option Slot) (id : ℕ) (before after : Store) → slice_get before.holdings.slots id ≡ o → ((at : ℕ) (s : KeptRange) → slice_get before.holdings.slots id ≡ Some (Held at s) → after ≡ weighed id (length s.kept.rows) before) →
+    ((IsHeld before.holdings.slots id → ⊥) → after ≡ before) → after ≡ settled_by o id before
+settled_where None id before after is held none = none (λ h. none-some (Held h.at h.state) (sym is ∙ h.held))
+settled_where (Some Free) id before after is held none = none (λ h. not_held_free h.at h.state (sym is ∙ h.held))
+settled_where (Some (Lent at range)) id before after is held none = none (λ h. not_held_lent at h.at range h.state (sym is ∙ h.held))
+settled_where (Some (Held at s)) id before after is held none = held at s is
+
+-- a cell is settled where it holds a kept range
+settled_from : (id : ℕ) (before after : Store) → ((at : ℕ) (s : KeptRange) → slice_get before.holdings.slots id ≡ Some (Held at s) → after ≡ weighed id (length s.kept.rows) before) →
+    ((IsHeld before.holdings.slots id → ⊥) → after ≡ before) → after ≡ settled id before
+settled_from id before after held none = settled_where (slice_get before.holdings.slots id) id before after refl held none
+
+-- one more is settled
+settled_more : (ids : List ℕ) (id : ℕ) (before : Store) → settled_all (ids ++ id ∷ []) before ≡ settled id (settled_all ids before)
+settled_more [] id before = refl
+settled_more (x ∷ xs) id before = settled_more xs id (settled x before)
+
+-- the book is told of a cell, and the cells that it names are freed
+pub weighed_from : (before mid after : Store) (victims : List ℕ) (id rows count : ℕ) → victims ≡ victims_of before.limit (with_use id rows before.book) → mid ≡ with_book (left_of before.limit (with_use id rows before.book)) before →
+    after ≡ freed_all victims mid → rows ≡ count → after ≡ weighed id count before
+weighed_from before mid after victims id rows count named told gone same =
+    gone ∙ ap (λ (ids : List ℕ). freed_all ids mid) named ∙ ap (freed_all (victims_of before.limit (with_use id rows before.book))) told ∙ ap (λ (n : ℕ). weighed id n before) same
+
 -- of some cells kept ranges are evicted, and nothing else changes
 pub record EvictsOf (ids : List ℕ) (before after : Store) : Type 0 where
+  pub freed : after ≡ freed_all ids before
   pub evicts : Evicts before.holdings.slots after.holdings.slots
   pub others : (id : ℕ) → (Has ids id → ⊥) → slice_get after.holdings.slots id ≡ slice_get before.holdings.slots id
   pub gone : (id : ℕ) → Has ids id → IsHeld before.holdings.slots id → slice_get after.holdings.slots id ≡ Some Free
@@ -53,26 +102,27 @@ stays_by a b id free (inr e) = e.free
 pub free_stays : (a b : List Slot) (id : ℕ) → Evicts a b → slice_get a id ≡ Some Free → slice_get b id ≡ Some Free
 free_stays a b id h free = stays_by a b id free (h.each id)
 
-freed_by : (a b c : List Slot) (id : ℕ) → IsHeld a id → Evicts b c → (IsHeld b id → slice_get c id ≡ Some Free) → (slice_get b id ≡ slice_get a id) ⊎ IsEvicted a b id → slice_get c id ≡ Some Free
-freed_by a b c id held evicts gone (inl same) = gone (record { at = held.at; state = held.state; held = same ∙ held.held })
-freed_by a b c id held evicts gone (inr e) = free_stays b c id evicts e.free
+freed_since : (a b c : List Slot) (id : ℕ) → IsHeld a id → Evicts b c → (IsHeld b id → slice_get c id ≡ Some Free) → (slice_get b id ≡ slice_get a id) ⊎ IsEvicted a b id → slice_get c id ≡ Some Free
+freed_since a b c id held evicts gone (inl same) = gone (record { at = held.at; state = held.state; held = same ∙ held.held })
+freed_since a b c id held evicts gone (inr e) = free_stays b c id evicts e.free
 
 gone_by : (ids : List ℕ) (id q : ℕ) (a b c : Store) → EvictsOf ids a b → Evicts b.holdings.slots c.holdings.slots → (IsHeld b.holdings.slots id → slice_get c.holdings.slots id ≡ Some Free) → IsHeld a.holdings.slots q → Has ids q ⊎ Has (id ∷ []) q →
     slice_get c.holdings.slots q ≡ Some Free
 gone_by ids id q a b c h evicts gone held (inl g) = free_stays b.holdings.slots c.holdings.slots q evicts (h.gone q g held)
 gone_by ids id q a b c h evicts gone held (inr (inl e)) =
-    freed_by a.holdings.slots b.holdings.slots c.holdings.slots q held evicts (subst (λ (k : ℕ). IsHeld b.holdings.slots k → slice_get c.holdings.slots k ≡ Some Free) e gone) (h.evicts.each q)
+    freed_since a.holdings.slots b.holdings.slots c.holdings.slots q held evicts (subst (λ (k : ℕ). IsHeld b.holdings.slots k → slice_get c.holdings.slots k ≡ Some Free) e gone) (h.evicts.each q)
 gone_by ids id q a b c h evicts gone held (inr (inr g)) = absurd g
 
 -- none of them
 pub evicts_of_none : (store : Store) → EvictsOf [] store store
-evicts_of_none store = record { evicts = evicts_none store.holdings.slots; others = λ id h. refl; gone = λ id h held. absurd h; same_used = refl; same_limit = refl }
+evicts_of_none store = record { freed = refl; evicts = evicts_none store.holdings.slots; others = λ id h. refl; gone = λ id h held. absurd h; same_used = refl; same_limit = refl }
 
 -- one more
 pub evicts_of_more : (ids more : List ℕ) (id : ℕ) (a b c : Store) → more ≡ ids ++ id ∷ [] → EvictsOf ids a b → Evicts b.holdings.slots c.holdings.slots →
     ((other : ℕ) → other ≢ id → slice_get c.holdings.slots other ≡ slice_get b.holdings.slots other) → (IsHeld b.holdings.slots id → slice_get c.holdings.slots id ≡ Some Free) →
-    c.holdings.used ≡ b.holdings.used → c.limit ≡ b.limit → EvictsOf more a c
-evicts_of_more ids more id a b c is h evicts others gone used limit = subst (λ (xs : List ℕ). EvictsOf xs a c) (sym is) (record {
+    c.holdings.used ≡ b.holdings.used → c.limit ≡ b.limit → (IsHeld b.holdings.slots id → c ≡ without_cell id b) → ((IsHeld b.holdings.slots id → ⊥) → c ≡ b) → EvictsOf more a c
+evicts_of_more ids more id a b c is h evicts others gone used limit held none = subst (λ (xs : List ℕ). EvictsOf xs a c) (sym is) (record {
+  freed = freed_from id b c held none ∙ ap (freed id) h.freed ∙ sym (freed_more ids id a);
   evicts = evicts_then a.holdings.slots b.holdings.slots c.holdings.slots h.evicts evicts;
   others = λ q none. others q (λ e. none (has_append_right ids (id ∷ []) q (inl (sym e)))) ∙ h.others q (λ g. none (has_append_left ids (id ∷ []) q g));
   gone = λ q g held. gone_by ids id q a b c h evicts gone held (has_append_cases ids (id ∷ []) q g);
@@ -82,8 +132,9 @@ evicts_of_more ids more id a b c is h evicts others gone used limit = subst (λ 
 
 -- ---- settling
 
--- kept ranges are evicted; where one cell alone was used, what it holds stays if it is light enough, and goes, with the first cell, if it is too heavy
+-- the first cells that were used are settled; where one cell alone was used, what it holds stays if it is light enough, and goes, with the first cell, if it is too heavy
 pub record Settles (count : ℕ) (before after : Store) : Type 0 where
+  pub settled : after ≡ settled_all (take count before.holdings.used) before
   pub evicts : Evicts before.holdings.slots after.holdings.slots
   pub same_used : after.holdings.used ≡ before.holdings.used
   pub spared : (id at : ℕ) (s : KeptRange) → before.holdings.used ≡ id ∷ [] → slice_get before.holdings.slots id ≡ Some (Held at s) → length s.kept.rows + 1 ≤ before.limit → slice_get after.holdings.slots id ≡ Some (Held at s)
@@ -92,7 +143,7 @@ pub record Settles (count : ℕ) (before after : Store) : Type 0 where
 
 -- nothing is settled
 pub settles_none : (store : Store) → Settles 0 store store
-settles_none store = record { evicts = evicts_none store.holdings.slots; same_used = refl; spared = λ id at s one held light. held; heavy = λ id at s some one held heavy. absurd (omega arith); same_limit = refl }
+settles_none store = record { settled = refl; evicts = evicts_none store.holdings.slots; same_used = refl; spared = λ id at s one held light. held; heavy = λ id at s some one held heavy. absurd (omega arith); same_limit = refl }
 
 alone : (used : List ℕ) (id index : ℕ) → used ≡ id ∷ [] → index < length used → get_or used index 0 ≡ id
 alone used id index one less = subst (λ (xs : List ℕ). index < length xs → get_or xs index 0 ≡ id) (sym one) (by index) less
@@ -109,8 +160,11 @@ heavy_by a b c id at s held evicts goes (inr e) = free_stays b c id evicts e.fre
 -- one more cell is settled
 pub settles_more : (a b c : Store) (index cell : ℕ) → Settles index a b → index < length a.holdings.used → cell ≡ get_or a.holdings.used index 0 → Evicts b.holdings.slots c.holdings.slots → c.holdings.used ≡ b.holdings.used → c.limit ≡ b.limit →
     ((at : ℕ) (s : KeptRange) → slice_get b.holdings.slots cell ≡ Some (Held at s) → length s.kept.rows + 1 ≤ b.limit → slice_get c.holdings.slots cell ≡ Some (Held at s)) →
-    ((at : ℕ) (s : KeptRange) → slice_get b.holdings.slots cell ≡ Some (Held at s) → IsTooHeavy b.limit s → slice_get c.holdings.slots cell ≡ Some Free) → Settles (index + 1) a c
-settles_more a b c index cell h less is evicts used limit spared heavy = record {
+    ((at : ℕ) (s : KeptRange) → slice_get b.holdings.slots cell ≡ Some (Held at s) → IsTooHeavy b.limit s → slice_get c.holdings.slots cell ≡ Some Free) →
+    ((at : ℕ) (s : KeptRange) → slice_get b.holdings.slots cell ≡ Some (Held at s) → c ≡ weighed cell (length s.kept.rows) b) → ((IsHeld b.holdings.slots cell → ⊥) → c ≡ b) → Settles (index + 1) a c
+settles_more a b c index cell h less is evicts used limit spared heavy held none = record {
+  settled = settled_from cell b c held none ∙ ap (settled cell) h.settled ∙ sym (settled_more (take index a.holdings.used) cell a)
+      ∙ ap (λ (ids : List ℕ). settled_all ids a) (ap (λ (k : ℕ). take index a.holdings.used ++ k ∷ []) is ∙ sym (take_more a.holdings.used index 0 less));
   evicts = evicts_then a.holdings.slots b.holdings.slots c.holdings.slots h.evicts evicts;
   same_used = used ∙ h.same_used;
   spared = λ id at s one held light.
@@ -126,6 +180,15 @@ settles_more a b c index cell h less is evicts used limit spared heavy = record 
       (h.evicts.each id);
   same_limit = limit ∙ h.same_limit;
 }
+
+-- the first ones are
+pub settles_first : (index : ℕ) (a b c : Store) → Settles index a b → c ≡ b → SettlesFirst a c
+settles_first index a b c h same = record { count = index; is = same ∙ h.settled }
+
+-- all are, and none was used then
+pub settled_unused : {A E : Type 0} (result : Result A E) (before told after : Store) → OnOk result (told ≡ settled_all before.holdings.used before) → after ≡ unused told → OnOk result (after ≡ unused (settled_all before.holdings.used before))
+settled_unused (Ok x) before told after is same = same ∙ ap unused is
+settled_unused (Err e) before told after is same = tt
 
 -- ---- what the book names
 

@@ -1,5 +1,5 @@
 -- Slots by their numbers, and the places that they keep.
-use Rattle.std.proofs.Common.{◌≡◌, ◌≢◌, ℕ, zero, suc, ◌+◌, ◌<◌, ◌≤◌, List, length, replicate, slice_get, slice_set, Option, Some, None, ◌⊎◌, inl, inr, refl, sym, ap, ◌∙◌, subst, arith}
+use Rattle.std.proofs.Common.{◌≡◌, ◌≢◌, ℕ, zero, suc, ◌+◌, ◌<◌, ◌≤◌, List, length, replicate, slice_get, Option, Some, None, ◌⊎◌, inl, inr, refl, sym, ap, ◌∙◌, subst, arith}
 use Rattle.std.specs.Option.{option_and_then}
 use Rattle.std.proofs.lemmas.Bool.{cases_eq}
 use Rattle.std.proofs.lemmas.Option.{none-some, same_Some, slice_get_within}
@@ -7,15 +7,12 @@ use Rattle.std.proofs.lemmas.List.{length-replicate}
 use Rattle.semantics.specs.Texts.{Range}
 use Rattle.cell_slots.specs.declared.slot.Slot.{Slot}
 use Rattle.cell_slots.specs.declared.slot.Slot.TheVariants.{Free}
-use Rattle.cell_slots.specs.Slots.{place_of, HasFree}
-use Rattle.cell_slots.proofs.FrameLemmas.{get-set_same, get-set_other}
-use Rattle.cell_table.specs.Stores.{AreSlots, KeepsPlace, place_at}
+use Rattle.cell_slots.specs.Places.{KeepsPlace}
+use Rattle.cell_slots.specs.Slots.{HasFree, place_at, place_of}
+use Rattle.cell_slots.proofs.PlaceLemmas.{place_from_slot}
+use Rattle.cell_table.specs.Stores.{AreSlots}
 
 -- ---- places
-
--- the place of a slot that stands at a number
-pub place_from_slot : (slots : List Slot) (id : ℕ) (slot : Slot) → slice_get slots id ≡ Some slot → place_at slots id ≡ place_of slot
-place_from_slot slots id slot h = ap (λ o. option_and_then place_of o) h
 
 -- a slot that keeps a place
 pub record Keeper (slots : List Slot) (id at : ℕ) (range : Range) : Type 0 where
@@ -23,37 +20,13 @@ pub record Keeper (slots : List Slot) (id at : ℕ) (range : Range) : Type 0 whe
   pub stands : slice_get slots id ≡ Some slot
   pub place : place_of slot ≡ Some (at, range)
 
-keeper_by : (slots : List Slot) (id at : ℕ) (range : Range) (o : Option Slot) → slice_get slots id ≡ o → KeepsPlace slots id at range → Keeper slots id at range
-keeper_by slots id at range None e h = absurd (none-some (at, range) (sym (ap (λ o. option_and_then place_of o) e) ∙ h))
-keeper_by slots id at range (Some slot) e h = record { slot = slot; stands = e; place = sym (place_from_slot slots id slot e) ∙ h }
+keeper_by : (slots : List Slot) (id at : ℕ) (range : Range) (o : Option Slot) → slice_get slots id ≡ o → KeepsPlace (place_at slots) id at range → Keeper slots id at range
+keeper_by slots id at range None e h = absurd (none-some (at, range) (sym (ap (option_and_then place_of) e) ∙ h))
+keeper_by slots id at range (Some slot) e h = record { slot = slot; stands = e; place = sym (place_from_slot place_of slots id slot e) ∙ h }
 
 -- where a place is kept, a slot keeps it
-pub keeper : (slots : List Slot) (id at : ℕ) (range : Range) → KeepsPlace slots id at range → Keeper slots id at range
+pub keeper : (slots : List Slot) (id at : ℕ) (range : Range) → KeepsPlace (place_at slots) id at range → Keeper slots id at range
 keeper slots id at range h = keeper_by slots id at range (slice_get slots id) refl h
-
--- one slot keeps one place
-pub one_place : (slots : List Slot) (id at other : ℕ) (r s : Range) → KeepsPlace slots id at r → KeepsPlace slots id other s → (at ≡ other) × (r ≡ s)
-one_place slots id at other r s h g = let e = same_Some (at, r) (other, s) (sym h ∙ g) in (ap (λ p. p.0) e, ap (λ p. p.1) e)
-
--- ---- a slot is set
-
--- the place that is kept where a slot is set
-pub place_set : (slots : List Slot) (id : ℕ) (slot : Slot) → id < length slots → place_at (slice_set slots id slot) id ≡ place_of slot
-place_set slots id slot less = place_from_slot (slice_set slots id slot) id slot (get-set_same slots id slot less)
-
--- every other one stays
-pub place_other : (slots : List Slot) (id other : ℕ) (slot : Slot) → other ≢ id → place_at (slice_set slots id slot) other ≡ place_at slots other
-place_other slots id other slot apart = ap (λ o. option_and_then place_of o) (get-set_other slots id other slot apart)
-
-same_by : (slots : List Slot) (id : ℕ) (old slot : Slot) → slice_get slots id ≡ Some old → place_of slot ≡ place_of old → (other : ℕ) → (other ≡ id) ⊎ (other ≡ id → ⊥) →
-    place_at (slice_set slots id slot) other ≡ place_at slots other
-same_by slots id old slot was same other (inl e) = subst (λ (q : ℕ). place_at (slice_set slots id slot) q ≡ place_at slots q) (sym e)
-    (place_set slots id slot (slice_get_within slots id old was) ∙ same ∙ sym (place_from_slot slots id old was))
-same_by slots id old slot was same other (inr apart) = place_other slots id other slot apart
-
--- where the slot that is set keeps the place of the old one, all places stay
-pub same_places : (slots : List Slot) (id : ℕ) (old slot : Slot) → slice_get slots id ≡ Some old → place_of slot ≡ place_of old → (other : ℕ) → place_at (slice_set slots id slot) other ≡ place_at slots other
-same_places slots id old slot was same other = same_by slots id old slot was same other (cases_eq other id)
 
 -- ---- free slots
 
@@ -79,7 +52,7 @@ replicated (suc n) x y zero h = same_Some x y h
 replicated (suc n) x y (suc k) h = replicated n x y k h
 
 -- free slots keep no place
-pub free_keep_none : (count id at : ℕ) (range : Range) → KeepsPlace (replicate count Free) id at range → ⊥
+pub free_keep_none : (count id at : ℕ) (range : Range) → KeepsPlace (place_at (replicate count Free)) id at range → ⊥
 free_keep_none count id at range h =
     let k = keeper (replicate count Free) id at range h in
     none-some (at, range) (ap place_of (replicated count Free k.slot id k.stands) ∙ k.place)

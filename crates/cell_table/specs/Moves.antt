@@ -1,18 +1,18 @@
 -- How the calls of a table of cells change what it holds.
-use Rattle.std.specs.Prelude.{◌≡◌, ◌⊎◌, ℕ, ◌+◌, ◌^◌, ◌<◌, ◌≤◌, ◌==◌, List, [], ◌∷◌, length, slice_get, true, Option, Some, None, if◌then◌else◌}
+use Rattle.std.specs.Prelude.{◌≡◌, ◌⊎◌, ℕ, ◌+◌, ◌^◌, ◌<◌, ◌≤◌, ◌==◌, List, [], ◌∷◌, length, take, slice_get, true, Option, Some, None, if◌then◌else◌}
 use Rattle.semantics.specs.Texts.{Range}
 use Rattle.semantics.specs.Joins.{Join}
-use Rattle.key_ranges.specs.Ranges.{is_open}
 use Rattle.key_ranges.specs.Ranges.{is_open}
 use Rattle.layering.specs.Parts.{IsWithin}
 use Rattle.kept_ranges.specs.Sound.{KeptRange}
 use Rattle.range_state.specs.Held.{forgotten}
 use Rattle.range_serving.specs.Serving.{IsPast}
+use Rattle.evict_book.specs.Books.{left_of, victims_of, with_use}
 use Rattle.cell_slots.specs.declared.slot.Slot.{Slot}
 use Rattle.cell_slots.specs.declared.slot.Slot.TheVariants.{Free, Lent, Held}
 use Rattle.cell_slots.specs.declared.slot.Part.{Part}
 use Rattle.cell_slots.specs.Slots.{Holdings, HasFree, with_lent}
-use Rattle.cell_table.specs.Stores.{Store, with_slot_in}
+use Rattle.cell_table.specs.Stores.{Store, with_book, with_slot_in, without_cell}
 
 -- ---- reserving
 
@@ -94,6 +94,49 @@ pub record IsEvicted (before after : List Slot) (id : ℕ) : Type 0 where
 pub record Evicts (before after : List Slot) : Type 0 where
   pub same_count : length after ≡ length before
   pub each : (id : ℕ) → (slice_get after id ≡ slice_get before id) ⊎ IsEvicted before after id
+
+-- ---- settling
+
+-- by what its slot holds, a cell is free, and the book knows it no more; where it holds no kept range nothing changes
+abbrev pub freed_by : Option Slot → ℕ → Store → Store
+freed_by None id before = before
+freed_by (Some Free) id before = before
+freed_by (Some (Lent at range)) id before = before
+freed_by (Some (Held at s)) id before = without_cell id before
+
+-- so it is of the cell with a number
+abbrev pub freed : ℕ → Store → Store
+freed id before = freed_by (slice_get before.holdings.slots id) id before
+
+-- and of cells, one after another
+abbrev pub freed_all : List ℕ → Store → Store
+freed_all [] before = before
+freed_all (id ∷ ids) before = freed_all ids (freed id before)
+
+-- the book is told that a cell was used, with so many rows; the cells are free that have to go then
+abbrev pub weighed : ℕ → ℕ → Store → Store
+weighed id rows before = freed_all (victims_of before.limit (with_use id rows before.book)) (with_book (left_of before.limit (with_use id rows before.book)) before)
+
+-- by what its slot holds, a cell that was used is settled: the book is told of its rows; where it holds no kept range nothing changes
+abbrev pub settled_by : Option Slot → ℕ → Store → Store
+settled_by None id before = before
+settled_by (Some Free) id before = before
+settled_by (Some (Lent at range)) id before = before
+settled_by (Some (Held at s)) id before = weighed id (length s.kept.rows) before
+
+-- so it is of the cell with a number
+abbrev pub settled : ℕ → Store → Store
+settled id before = settled_by (slice_get before.holdings.slots id) id before
+
+-- and of cells, one after another
+abbrev pub settled_all : List ℕ → Store → Store
+settled_all [] before = before
+settled_all (id ∷ ids) before = settled_all ids (settled id before)
+
+-- of the cells that were used the first ones are settled
+pub record SettlesFirst (before after : Store) : Type 0 where
+  pub count : ℕ
+  pub is : after ≡ settled_all (take count before.holdings.used) before
 
 -- ---- taking out
 

@@ -1,11 +1,9 @@
 // Directories of places.
 ghost use Rattle.std.specs.Prelude.{◌≡◌, [], true, IfOk, OnOk, OnErr};
-ghost use Rattle.std.specs.List.{list_all};
 ghost use Rattle.semantics.specs.Texts.{table_of};
 ghost use Rattle.key_ranges.specs.Ranges.{is_open};
-ghost use Rattle.range_set.specs.Joined.{JoinTo};
-ghost use Rattle.range_set.specs.Held.{are_of_table, is_free, with_range, without_range};
-ghost use Rattle.range_set.specs.Pieces.{are_gaps_apart, gaps_of, kept_of, parts_within, ranges_of};
+ghost use Rattle.range_set.specs.Held.{are_apart, are_of_table, is_free, with_range, without_range};
+ghost use Rattle.cell_slots.specs.Places.{ArePieces};
 ghost use Rattle.cell_table.specs.Places.{KeepsAll, LeavesPlace, Replaces, held_at};
 
 use cell_slots::Slot;
@@ -45,10 +43,8 @@ impl Directory {
     /// The pieces of a range, in order: what it has in common with ranges of the join that have a cell, and the gaps. It takes
     /// two searches, which are logarithmic in the joins and in the ranges of this one, and is linear in the pieces.
     pub fn cover(&self, at: u64, range: &Range) -> Result<Vec<Piece<u32>>, OutOfMemory>
-        ensures joins { IfOk result (λ pieces. JoinTo range.now (ranges_of pieces.items)) }
-        ensures kept { IfOk result (λ pieces. kept_of pieces.items ≡ parts_within range.now (held_at at self.now)) }
-        ensures whole_gaps { IfOk result (λ pieces. are_gaps_apart pieces.items ≡ true) }
-        ensures free_gaps { IfOk result (λ pieces. list_all (is_free (held_at at self.now)) (gaps_of pieces.items) ≡ true) }
+        ensures pieces { IfOk result (λ pieces. ArePieces range.now (held_at self.now at) pieces.items) }
+        ensures apart { are_apart (held_at self.now at) ≡ true }
     {
         match self.sets.get(&at) {
             Some(set) => set.cover(range),
@@ -64,9 +60,9 @@ impl Directory {
     /// On `OutOfMemory` the ranges are those that were.
     pub fn insert(&mut self, at: u64, range: Range, id: u32) -> Result<(), OutOfMemory>
         requires open { is_open range ≡ true }
-        requires free { is_free (held_at at self.old) range ≡ true }
-        requires table { are_of_table (held_at at self.old) (table_of range.low) ≡ true }
-        ensures ok { OnOk result (Replaces at (with_range range id (held_at at self.old)) self.old self.new) }
+        requires free { is_free (held_at self.old at) range ≡ true }
+        requires table { are_of_table (held_at self.old at) (table_of range.low) ≡ true }
+        ensures ok { OnOk result (Replaces at (with_range range id (held_at self.old at)) self.old self.new) }
         ensures err { OnErr result (KeepsAll self.old self.new) }
     {
         match self.sets.get_mut(&at) {
@@ -82,7 +78,7 @@ impl Directory {
 
     /// Takes out the range of the join that has these bounds, if it is there. It takes two searches, and no memory.
     fn remove(&mut self, at: u64, range: &Range)
-        ensures { Replaces at (without_range range.now (held_at at self.old)) self.old self.new }
+        ensures { Replaces at (without_range range.now (held_at self.old at)) self.old self.new }
     {
         if let Some(set) = self.sets.get_mut(&at) {
             set.remove(range);

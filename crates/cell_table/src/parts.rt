@@ -1,6 +1,7 @@
 // Parts of a range, from its pieces.
 ghost use Rattle.std.specs.Prelude.{◌≡◌, ◌<◌, map, IfOk};
-ghost use Rattle.cell_table.specs.Stores.{one_gap, part_of};
+ghost use Rattle.cell_slots.specs.Spending.{one_gap};
+ghost use Rattle.cell_table.specs.Stores.{part_of};
 
 use cell_slots::Part;
 use key_space::Range;

@@ -7,11 +7,13 @@ ghost use Rattle.key_ranges.specs.Ranges.{is_open};
 ghost use Rattle.layering.specs.Parts.{JoinTo};
 ghost use Rattle.kept_ranges.specs.Sound.{KeptRange};
 ghost use Rattle.range_state.specs.Held.{forgotten};
+ghost use Rattle.evict_book.specs.Books.{total_weight};
 ghost use Rattle.cell_slots.specs.declared.slot.Slot.TheVariants.{Free, Lent, Held};
-ghost use Rattle.cell_slots.specs.Slots.{Frame, HasFree, MeetsNone};
-ghost use Rattle.cell_slots.specs.Spending.{CoversReady, MayKeep, Reserves, one_part};
-ghost use Rattle.cell_table.specs.Stores.{AreOfTable, IsGap, IsLowestFree, LiesInPlace, free_cells, one_gap, with_slot_in};
-ghost use Rattle.cell_table.specs.Moves.{Evicts, GetCells, GetsCellAs, IsHeld, IsLent, IsTooHeavy, MayLend, ReservesParts, TakesOut, at_rank};
+ghost use Rattle.cell_slots.specs.Places.{LiesInPlace};
+ghost use Rattle.cell_slots.specs.Slots.{Frame, HasFree, MeetsNone, place_at};
+ghost use Rattle.cell_slots.specs.Spending.{CoversReady, MayKeep, Reserves, one_gap, one_part};
+ghost use Rattle.cell_table.specs.Stores.{AreBooked, AreOfTable, IsGap, IsLowestFree, Store, free_cells, unused, with_slot_in, without_cell};
+ghost use Rattle.cell_table.specs.Moves.{Evicts, GetCells, GetsCellAs, IsHeld, IsLent, IsTooHeavy, MayLend, ReservesParts, SettlesFirst, TakesOut, at_rank, freed_all, settled_all, weighed};
 
 use crate::directory::Directory;
 use crate::lending::{given, held_in, lendable, made_anew};
@@ -44,7 +46,7 @@ impl Model for CellTable {
 
     ghost Value = { Store };
 
-    ghost view = { λ t. record { holdings = record { slots = t.slots; used = t.used.items; setting = no_setting }; limit = t.book.limit } };
+    ghost view = { λ t. record { holdings = record { slots = t.slots; used = t.used.items; setting = no_setting }; limit = t.book.limit; book = t.book.used } };
 
     ghost invariant = { λ t. IsStore t.slots t.used.items t.directory t.book };
 }
@@ -79,9 +81,9 @@ impl CellTable {
     /// and is linear in the parts.
     pub fn parts(&self, at: u64, range: &Range) -> Result<Vec<Part>, OutOfMemory>
         ensures join { IfOk result (λ parts. JoinTo range.now (map (λ part. part.range) parts.items)) }
-        ensures kept { IfOk result (λ parts. (id : ℕ) (part : Bounds) → Contains parts.items (record { range = part; cell = Some id }) → LiesInPlace self.now.holdings.slots id at part) }
+        ensures kept { IfOk result (λ parts. (id : ℕ) (part : Bounds) → Contains parts.items (record { range = part; cell = Some id }) → LiesInPlace (place_at self.now.holdings.slots) id at part) }
         ensures gaps { IfOk result (λ parts. (part : Bounds) → Contains parts.items (record { range = part; cell = None }) → IsGap self.now.holdings.slots at part) }
-        ensures whole { IfOk result (λ parts. (id : ℕ) → is_open range.now ≡ true → LiesInPlace self.now.holdings.slots id at range.now → parts.items ≡ one_part range.now id) }
+        ensures whole { IfOk result (λ parts. (id : ℕ) → is_open range.now ≡ true → LiesInPlace (place_at self.now.holdings.slots) id at range.now → parts.items ≡ one_part range.now id) }
         ensures none { IfOk result (λ parts. is_open range.now ≡ true → MeetsNone self.now.holdings.slots at range.now → parts.items ≡ one_gap range.now) }
     {
         let pieces = self.directory.cover(at, range)?;
@@ -132,12 +134,13 @@ impl CellTable {
     ) -> Result<Vec<Part>, OutOfMemory>
         requires { AreOfTable self.old.holdings.slots at (table_of range.now.low) }
         ensures join { IfOk result (λ parts. JoinTo range.now (map (λ part. part.range) parts.items)) }
-        ensures ready { IfOk result (λ parts. (id : ℕ) → is_open range.now ≡ true → LiesInPlace self.old.holdings.slots id at range.now → CoversReady self.old.holdings self.new.holdings id range.now parts.items) }
+        ensures ready { IfOk result (λ parts. (id : ℕ) → is_open range.now ≡ true → LiesInPlace (place_at self.old.holdings.slots) id at range.now → CoversReady self.old.holdings self.new.holdings id range.now parts.items) }
         ensures reserved { IfOk result (λ parts. is_open range.now ≡ true → MayKeep self.old.holdings.slots at join.now range.now → Reserves self.old.holdings self.new.holdings at rank join.now range.now parts.items) }
         ensures pulled { (join.now.kind ≡ push → ⊥) → self.new ≡ self.old }
         ensures slots { ReservesParts self.old.holdings self.new.holdings at rank join.now range.now }
         ensures frame { Frame 0 self.old.holdings self.new.holdings }
         ensures same_limit { self.new.limit ≡ self.old.limit }
+        ensures same_book { self.new.book ≡ self.old.book }
     {
         let parts = self.parts(at, range)?;
         if are_too_many(parts.len(), range) {
@@ -166,6 +169,7 @@ impl CellTable {
         ensures always { IfOk result (λ found. (s : KeptRange) → MayLend (slice_get self.old.holdings.slots id) at rank p part.now s → found ≡ Some (at_rank rank s)) }
         ensures err { OnErr result (self.new ≡ self.old) }
         ensures same_limit { self.new.limit ≡ self.old.limit }
+        ensures same_book { self.new.book ≡ self.old.book }
     {
         let Some(state) = lendable(self.slots.get(id), at, rank, p, part) else {
             return Ok(None);
@@ -199,6 +203,7 @@ impl CellTable {
         ensures slots { self.new.holdings.slots ≡ self.old.holdings.slots }
         ensures used { self.new.holdings.used ≡ [] }
         ensures same_limit { self.new.limit ≡ self.old.limit }
+        ensures only { self.new ≡ unused self.old }
     {
         self.used.clear();
     }
@@ -211,10 +216,11 @@ impl CellTable {
         self.slots.put(id, Slot::Held(at, state));
     }
 
-    /// Lets go of what a cell keeps, which is free then. It takes a few searches, and no memory.
+    /// Lets go of what a cell keeps, which is free then, and which the book knows no more. It takes a few searches, and no
+    /// memory.
     pub fn evict(&mut self, id: u32)
         requires { IsHeld self.old.holdings.slots id }
-        ensures { self.new ≡ with_slot_in id Free self.old }
+        ensures { self.new ≡ without_cell id self.old }
     {
         let taken = self.slots.put(id, Slot::Free);
         self.directory.leave(&taken);
@@ -222,12 +228,16 @@ impl CellTable {
     }
 
     /// Tells the book of each cell that was used and holds a kept range, in order, how many rows are kept, and evicts what has
-    /// to go: the kept ranges that were used least recently, until the others weigh no more than the limit together, where
-    /// each weighs one more than its rows. No cell was used then.
+    /// to go, and nothing else: the kept ranges that were used least recently, until the others that the book knows weigh no
+    /// more than the limit together, where each weighs one more than its rows. No cell was used then.
     ///
-    /// For each cell that was used it takes a look-up, and for each that is evicted what `evict` takes. On `OutOfMemory` some
-    /// of the cells that were used may weigh what they weighed before.
+    /// For each cell that was used it takes a look-up, and for each that is evicted what `evict` takes. On `OutOfMemory` that
+    /// is done for the first of the cells that were used, and the others may weigh what they weighed before.
     pub fn settle(&mut self) -> Result<(), OutOfMemory>
+        ensures settled { OnOk result (self.new ≡ unused (settled_all self.old.holdings.used self.old)) }
+        ensures first { (told : Store) × SettlesFirst self.old told × (self.new ≡ unused told) }
+        ensures booked { AreBooked self.new.holdings.slots self.new.book }
+        ensures fits { total_weight self.new.book ≤ self.new.limit }
         ensures evicts { Evicts self.old.holdings.slots self.new.holdings.slots }
         ensures unused { self.new.holdings.used ≡ [] }
         ensures spared { (id at : ℕ) (s : KeptRange) → self.old.holdings.used ≡ id ∷ [] → slice_get self.old.holdings.slots id ≡ Some (Held at s) → length s.kept.rows + 1 ≤ self.old.limit →
@@ -238,7 +248,17 @@ impl CellTable {
     {
         let settled = self.settle_used();
         self.clear_used();
+        self.look();
         settled
+    }
+
+    /// Looks at the table, and so knows what is true of each: the book knows no cell but those that keep a place, and what it
+    /// knows weighs no more than the limit together.
+    fn look(&self)
+        ensures booked { AreBooked self.now.holdings.slots self.now.book }
+        ensures fits { total_weight self.now.book ≤ self.now.limit }
+    {
+        let _count = self.slots.count();
     }
 
     /// The parts of a range, each of which keeps its cell, and for each that has none a free cell is reserved, while there is
@@ -259,6 +279,7 @@ impl CellTable {
         ensures got { IfOk result (λ made. GetCells at rank join.now self.old parts.items made.items self.new) }
         ensures slots { ReservesParts self.old.holdings self.new.holdings at rank join.now range.now }
         ensures same_limit { self.new.limit ≡ self.old.limit }
+        ensures same_book { self.new.book ≡ self.old.book }
     {
         let _ = range.lo();
         let mut made = Vec::with_capacity(self.alloc, parts.len())?;
@@ -287,6 +308,8 @@ impl CellTable {
 
     /// Tells the book of the cells that were used, in order, and evicts what has to go.
     fn settle_used(&mut self) -> Result<(), OutOfMemory>
+        ensures settled { OnOk result (self.new ≡ settled_all self.old.holdings.used self.old) }
+        ensures first { SettlesFirst self.old self.new }
         ensures evicts { Evicts self.old.holdings.slots self.new.holdings.slots }
         ensures same_used { self.new.holdings.used ≡ self.old.holdings.used }
         ensures spared { (id at : ℕ) (s : KeptRange) → self.old.holdings.used ≡ id ∷ [] → slice_get self.old.holdings.slots id ≡ Some (Held at s) → length s.kept.rows + 1 ≤ self.old.limit →
@@ -304,6 +327,9 @@ impl CellTable {
 
     /// Tells the book of a cell, if it holds a kept range, and evicts what has to go.
     fn settle_cell(&mut self, id: u32) -> Result<(), OutOfMemory>
+        ensures told { (at : ℕ) (s : KeptRange) → slice_get self.old.holdings.slots id ≡ Some (Held at s) → OnOk result (self.new ≡ weighed id (length s.kept.rows) self.old) }
+        ensures same { (IsHeld self.old.holdings.slots id → ⊥) → self.new ≡ self.old }
+        ensures err { OnErr result (self.new ≡ self.old) }
         ensures evicts { Evicts self.old.holdings.slots self.new.holdings.slots }
         ensures same_used { self.new.holdings.used ≡ self.old.holdings.used }
         ensures spared { (at : ℕ) (s : KeptRange) → slice_get self.old.holdings.slots id ≡ Some (Held at s) → length s.kept.rows + 1 ≤ self.old.limit →
@@ -323,6 +349,7 @@ impl CellTable {
 
     /// Evicts those of the cells that hold kept ranges.
     fn evict_all(&mut self, victims: &[u32])
+        ensures freed { self.new ≡ freed_all victims.now self.old }
         ensures evicts { Evicts self.old.holdings.slots self.new.holdings.slots }
         ensures others { (id : ℕ) → (Contains victims.now id → ⊥) → slice_get self.new.holdings.slots id ≡ slice_get self.old.holdings.slots id }
         ensures gone { (id : ℕ) → Contains victims.now id → IsHeld self.old.holdings.slots id → slice_get self.new.holdings.slots id ≡ Some Free }
@@ -336,6 +363,8 @@ impl CellTable {
 
     /// Evicts a cell, if it holds a kept range.
     fn evict_held(&mut self, id: u32)
+        ensures freed { IsHeld self.old.holdings.slots id → self.new ≡ without_cell id self.old }
+        ensures same { (IsHeld self.old.holdings.slots id → ⊥) → self.new ≡ self.old }
         ensures evicts { Evicts self.old.holdings.slots self.new.holdings.slots }
         ensures others { (other : ℕ) → other ≢ id → slice_get self.new.holdings.slots other ≡ slice_get self.old.holdings.slots other }
         ensures gone { IsHeld self.old.holdings.slots id → slice_get self.new.holdings.slots id ≡ Some Free }

@@ -17,6 +17,8 @@ use Rattle.range_evaluation.specs.PathLaws.{IsPath, HoldsNext}
 use Rattle.range_evaluation.specs.Contributions.{listed_contributions}
 use Rattle.range_evaluation.proofs.FollowedLemmas.{HasShortKey, short_keys}
 use Rattle.range_evaluation.proofs.ContributionLemmas.{HasOneSource, one_source}
+use Rattle.range_evaluation.proofs.AskedLemmas.{absent_by}
+use Rattle.range_evaluation.proofs.PathLemmas.{value_by as there_by}
 use Rattle.agg_rows.specs.Kept.{set_source}
 use Rattle.kept_ranges.specs.Kept.{Kept, is_covered, IsRowKey, AreRows, CameBy, IsRight}
 use Rattle.kept_ranges.specs.Rules.{Application, applications}
@@ -24,7 +26,7 @@ use Rattle.kept_ranges.specs.Listing.{listed_at, AreListed, listed_after, answer
 use Rattle.kept_ranges.specs.FillLaws.{IsSource}
 use Rattle.kept_ranges.specs.AdvanceLaws.{AreReported}
 use Rattle.kept_ranges.specs.ListingLaws.{IsAggregateJoin, IsRelisted, RelistedAreListed, RelistedIsRight, UnlistedIsSame}
-use Rattle.kept_ranges.proofs.ReadLemmas.{there_by, absent_by, row_key}
+use Rattle.kept_ranges.proofs.ReadLemmas.{row_key}
 use Rattle.kept_ranges.proofs.ApplyLemmas.{application_from, value_at-set_pair, ascending-set_pair}
 use Rattle.kept_ranges.proofs.ListingLemmas.{gives, gives_parts, listed_are_given, listed_make_rows}
 use Rattle.kept_ranges.proofs.ListingSourceLemmas.{placed_alone, by_none, applied_gives, held, gives_applied}

@@ -1,5 +1,5 @@
 -- What the rows have at each key.
-use Rattle.std.proofs.Common.{◌≡◌, ◌<◌, ◌≤◌, Bool, true, false, cond, length, Option, Some, None, is_some, refl, sym, ◌∙◌, ⊎_elim, arith}
+use Rattle.std.proofs.Common.{◌≡◌, ◌<◌, ◌≤◌, Bool, true, false, cond, length, None, is_some, refl, sym, ◌∙◌, ⊎_elim, arith}
 use Rattle.std.proofs.lemmas.Bool.{false≢true, cases_lt}
 use Rattle.semantics.specs.Texts.{Text, Table, Range, value_at, within}
 use Rattle.semantics.specs.Joins.{Join, is_join}
@@ -12,21 +12,13 @@ use Rattle.growing_history.proofs.ElementLemmas.{has_of_all}
 use Rattle.growing_history.proofs.PartLemmas.{same_within}
 use Rattle.kept_ranges.specs.Kept.{Kept, IsRowKey, AreRows}
 use Rattle.kept_ranges.specs.ReadLaws.{RowsAreOutput, IsClear}
-
--- what is there
-pub there_by : (o : Option Text) → is_some o ≡ true → (value : Text) × (o ≡ Some value)
-there_by None h = absurd (false≢true h)
-there_by (Some value) h = (value, refl)
-
--- what is not there
-pub absent_by : (o : Option Text) → (is_some o ≡ true → ⊥) → o ≡ None
-absent_by None h = refl
-absent_by (Some value) h = absurd (h refl)
+use Rattle.range_evaluation.proofs.AskedLemmas.{absent_by}
+use Rattle.range_evaluation.proofs.PathLemmas.{value_by}
 
 -- a key at which there is a row is a row's key
 pub row_key : (j : Join) (range : Range) (table : Table) (kept : Kept) (key : Text) → AreRows j range table kept → is_some (value_at key kept.rows) ≡ true → IsRowKey j range key
 row_key j range table kept key are h =
-    let w = there_by (value_at key kept.rows) h in
+    let w = value_by (value_at key kept.rows) h in
     has_of_all (λ pair. IsRowKey j range pair.0) kept.rows (key, w.0) are.keys (has_from_value key w.0 kept.rows w.1)
 
 -- ---- the rows in a part

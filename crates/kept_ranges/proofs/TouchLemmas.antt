@@ -112,7 +112,7 @@ touches_have j reported needs need source key bound has e check inside reports b
 -- ---- the needs that are left
 
 -- what is no test's answer
-not_by : (b : Bool) → (b ≡ true → ⊥) → not b ≡ true
+pub not_by : (b : Bool) → (b ≡ true → ⊥) → not b ≡ true
 not_by true h = absurd (h refl)
 not_by false h = refl
 

@@ -1,4 +1,6 @@
 pub mod ServingLemmas
+pub mod LongerLemmas
+pub mod UpToLemmas
 pub mod AdvancedLemmas
 pub mod MergingLemmas
 pub mod TellingLemmas

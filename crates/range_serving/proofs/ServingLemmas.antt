@@ -1,13 +1,11 @@
 -- What kept ranges of the same subject give.
 use Rattle.std.proofs.Common.{◌≡◌, ℕ, ◌≤◌, Bool, true, false, cond, List, [], ◌∷◌, length, take, refl, ap, ◌∙◌}
 use Rattle.semantics.specs.Texts.{Text, Table, Range, within, pairs_within}
-use Rattle.semantics.specs.Joins.{Join}
 use Rattle.semantics.specs.Histories.{History, IsPrefix}
 use Rattle.semantics.specs.Outputs.{out}
 use Rattle.semantics.specs.States.{below}
 use Rattle.growing_history.proofs.PrefixLemmas.{take_prefix}
 use Rattle.kept_ranges.specs.Sound.{KeptRange}
-use Rattle.range_state.specs.Held.{forgotten}
 use Rattle.range_state.specs.Ready.{HasSameSubject}
 use Rattle.range_serving.specs.Serving.{output_within}
 
@@ -26,11 +24,3 @@ twice_by range e es false is h = h
 pub within_again : (range : Range) (table : Table) → pairs_within range (pairs_within range table) ≡ pairs_within range table
 within_again range [] = refl
 within_again range (e ∷ es) = twice_by range e es (within range e.0) refl (within_again range es)
-
--- what a kept range gives for its whole range
-pub whole_output : (j : Join) (rank : ℕ) (range piece : Range) (new : KeptRange) (h more : History) (p : ℕ) → piece ≡ range → HasSameSubject (forgotten j rank range) new → p ≤ length h → IsPrefix h more →
-    output_within new more p piece ≡ pairs_within range (out j (below (take p h) rank))
-whole_output j rank range piece new h more p is same less prefix =
-    same_output (forgotten j rank range) new h more p piece same less prefix
-    ∙ ap (λ r. pairs_within r (pairs_within range (out j (below (take p h) rank)))) is
-    ∙ within_again range (out j (below (take p h) rank))

@@ -1,14 +1,17 @@
 -- What one kept range gives for a piece of a range at a position.
-use Rattle.std.specs.Prelude.{◌≡◌, ℕ, ◌+◌, ◌<◌, ◌≤◌, length, take, IfSome}
+use Rattle.std.specs.Prelude.{◌≡◌, ℕ, ◌+◌, ◌<◌, ◌≤◌, ◌⊎◌, filter, length, not, take, true, false, Option, IfSome, None}
 use Rattle.std.specs.Option.{IsSomeAnd}
 use Rattle.semantics.specs.Texts.{Table, Range, pairs_within}
 use Rattle.semantics.specs.Histories.{History}
 use Rattle.semantics.specs.Outputs.{out}
 use Rattle.semantics.specs.States.{below}
-use Rattle.kept_ranges.specs.Notes.{note_limit}
+use Rattle.lazy_log.specs.Pending.{meets_output}
+use Rattle.join_rows.specs.Kept.{AddsEach}
+use Rattle.kept_ranges.specs.Notes.{noted}
 use Rattle.kept_ranges.specs.Sound.{KeptRange}
-use Rattle.range_state.specs.Ready.{HasSameSubject, StandsAt}
-use Rattle.range_state.specs.Work.{AddsNeeds, advance_steps, AreBareUnder, meeting, mend_steps, needs_under_each, TouchesLittle}
+use Rattle.source_changes.specs.Asking.{AreBareThroughout}
+use Rattle.range_state.specs.Ready.{HasSameSubject, IsReady, pending_meets, StandsAt, StandsOrIsForgotten}
+use Rattle.range_state.specs.Work.{advance_steps, AreBareUnder, fill_needs, meeting, MendsTooMany, mend_notes, mend_steps, needs_under_each, TakesTooMany, TouchesLittle}
 
 -- it stands past a position
 abbrev pub IsPast : ℕ → KeptRange → Type 0
@@ -23,19 +26,69 @@ abbrev pub StandsFrom : ℕ → KeptRange → Type 0
 StandsFrom floor s = IfSome s.position (λ q. floor ≤ q)
 
 -- a kept range of the same subject: where it stood below a position it stands there, and otherwise it is as it was
-pub record IsBroughtTo (p : ℕ) (old new : KeptRange) : Type 0 where
+pub record IsCaughtUp (p : ℕ) (old new : KeptRange) : Type 0 where
   pub same : HasSameSubject old new
   pub at : StandsBelow p old → StandsAt p new
   pub still : StandsFrom p old → new ≡ old
 
--- a kept range that stood at q, below p, was advanced to p, and then mended where something pending met a part: the advance touches little, the mend adds the needs under the slots that it takes up and leaves the notes' start where there is room, and both took so many steps at most
+-- it stands where it stood, or it is forgotten, or it stands at a position
+abbrev pub IsLeftOrStandsAt : ℕ → KeptRange → KeptRange → Type 0
+IsLeftOrStandsAt p old new = StandsOrIsForgotten old new ⊎ StandsAt p new
+
+-- what stood at p was mended there for a part: the slots that meet it are pending no more, the needs under them are added, each once, and each of them is noted
+pub record MendsPart (h : History) (p : ℕ) (part : Range) (old new : KeptRange) : Type 0 where
+  pub same : HasSameSubject old new
+  pub at : StandsAt p new
+  pub left : new.kept.pending ≡ filter (λ given. not (meets_output old.join.output part given)) old.kept.pending
+  pub needs : AddsEach (needs_under_each old.join old.range (below (take p h) old.rank) (meeting old part)) old.kept.needs new.kept.needs
+  pub notes : new.notes ≡ noted old.notes (mend_notes p (meeting old part))
+
+-- and it took so many steps at most, where what is read under these slots is bare
+pub record WasMended (h : History) (p : ℕ) (part : Range) (old new : KeptRange) (before after : ℕ) : Type 0 where
+  pub mends : MendsPart h p part old new
+  pub cost : AreBareUnder old h p part → after ≤ before + mend_steps old (below (take p h) old.rank) part
+
+-- a kept range that stood at q, below p, was advanced to p: that touched little, and took so many steps at most; it is left so where nothing pending meets a part, and otherwise was mended for it
 pub record WasAdvanced (h : History) (q p : ℕ) (part : Range) (old new : KeptRange) (before after : ℕ) : Type 0 where
   pub mid : KeptRange
+  pub same : HasSameSubject old mid
+  pub at : StandsAt p mid
   pub little : TouchesLittle h q p old mid
-  pub needs : AddsNeeds (needs_under_each mid.join mid.range (below (take p h) mid.rank) (meeting mid part)) mid.kept.needs new.kept.needs
-  pub start : length mid.notes.list + length (meeting mid part) ≤ note_limit → new.notes.start ≡ mid.notes.start
-  pub cost : AreBareUnder mid h p part → after ≤ before + advance_steps h q p old.kept.needs + mend_steps mid (below (take p h) mid.rank) part
+  pub between : ℕ
+  pub cost : between ≤ before + advance_steps h q p old.kept.needs
+  pub alone : pending_meets mid part ≡ false → (new ≡ mid) × (after ≡ between)
+  pub mended : pending_meets mid part ≡ true → WasMended h p part mid new between after
 
 -- the output of its join after p entries, in the common part of its range and a piece
 abbrev pub output_within : KeptRange → History → ℕ → Range → Table
 output_within s h p piece = pairs_within piece (pairs_within s.range (out s.join (below (take p h) s.rank)))
+
+-- once a kept range is brought to a position, something pending meets a part, and its needs, with those that are found when it is mended for the part, are more than are allowed: what stood there is as it was, and what stood below, with bare ranges from there on, was advanced
+pub record MendsWide (most : Option ℕ) (h : History) (p : ℕ) (part : Range) (old : KeptRange) : Type 0 where
+  pub mid : KeptRange
+  pub same : HasSameSubject old mid
+  pub stands : StandsAt p mid
+  pub still : StandsAt p old → mid ≡ old
+  pub little : (q : ℕ) → StandsAt q old → q < p → AreBareThroughout h q p old.kept.needs → TouchesLittle h q p old mid
+  pub meets : pending_meets mid part ≡ true
+  pub many : MendsTooMany most (below (take p h) mid.rank) part mid
+
+-- a kept range that does not stand at a position, nor below with bare ranges from there on, takes more needs than are allowed to fill it there
+pub record FillsWide (most : Option ℕ) (h : History) (p : ℕ) (old : KeptRange) : Type 0 where
+  pub away : StandsAt p old → ⊥
+  pub unknown : (q : ℕ) → StandsAt q old → q < p → AreBareThroughout h q p old.kept.needs → ⊥
+  pub many : TakesTooMany most h p old
+
+-- to be read over a part at a position, a kept range takes more needs than are allowed: to fill it, where it cannot be advanced, or once it is mended
+abbrev pub HasTooMany : Option ℕ → History → ℕ → Range → KeptRange → Type 0
+HasTooMany most h p part old = FillsWide most h p old ⊎ MendsWide most h p part old
+
+-- a kept range is too wide at a position: filling it takes more than so many needs, and nothing is kept
+pub record IsTooWide (most : ℕ) (h : History) (p : ℕ) (s : KeptRange) : Type 0 where
+  pub nothing : s.position ≡ None
+  pub many : most < length (fill_needs s.join s.range (below (take p h) s.rank))
+
+-- these are the pairs of a piece that a kept range gives at a position, where it keeps so many needs at most: it is ready there, or too wide
+pub record ServesUpTo (most : ℕ) (h : History) (p : ℕ) (piece : Range) (old new : KeptRange) (pairs : Table) : Type 0 where
+  pub output : pairs ≡ output_within old h p piece
+  pub kept : IsReady p piece new ⊎ IsTooWide most h p new

@@ -1,25 +1,28 @@
 // Pieces of ranges, from kept ranges.
-ghost use Rattle.std.specs.Prelude.{◌≡◌, ℕ, ◌+◌, ◌≤◌, ◌<◌, [], length, take, false, true, IfOk, OnOk, None, Some};
+ghost use Rattle.std.specs.Prelude.{◌≡◌, ℕ, ◌+◌, ◌≤◌, ◌<◌, ◌⊎◌, [], length, take, false, true, IfErr, IfOk, OnErr, OnOk, None, Some};
 ghost use Rattle.semantics.specs.Texts.{pairs_within};
 ghost use Rattle.semantics.specs.Histories.{joins_of};
 ghost use Rattle.semantics.specs.Outputs.{out};
 ghost use Rattle.semantics.specs.States.{below};
 ghost use Rattle.growing_history.specs.Entered.{HasEntered, HasRank};
+ghost use Rattle.join_eval.specs.Bounds.{OnTooWide, most_of};
 ghost use Rattle.join_eval.specs.Moves.{Moves};
 ghost use Rattle.kept_ranges.specs.Sound.{IsSound};
 ghost use Rattle.range_state.specs.Held.{forgotten};
-ghost use Rattle.range_state.specs.Ready.{HasSameSubject, IsReady, StandsAt, pending_meets};
+ghost use Rattle.range_state.specs.Ready.{HasSameSubject, IsReady, StandsAt, StandsOrIsForgotten, pending_meets};
 ghost use Rattle.source_changes.specs.Asking.{AreBareThroughout};
-ghost use Rattle.range_state.specs.Work.{advance_steps, TouchesLittle};
-ghost use Rattle.range_serving.specs.Serving.{IsPast, StandsFrom, WasAdvanced, output_within};
+ghost use Rattle.range_state.specs.Work.{advance_steps, StaysWithin, TakesTooMany, TouchesLittle};
+ghost use Rattle.range_serving.specs.Serving.{HasTooMany, IsLeftOrStandsAt, IsPast, ServesUpTo, StandsFrom, WasAdvanced, WasMended, output_within};
 
-use join_eval::Reader;
+use join_eval::{KeepFault, NeedBound, Reader, TooMany};
+use join_rows::Rows;
 use join_types::{Join, Pair};
 use key_space::Range;
 use out_of_memory::OutOfMemory;
 use pq_io::Gate;
 use range_state::RangeState;
 use std::alloc::Global;
+use std::convert::Infallible;
 use std::sync::ledger::Ledger;
 use steps::Steps;
 
@@ -58,14 +61,16 @@ pub fn renew(alloc: Global, state: &RangeState, rank: u8) -> Result<RangeState, 
 /// below and the ranges of its needs are bare from there on, what no changed key touches is left, and it takes no more steps than
 /// an advance: one for each need, and three for each changed key of its range.
 ///
-/// On `OutOfMemory` it stands where it stood, or at p, or is forgotten, and is right for the reader's list. The reader may
-/// have gone on and steps may have been taken.
-pub fn reach<R: Reader, L: Ledger>(
+/// On a fault it stands where it stood, or is forgotten, and is right for the reader's list. The reader may have gone on and
+/// steps may have been taken. `TooWide` comes only where it is filled and that takes more needs than the bound allows; then it is
+/// forgotten. Where it had no more needs than the bound allows, it has no more afterwards.
+pub fn reach<E: Copy, R: Reader, L: Ledger>(
     state: &mut RangeState,
     p: u64,
+    bound: NeedBound<E, Infallible>,
     reader: &mut R,
     steps: &mut Steps<L>,
-) -> Result<(), OutOfMemory>
+) -> Result<(), KeepFault<E>>
     requires before { IsPast p state.old → ⊥ }
     requires within { p ≤ length (R.list reader.old) }
     requires above { R.floor reader.old ≤ p }
@@ -76,12 +81,17 @@ pub fn reach<R: Reader, L: Ledger>(
     requires sound { IsSound state.old (R.list reader.old) }
     ensures same { HasSameSubject state.old state.new }
     ensures at { OnOk result (StandsAt p state.new) }
+    ensures few { OnOk result (StaysWithin (most_of bound) state.old state.new) }
+    ensures wide { IfErr result (OnTooWide (TakesTooMany (most_of bound) (R.list reader.old) p state.old)) }
+    ensures known { (q : ℕ) → StandsAt q state.old → q < p → AreBareThroughout (R.list reader.old) q p state.old.kept.needs → IfErr result (OnTooWide ⊥) }
+    ensures gone { IfErr result (OnTooWide (state.new.position ≡ None)) }
     ensures filled { state.old.position ≡ None → OnOk result (state.new.kept.pending ≡ []) }
     ensures little { (q : ℕ) → StandsAt q state.old → q < p → AreBareThroughout (R.list reader.old) q p state.old.kept.needs →
         OnOk result (TouchesLittle (R.list reader.old) q p state.old state.new) }
     ensures still { StandsAt p state.old → state.new ≡ state.old }
     ensures unused { StandsAt p state.old → reader.new ≡ reader.old }
     ensures free { StandsAt p state.old → steps.new ≡ steps.old }
+    ensures err { OnErr result (StandsOrIsForgotten state.old state.new) }
     ensures sound { IsSound state.new (R.list reader.new) }
     ensures moves { Moves R.list R.floor R.went reader.old reader.new }
     ensures counted { steps.old ≤ steps.new }
@@ -89,10 +99,10 @@ pub fn reach<R: Reader, L: Ledger>(
         OnOk result (steps.new ≤ steps.old + advance_steps (R.list reader.old) q p state.old.kept.needs) }
 {
     match state.position() {
-        None => state.fill(p, reader, steps),
+        None => state.fill(p, bound, reader, steps),
         Some(at) => {
             if at < p {
-                return state.advance(p, reader, steps);
+                return state.advance(p, bound, reader, steps);
             }
             Ok(())
         }
@@ -101,14 +111,15 @@ pub fn reach<R: Reader, L: Ledger>(
 
 /// Brings it to where p entries stand, and mends it where something pending meets the range. The gate is passed before it is
 /// filled, and before it is mended.
-fn make_ready<R: Reader, G: Gate, L: Ledger>(
+fn make_ready<E: Copy, R: Reader, G: Gate, L: Ledger>(
     state: &mut RangeState,
     p: u64,
     range: &Range,
+    bound: NeedBound<E, Infallible>,
     gate: &G,
     reader: &mut R,
     steps: &mut Steps<L>,
-) -> Result<(), OutOfMemory>
+) -> Result<(), KeepFault<E>>
     requires before { IsPast p state.old → ⊥ }
     requires within { p ≤ length (R.list reader.old) }
     requires above { R.floor reader.old ≤ p }
@@ -119,12 +130,18 @@ fn make_ready<R: Reader, G: Gate, L: Ledger>(
     requires sound { IsSound state.old (R.list reader.old) }
     ensures same { HasSameSubject state.old state.new }
     ensures ready { OnOk result (IsReady p range.now state.new) }
+    ensures few { OnOk result (StaysWithin (most_of bound) state.old state.new) }
+    ensures wide { IfErr result (OnTooWide (HasTooMany (most_of bound) (R.list reader.old) p range.now state.old)) }
+    ensures gone { IfErr result (OnTooWide (state.new.position ≡ None)) }
     ensures filled { state.old.position ≡ None → OnOk result (state.new.kept.pending ≡ []) }
     ensures behind { (q : ℕ) → StandsAt q state.old → q < p → AreBareThroughout (R.list reader.old) q p state.old.kept.needs →
         OnOk result (WasAdvanced (R.list reader.old) q p range.now state.old state.new steps.old steps.new) }
+    ensures pending { StandsAt p state.old → pending_meets state.old range.now ≡ true →
+        OnOk result (WasMended (R.list reader.old) p range.now state.old state.new steps.old steps.new) }
     ensures still { IsReady p range.now state.old → state.new ≡ state.old }
     ensures unused { IsReady p range.now state.old → reader.new ≡ reader.old }
     ensures free { IsReady p range.now state.old → steps.new ≡ steps.old }
+    ensures err { OnErr result (IsLeftOrStandsAt p state.old state.new) }
     ensures sound { IsSound state.new (R.list reader.new) }
     ensures moves { Moves R.list R.floor R.went reader.old reader.new }
     ensures counted { steps.old ≤ steps.new }
@@ -132,10 +149,10 @@ fn make_ready<R: Reader, G: Gate, L: Ledger>(
     if state.position().is_none() {
         gate.pass(range.table());
     }
-    reach(state, p, reader, steps)?;
+    reach(state, p, bound, reader, steps)?;
     if state.pending_meets(range) {
         gate.pass(range.table());
-        return state.mend(range, reader, steps);
+        return state.mend(range, bound, reader, steps);
     }
     Ok(())
 }
@@ -145,15 +162,116 @@ fn make_ready<R: Reader, G: Gate, L: Ledger>(
 /// pending meets the piece it is mended there. Then it is read. The gate is passed before a fill and before a mend.
 ///
 /// Where it is ready, that is, at p with nothing pending that meets the piece, it takes one step and one for each pair, and
-/// neither it nor the reader changes. Otherwise it takes these and those of the calls that make it ready: where it stands below p
-/// and the ranges of its needs are bare from there on, those of an advance and a mend, and it is not filled again.
+/// neither it nor the reader changes. Otherwise it takes these and those of the calls that make it ready. Where it stands at p and
+/// something pending meets the piece, these are those of a mend, and where it stands below p and the ranges of its needs are bare
+/// from there on, those of an advance and of a mend, if then something pending meets the piece; it is not filled again.
 ///
-/// On `OutOfMemory` it stands where it stood, or at p, or is forgotten, and is right for the reader's list. The reader may
-/// have gone on and steps may have been taken.
-pub fn serve<R: Reader, G: Gate, L: Ledger>(
+/// On a fault it stands where it stood, or at p, or is forgotten, and is right for the reader's list. The reader may have gone on
+/// and steps may have been taken. `TooWide` comes only where it is filled and that takes more needs than the bound allows, or where
+/// it has more with those that are found when it is mended; then it is forgotten. Where it had no more needs than the bound allows,
+/// it has no more afterwards.
+pub fn serve<E: Copy, R: Reader, G: Gate, L: Ledger>(
     state: &mut RangeState,
     p: u64,
     range: &Range,
+    bound: NeedBound<E, Infallible>,
+    gate: &G,
+    reader: &mut R,
+    steps: &mut Steps<L>,
+) -> Result<Vec<Pair>, KeepFault<E>>
+    requires before { IsPast p state.old → ⊥ }
+    requires within { p ≤ length (R.list reader.old) }
+    requires above { R.floor reader.old ≤ p }
+    requires from { StandsFrom (R.floor reader.old) state.old }
+    requires entered { HasEntered (R.list reader.old) }
+    requires stands { HasRank (joins_of (take p (R.list reader.old))) state.old.join state.old.rank }
+    requires ranked { state.old.rank ≤ R.top }
+    requires sound { IsSound state.old (R.list reader.old) }
+    ensures same { HasSameSubject state.old state.new }
+    ensures output { IfOk result (λ pairs. pairs.items ≡ output_within state.old (R.list reader.old) p range.now) }
+    ensures ready { OnOk result (IsReady p range.now state.new) }
+    ensures few { OnOk result (StaysWithin (most_of bound) state.old state.new) }
+    ensures wide { IfErr result (OnTooWide (HasTooMany (most_of bound) (R.list reader.old) p range.now state.old)) }
+    ensures gone { IfErr result (OnTooWide (state.new.position ≡ None)) }
+    ensures filled { state.old.position ≡ None → OnOk result (state.new.kept.pending ≡ []) }
+    ensures still { IsReady p range.now state.old → state.new ≡ state.old }
+    ensures unused { IsReady p range.now state.old → reader.new ≡ reader.old }
+    ensures err { OnErr result (IsLeftOrStandsAt p state.old state.new) }
+    ensures sound { IsSound state.new (R.list reader.new) }
+    ensures moves { Moves R.list R.floor R.went reader.old reader.new }
+    ensures counted { steps.old ≤ steps.new }
+    ensures cost { IfOk result (λ pairs. steps.old + 1 + length pairs.items ≤ steps.new) }
+    ensures at_once { IsReady p range.now state.old → IfOk result (λ pairs. steps.new ≡ steps.old + 1 + length pairs.items) }
+    ensures behind { (q : ℕ) → StandsAt q state.old → q < p → AreBareThroughout (R.list reader.old) q p state.old.kept.needs →
+        IfOk result (λ pairs. WasAdvanced (R.list reader.old) q p range.now state.old state.new (steps.old + 1 + length pairs.items) steps.new) }
+    ensures pending { StandsAt p state.old → pending_meets state.old range.now ≡ true →
+        IfOk result (λ pairs. WasMended (R.list reader.old) p range.now state.old state.new (steps.old + 1 + length pairs.items) steps.new) }
+{
+    make_ready(state, p, range, bound, gate, reader, steps)?;
+    let pairs = state.read(range, steps)?;
+    Ok(pairs)
+}
+
+/// Copies of the rows that lie in a piece, in order. It takes one step, and one for each row that it gives.
+fn read_rows<L: Ledger>(
+    rows: &Rows,
+    range: &Range,
+    steps: &mut Steps<L>,
+) -> Result<Vec<Pair>, OutOfMemory>
+    ensures rows { IfOk result (λ pairs. pairs.items ≡ pairs_within range.now rows.now.pairs) }
+    ensures counted { steps.old ≤ steps.new }
+    ensures cost { IfOk result (λ pairs. steps.new ≡ steps.old + 1 + length pairs.items) }
+{
+    let pairs = rows.within(range)?;
+    steps.count_call(pairs.len());
+    Ok(pairs)
+}
+
+/// Fills a kept range at p, of which nothing is kept, and gives the output of its join in the part of a piece that is its own.
+/// Where filling takes more than `most` needs, nothing is kept, and what was found is given all the same. The gate is passed
+/// before.
+///
+/// On `OutOfMemory` it stands at p, or is forgotten.
+fn fill_and_read<R: Reader, G: Gate, L: Ledger>(
+    state: &mut RangeState,
+    p: u64,
+    range: &Range,
+    most: u64,
+    gate: &G,
+    reader: &mut R,
+    steps: &mut Steps<L>,
+) -> Result<Vec<Pair>, OutOfMemory>
+    requires forgotten { state.old.position ≡ None }
+    requires within { p ≤ length (R.list reader.old) }
+    requires above { R.floor reader.old ≤ p }
+    requires entered { HasEntered (R.list reader.old) }
+    requires stands { HasRank (joins_of (take p (R.list reader.old))) state.old.join state.old.rank }
+    requires ranked { state.old.rank ≤ R.top }
+    ensures same { HasSameSubject state.old state.new }
+    ensures given { IfOk result (λ pairs. ServesUpTo most (R.list reader.old) p range.now state.old state.new pairs.items) }
+    ensures few { OnOk result (length state.new.kept.needs ≤ most) }
+    ensures clear { OnOk result (state.new.kept.pending ≡ []) }
+    ensures err { OnErr result (StandsAt p state.new ⊎ (state.new.position ≡ None)) }
+    ensures sound { IsSound state.new (R.list reader.new) }
+    ensures moves { Moves R.list R.floor R.went reader.old reader.new }
+    ensures counted { steps.old ≤ steps.new }
+    ensures cost { IfOk result (λ pairs. steps.old + 1 + length pairs.items ≤ steps.new) }
+{
+    gate.pass(range.table());
+    let left = state.fill_up_to(p, most, reader, steps)?;
+    match left {
+        None => state.read(range, steps),
+        Some(rows) => read_rows(&rows, range, steps),
+    }
+}
+
+/// Serves a piece of a range after p entries from what is kept, as `serve` does. Where it would have more than `most` needs then,
+/// it is filled as `fill_and_read` does.
+fn serve_kept<R: Reader, G: Gate, L: Ledger>(
+    state: &mut RangeState,
+    p: u64,
+    range: &Range,
+    most: u64,
     gate: &G,
     reader: &mut R,
     steps: &mut Steps<L>,
@@ -167,25 +285,84 @@ pub fn serve<R: Reader, G: Gate, L: Ledger>(
     requires ranked { state.old.rank ≤ R.top }
     requires sound { IsSound state.old (R.list reader.old) }
     ensures same { HasSameSubject state.old state.new }
-    ensures output { IfOk result (λ pairs. pairs.items ≡ output_within state.old (R.list reader.old) p range.now) }
-    ensures ready { OnOk result (IsReady p range.now state.new) }
+    ensures given { IfOk result (λ pairs. ServesUpTo most (R.list reader.old) p range.now state.old state.new pairs.items) }
+    ensures few { OnOk result (StaysWithin (Some most) state.old state.new) }
     ensures filled { state.old.position ≡ None → OnOk result (state.new.kept.pending ≡ []) }
     ensures still { IsReady p range.now state.old → state.new ≡ state.old }
     ensures unused { IsReady p range.now state.old → reader.new ≡ reader.old }
+    ensures err { OnErr result (IsLeftOrStandsAt p state.old state.new) }
     ensures sound { IsSound state.new (R.list reader.new) }
     ensures moves { Moves R.list R.floor R.went reader.old reader.new }
     ensures counted { steps.old ≤ steps.new }
     ensures cost { IfOk result (λ pairs. steps.old + 1 + length pairs.items ≤ steps.new) }
     ensures at_once { IsReady p range.now state.old → IfOk result (λ pairs. steps.new ≡ steps.old + 1 + length pairs.items) }
     ensures behind { (q : ℕ) → StandsAt q state.old → q < p → AreBareThroughout (R.list reader.old) q p state.old.kept.needs →
-        IfOk result (λ pairs. WasAdvanced (R.list reader.old) q p range.now state.old state.new (steps.old + 1 + length pairs.items) steps.new) }
+        IfOk result (λ pairs. WasAdvanced (R.list reader.old) q p range.now state.old state.new (steps.old + 1 + length pairs.items) steps.new ⊎ HasTooMany (Some most) (R.list reader.old) p range.now state.old) }
+    ensures pending { StandsAt p state.old → pending_meets state.old range.now ≡ true →
+        IfOk result (λ pairs. WasMended (R.list reader.old) p range.now state.old state.new (steps.old + 1 + length pairs.items) steps.new ⊎ HasTooMany (Some most) (R.list reader.old) p range.now state.old) }
 {
-    make_ready(state, p, range, gate, reader, steps)?;
-    state.read(range, steps)
+    let bound: NeedBound<TooMany, Infallible> = NeedBound::EndsPast(most, TooMany);
+    match serve(state, p, range, bound, gate, reader, steps) {
+        Ok(pairs) => Ok(pairs),
+        Err(KeepFault::OutOfMemory(memory)) => Err(memory),
+        Err(KeepFault::TooWide(_many)) => fill_and_read(state, p, range, most, gate, reader, steps),
+    }
 }
 
-/// Serves a range of a join's output after p entries from a kept range of its own that is filled at p, read and let go. The
-/// gate is passed before it is filled.
+/// Serves a piece of a range after p entries, as `serve` does, from a kept range that keeps no more than `most` needs: gives the
+/// output of its join in the part of the piece that is its own. What is kept is brought there and mended; where it would have more
+/// needs then, and where nothing was kept, it is filled. Where filling takes more than `most` needs, nothing is kept, and what was
+/// found is given all the same: of a copy join no more than `most` needs are held meanwhile, and an aggregate has one. The gate is
+/// passed before each fill and before a mend.
+///
+/// Where it is ready, it takes one step and one for each pair, and stays as it is. Where it stands at p and something pending meets
+/// the piece, and where it stands below p and the ranges of its needs are bare from there on, it is left as `serve` leaves it, with
+/// the steps that this takes, unless it would have more than `most` needs.
+///
+/// On `OutOfMemory` it stands where it stood, or at p, or is forgotten, and is right for the reader's list. The reader may have gone
+/// on and steps may have been taken.
+pub fn serve_up_to<R: Reader, G: Gate, L: Ledger>(
+    state: &mut RangeState,
+    p: u64,
+    range: &Range,
+    most: u64,
+    gate: &G,
+    reader: &mut R,
+    steps: &mut Steps<L>,
+) -> Result<Vec<Pair>, OutOfMemory>
+    requires before { IsPast p state.old → ⊥ }
+    requires within { p ≤ length (R.list reader.old) }
+    requires above { R.floor reader.old ≤ p }
+    requires from { StandsFrom (R.floor reader.old) state.old }
+    requires entered { HasEntered (R.list reader.old) }
+    requires stands { HasRank (joins_of (take p (R.list reader.old))) state.old.join state.old.rank }
+    requires ranked { state.old.rank ≤ R.top }
+    requires sound { IsSound state.old (R.list reader.old) }
+    ensures same { HasSameSubject state.old state.new }
+    ensures given { IfOk result (λ pairs. ServesUpTo most (R.list reader.old) p range.now state.old state.new pairs.items) }
+    ensures few { OnOk result (StaysWithin (Some most) state.old state.new) }
+    ensures filled { state.old.position ≡ None → OnOk result (state.new.kept.pending ≡ []) }
+    ensures still { IsReady p range.now state.old → state.new ≡ state.old }
+    ensures unused { IsReady p range.now state.old → reader.new ≡ reader.old }
+    ensures err { OnErr result (IsLeftOrStandsAt p state.old state.new) }
+    ensures sound { IsSound state.new (R.list reader.new) }
+    ensures moves { Moves R.list R.floor R.went reader.old reader.new }
+    ensures counted { steps.old ≤ steps.new }
+    ensures cost { IfOk result (λ pairs. steps.old + 1 + length pairs.items ≤ steps.new) }
+    ensures at_once { IsReady p range.now state.old → IfOk result (λ pairs. steps.new ≡ steps.old + 1 + length pairs.items) }
+    ensures behind { (q : ℕ) → StandsAt q state.old → q < p → AreBareThroughout (R.list reader.old) q p state.old.kept.needs →
+        IfOk result (λ pairs. WasAdvanced (R.list reader.old) q p range.now state.old state.new (steps.old + 1 + length pairs.items) steps.new ⊎ HasTooMany (Some most) (R.list reader.old) p range.now state.old) }
+    ensures pending { StandsAt p state.old → pending_meets state.old range.now ≡ true →
+        IfOk result (λ pairs. WasMended (R.list reader.old) p range.now state.old state.new (steps.old + 1 + length pairs.items) steps.new ⊎ HasTooMany (Some most) (R.list reader.old) p range.now state.old) }
+{
+    match state.position() {
+        None => fill_and_read(state, p, range, most, gate, reader, steps),
+        Some(_) => serve_kept(state, p, range, most, gate, reader, steps),
+    }
+}
+
+/// Serves a range of a join's output after p entries from what evaluating the join there finds: nothing of it is kept, and no need
+/// of a copy join is collected. The gate is passed before.
 ///
 /// On `OutOfMemory` the reader may have gone on and steps may have been taken.
 pub fn serve_alone<R: Reader, G: Gate, L: Ledger>(
@@ -209,8 +386,6 @@ pub fn serve_alone<R: Reader, G: Gate, L: Ledger>(
     ensures cost { IfOk result (λ pairs. steps.old + 1 + length pairs.items ≤ steps.new) }
 {
     let piece = range.copy()?;
-    gate.pass(range.table());
     let mut state = RangeState::new(alloc, join, rank, range);
-    state.fill(p, reader, steps)?;
-    state.read(&piece, steps)
+    fill_and_read(&mut state, p, &piece, 0, gate, reader, steps)
 }

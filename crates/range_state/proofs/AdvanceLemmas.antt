@@ -29,8 +29,9 @@ use Rattle.kept_ranges.proofs.SoundLemmas.{sound_over_longer, advanced_is_sound,
 use Rattle.kept_ranges.proofs.TouchLemmas.{touched}
 use Rattle.source_changes.specs.Filling.{CanFill}
 use Rattle.source_changes.specs.Laws.{NeedsCanFill}
-use Rattle.range_state.specs.Advanced.{touch_notes, key_notes, touched_by, applied_by, IsAdvancedTo}
+use Rattle.range_state.specs.Advanced.{touch_notes, key_notes, slots_touched, touched_by, applied_by, IsAdvancedTo}
 use Rattle.range_state.specs.Held.{groups_of, kept_of, range_kept, FitsGroups, FitsJoin, HasPlaces}
+use Rattle.range_state.specs.Work.{NotesEach}
 use Rattle.range_state.specs.declared.holding.Holding.{Holding}
 use Rattle.range_state.specs.declared.subject.Subject.{Subject}
 use Rattle.range_state.proofs.FillLemmas.{standing_join}
@@ -93,7 +94,7 @@ left_can_fill needs_can_fill s held h test needs entered sound is =
     subst (AllByRecursion (CanFill s.join)) (sym is) (needs_can_fill s.join (below (take q h) s.rank) held.rows.needs test (standing_join h q s.rank s.join entered sound.stands) (keeps_rules (take q h) s.join s.rank (has_entered_taken q h entered) sound.stands) sound.right.came)
 
 -- a test that all pass
-all_pass : {A : Type 0} (xs : List A) → xs ≡ filter (λ _. true) xs
+pub all_pass : {A : Type 0} (xs : List A) → xs ≡ filter (λ _. true) xs
 all_pass [] = refl
 all_pass (x ∷ xs) = ap (λ ys. x ∷ ys) (all_pass xs)
 
@@ -237,17 +238,18 @@ pub record RowsStep (s : Subject) (p : ℕ) (reported : List Text) (table : Tabl
   pub groups : after.groups ≡ held.groups
   pub output : after.pending.output ≡ held.pending.output
   pub pending : AddsTouched (touched_by s reported held) held.pending.noted after.pending.noted
+  pub once : NotesEach (slots_touched (touched_by s reported held)) held.pending.noted after.pending.noted
   pub needs : after.rows.needs ≡ filter (is_left (touched_by s reported held)) held.rows.needs
   pub pairs : after.rows.pairs ≡ applied table (applied_by s reported after) held.rows.pairs
   pub notes : after.notes ≡ noted held.notes (touch_notes p (touched_by s reported held) ++ key_notes p (applied_by s reported after))
 
 -- from what each call gives
 pub rows_step : (s : Subject) (p : ℕ) (reported : List Text) (table : Table) (held after : Holding) (needs_then needs_now : List Need) (touched : List Touch) (keys : List Text) (mid : Notes) (cut : KeptRows) (applying : List Application)
-    → needs_then ≡ held.rows.needs → touched ≡ touches s.join reported needs_then → keys ≡ map (λ t. t.key) touched → AddsTouched touched held.pending.noted after.pending.noted → mid ≡ noted held.notes (touch_notes p touched)
+    → needs_then ≡ held.rows.needs → touched ≡ touches s.join reported needs_then → keys ≡ map (λ t. t.key) touched → AddsTouched touched held.pending.noted after.pending.noted → NotesEach (slots_touched touched) held.pending.noted after.pending.noted → mid ≡ noted held.notes (touch_notes p touched)
     → cut ≡ record { pairs = held.rows.pairs; needs = filter (λ need. not (came_by_any keys need)) held.rows.needs } → needs_now ≡ cut.needs → applying ≡ applications s.join s.range after.pending.noted reported needs_now
     → after.notes ≡ noted mid (key_notes p applying) → after.rows ≡ record { pairs = applied table applying cut.pairs; needs = cut.needs } → after.position ≡ p → after.groups ≡ held.groups → after.pending.output ≡ held.pending.output
     → RowsStep s p reported table held after
-rows_step s p reported table held after needs_then needs_now touched keys mid cut applying held_needs is_touched are_keys adds is_mid is_cut now_needs is_applying is_notes is_rows position groups output =
+rows_step s p reported table held after needs_then needs_now touched keys mid cut applying held_needs is_touched are_keys adds notes_each is_mid is_cut now_needs is_applying is_notes is_rows position groups output =
     let touches_are : touched ≡ touched_by s reported held = is_touched ∙ ap (touches s.join reported) held_needs in
     let needs_are : after.rows.needs ≡ cut.needs = ap (λ (r : KeptRows). r.needs) is_rows in
     let applying_are : applying ≡ applied_by s reported after = is_applying ∙ ap (applications s.join s.range after.pending.noted reported) (now_needs ∙ sym needs_are) in
@@ -256,6 +258,7 @@ rows_step s p reported table held after needs_then needs_now touched keys mid cu
       groups = groups;
       output = output;
       pending = subst (λ ts. AddsTouched ts held.pending.noted after.pending.noted) touches_are adds;
+      once = subst (λ (ts : List Touch). NotesEach (slots_touched ts) held.pending.noted after.pending.noted) touches_are notes_each;
       needs = needs_are ∙ ap (λ (r : KeptRows). r.needs) is_cut ∙ needs_left touched keys held.rows.needs are_keys ∙ ap (λ ts. filter (is_left ts) held.rows.needs) touches_are;
       pairs = ap (λ (r : KeptRows). r.pairs) is_rows ∙ ap (λ as_now. applied table as_now cut.pairs) applying_are ∙ ap (λ (r : KeptRows). applied table (applied_by s reported after) r.pairs) is_cut;
       notes = is_notes ∙ ap (λ n. noted n (key_notes p applying)) is_mid ∙ noted_parts held.notes (touch_notes p touched) (key_notes p applying)
@@ -268,6 +271,7 @@ rows_advanced s p reported table held after fits step = record {
   fits = fits_noted s p reported held.rows.needs (applied_by s reported after) held after fits step.output (subst (FitsGroups s.join) (sym step.groups) fits.groups) step.notes;
   position = step.position;
   pending = step.pending;
+  once = step.once;
   needs = step.needs;
   notes = step.notes;
 }
@@ -341,10 +345,12 @@ groups_advanced s p reported table held after rules aggregates fits step =
     let same_applied : applied_by s reported held ≡ applied_by s reported after = λ i. applications s.join s.range ((sym step.pending i).noted) reported (sym step.needs i) in
     let notes : after.notes ≡ noted held.notes (touch_notes p (touched_by s reported held) ++ key_notes p (applied_by s reported after)) =
     step.notes ∙ ap (λ ts. noted held.notes (touch_notes p ts ++ key_notes p (applied_by s reported held))) (sym none) ∙ ap (λ as_now. noted held.notes (touch_notes p (touched_by s reported held) ++ key_notes p as_now)) same_applied in
+    let still : after.pending.noted ≡ held.pending.noted = λ i. (step.pending i).noted in
     record {
       fits = fits_noted s p reported held.rows.needs (applied_by s reported after) held after fits (λ i. (step.pending i).output) step.groups notes;
       position = step.position;
       pending = subst (AddsTouched (touched_by s reported held) held.pending.noted) (λ i. (sym step.pending i).noted) (adds_none (touched_by s reported held) held.pending.noted none);
+      once = subst (λ (ts : List Touch). NotesEach (slots_touched ts) held.pending.noted after.pending.noted) (sym none) still;
       needs = step.needs ∙ sym (all_left held.rows.needs) ∙ ap (λ ts. filter (is_left ts) held.rows.needs) (sym none);
       notes = notes;
     }

@@ -1,10 +1,10 @@
 -- Keys that are asked for under the slots of a range.
-use Rattle.std.proofs.Common.{◌≡◌, ◌&&◌, ℕ, List, [], ◌∷◌, length, take, not, Bool, true, false, cond, Option, Some, None, is_some, IfSome, IsSomeAnd, refl, sym, ap, ◌∙◌, subst, inl, arith, eqb-true}
+use Rattle.std.proofs.Common.{◌≡◌, ◌&&◌, ℕ, length, take, not, Bool, true, false, cond, Option, Some, None, is_some, IfSome, IsSomeAnd, refl, sym, ap, ◌∙◌, subst, inl, eqb-true}
 use Rattle.std.proofs.lemmas.Bool.{false≢true, and_parts}
 use Rattle.semantics.specs.Texts.{Text, Table, is_range, Range, within, value_at, pairs_where, pairs_within}
 use Rattle.semantics.specs.Patterns.{Slots, no_slots, bind, fits, IsPartOf}
 use Rattle.semantics.specs.PatternLaws.{AreSegmentTexts}
-use Rattle.semantics.specs.Joins.{Operator, check, copy, count, sum, min, max, is_check, is_aggregate, Source, Join, is_join, value_sources_of, value_operator}
+use Rattle.semantics.specs.Joins.{Operator, check, copy, count, sum, min, max, is_check, is_aggregate, Join, is_join, value_sources_of, value_operator}
 use Rattle.semantics.specs.Histories.{History, DeclaredJoin, joins_of}
 use Rattle.semantics.specs.Outputs.{out}
 use Rattle.semantics.specs.States.{KeepsRules}
@@ -22,6 +22,7 @@ use Rattle.growing_history.proofs.EnteredLemmas.{has_entered_taken, declares_joi
 use Rattle.range_evaluation.specs.Trees.{is_asked}
 use Rattle.range_evaluation.specs.TreeLaws.{AreOutputSlots}
 use Rattle.range_evaluation.proofs.AskedLemmas.{binds_with_part, shared_are_output_slots}
+use Rattle.range_evaluation.proofs.ContributionLemmas.{one_of}
 
 -- a key of the range that fits the output binds under the range's slots
 binds_under : (j : Join) (range : Range) (slots : Slots) (key : Text) → is_join j ≡ true → is_range range.low range.high ≡ true → range_slots j.output range ≡ Some slots → within range key ≡ true → fits j.output key ≡ true
@@ -83,15 +84,10 @@ copy_by sum c a = cc
 copy_by min c a = cc
 copy_by max c a = cc
 
-one_by : (ss : List Source) → length ss ≡ 1 → (s : Source) × (ss ≡ s ∷ [])
-one_by [] e = absurd (omega arith)
-one_by (s ∷ []) e = (s, refl)
-one_by (s ∷ t ∷ ss) e = absurd (omega arith)
-
 -- a join that keeps the rules and is no aggregate is a copy join
 pub copies_by : (j : Join) → KeepsRules j → is_aggregate (value_operator j) ≡ false → value_operator j ≡ copy
 copies_by j rules plain =
-    let one = one_by (value_sources_of j.sources) (eqb-true _ _ (and_parts _ _ (and_parts _ _ rules.sources).0).0) in
+    let one = one_of (value_sources_of j.sources) (eqb-true _ _ (and_parts _ _ (and_parts _ _ rules.sources).0).0) in
     let is = one.1 in
     let own : is_aggregate one.0.operator ≡ false = rw is at plain in
     let passes = (has_filter (λ s. not (is_check s.operator)) j.sources one.0 (subst (λ ss. Has ss one.0) (sym is) (inl refl))).0 in

@@ -1,16 +1,17 @@
 -- What is held, over the list of a reader that has gone on, and what an advance leaves.
-use Rattle.std.proofs.Common.{◌≡◌, ℕ, ◌≤◌, List, [], ◌∷◌, length, take, Contains, true, Option, Some, refl, sym, ap, ◌∙◌, subst, inl, ⊎_elim, arith}
+use Rattle.std.proofs.Common.{◌≡◌, ℕ, ◌≤◌, List, [], ◌∷◌, length, take, Contains, true, Option, Some, sym, ap, ◌∙◌, subst, ⊎_elim, arith}
 use Rattle.std.specs.Option.{IsSomeAnd}
 use Rattle.semantics.specs.Texts.{Text, is_range, value_at}
 use Rattle.semantics.specs.Patterns.{Slots}
 use Rattle.semantics.specs.Joins.{checks_of, Join}
 use Rattle.semantics.specs.Histories.{History, IsPrefix, joins_of}
 use Rattle.semantics.specs.States.{below}
-use Rattle.semantics.proofs.MemberLemmas.{Has, has_from_contains, contains_from_has}
+use Rattle.semantics.proofs.MemberLemmas.{has_from_contains, contains_from_has}
 use Rattle.growing_history.specs.Changes.{Same}
 use Rattle.growing_history.specs.Entered.{HasEntered, HasRank}
 use Rattle.growing_history.proofs.PrefixLemmas.{take_prefix}
 use Rattle.range_evaluation.specs.Trees.{Need}
+use Rattle.range_evaluation.proofs.ListedLemmas.{nothing_in}
 use Rattle.kept_ranges.specs.Rules.{Touch, AddsTouched}
 use Rattle.kept_ranges.specs.Sound.{KeptRange, IsSoundAt, IsSound}
 use Rattle.kept_ranges.specs.SoundLaws.{AreReportedBetween}
@@ -70,15 +71,10 @@ refilled_sound s h here more p held first last bounds entered place stands fille
 
 -- ---- what is pending
 
--- a list in which nothing stands is empty
-pub no_element : {A : Type 0} (xs : List A) → ((x : A) → Has xs x → ⊥) → xs ≡ []
-no_element [] none = refl
-no_element (x ∷ xs) none = absurd (none x (inl refl))
-
 adds_nothing : (touched : List Touch) (old new : List Slots) → touched ≡ [] → old ≡ [] → AddsTouched touched old new → new ≡ []
 adds_nothing touched old new untouched_is none adds =
     let bare : AddsTouched [] [] new = subst (λ (w : List Touch × List Slots). AddsTouched w.0 w.1 new) (λ i. (untouched_is i, none i)) adds in
-    no_element new (λ x h. ⊎_elim (λ (was : Contains [] x). has_from_contains [] x was) (λ (of_touch : Contains [] x). has_from_contains [] x of_touch) ((bare x).0 (contains_from_has new x h)))
+    nothing_in new (λ x h. ⊎_elim (λ (was : Contains [] x). has_from_contains [] x was) (λ (of_touch : Contains [] x). has_from_contains [] x of_touch) ((bare x).0 (contains_from_has new x h)))
 
 -- where the join has no check source and nothing was pending, nothing is
 pub unchecked_pending : (s : Subject) (held same after : Holding) (v : KeptRange) (p : ℕ) (reported : List Text) → range_kept s held ≡ v → same ≡ held → IsAdvancedTo s p reported same after → checks_of v.join.sources ≡ [] → v.kept.pending ≡ []

@@ -3,6 +3,7 @@ pub mod SinceLemmas
 pub mod ReadLemmas
 pub mod FillLemmas
 pub mod NothingLemmas
+pub mod HeldLemmas
 pub mod SoundLemmas
 pub mod ListingLemmas
 pub mod MendLemmas

@@ -1,5 +1,5 @@
 -- What an advance over bare ranges leaves as it was.
-use Rattle.std.proofs.Common.{◌≡◌, ℕ, ◌+◌, ◌≤◌, suc, Bool, true, false, cond, not, List, [], ◌∷◌, ◌++◌, length, map, filter, Contains, Option, Some, None, refl, sym, ap, ◌∙◌, subst, inl, inr, ⊎_elim, arith, length-append}
+use Rattle.std.proofs.Common.{◌≡◌, ℕ, ◌+◌, ◌≤◌, suc, Bool, true, false, cond, List, [], ◌∷◌, ◌++◌, length, map, filter, Contains, Option, Some, None, IfSome, refl, sym, ap, ◌∙◌, subst, inl, inr, ⊎_elim, arith, length-append}
 use Rattle.std.specs.List.{Any, list_any, sum_by}
 use Rattle.std.specs.Option.{IsSomeAnd}
 use Rattle.std.proofs.lemmas.Bool.{false≢true, not-true}
@@ -14,32 +14,26 @@ use Rattle.growing_history.specs.Changes.{changed_keys}
 use Rattle.growing_history.proofs.ElementLemmas.{all_from_has, has_of_all}
 use Rattle.key_ranges.specs.Containing.{only}
 use Rattle.range_evaluation.specs.Trees.{Need}
+use Rattle.range_evaluation.proofs.PathLemmas.{is_any}
 use Rattle.kept_ranges.specs.Notes.{note_limit}
 use Rattle.kept_ranges.specs.Rules.{source_of, reported_in, Touch, is_touched, is_left, Application, applications}
 use Rattle.kept_ranges.specs.Sound.{KeptRange}
-use Rattle.kept_ranges.proofs.TouchLemmas.{touched}
+use Rattle.kept_ranges.proofs.TouchLemmas.{touched, not_by}
 use Rattle.source_changes.specs.Asking.{ListsWritten, AreListed, changed_count}
 use Rattle.source_changes.specs.Laws.{is_check_source, is_value_source, check_needs, value_needs, changed_in, FewTouches, FewApplications}
-use Rattle.range_state.specs.Advanced.{touch_notes, key_notes, touched_by, applied_by, IsAdvancedTo}
-use Rattle.range_state.specs.Held.{range_kept}
+use Rattle.source_changes.proofs.CountLemmas.{sum_taken}
+use Rattle.range_state.specs.Advanced.{touch_notes, key_notes, slots_touched, touched_by, applied_by, IsAdvancedTo}
+use Rattle.range_state.specs.Held.{range_kept, view_of, FitsJoin}
 use Rattle.range_state.specs.Ready.{StandsAt}
 use Rattle.range_state.specs.Work.{IsTouchedBy, IsTouched, AreTouchedSlots, TouchesLittle}
 use Rattle.range_state.specs.declared.holding.Holding.{Holding}
 use Rattle.range_state.specs.declared.subject.Subject.{Subject}
+use Rattle.range_state.proofs.AdvanceLemmas.{all_pass}
 use Rattle.range_state.proofs.CostLemmas.{same_place}
 use Rattle.range_state.proofs.MarkLemmas.{notes_are_marks}
-use Rattle.range_state.proofs.NotingLemmas.{noted_start}
+use Rattle.range_state.proofs.NotingLemmas.{noted_none, noted_start}
 
 -- ---- touched keys
-
--- what holds of an element holds of some
-any_of : {A : Type 0} (P : A → Type 0) (xs : List A) (x : A) → Has xs x → P x → Any P xs
-any_of P xs x has holds = let c = contains_from_has xs x has in (c.0, x, c.1, c.2, holds)
-
--- what is no test's answer
-not_by : (b : Bool) → (b ≡ true → ⊥) → not b ≡ true
-not_by true h = absurd (h refl)
-not_by false h = refl
 
 -- a reported key of a check need's range was put or removed
 touched_through : (s : Subject) (held : Holding) (h : History) (p : ℕ) (reported : List Text) (need : Need) (source : Source) (key : Text) → AreListed held.position p h held.rows.needs reported → Has held.rows.needs need → source_of s.join need ≡ Some source → is_check source.operator ≡ true
@@ -77,17 +71,9 @@ needs_stay s held h p reported need listed has untouched = has_filtered (is_left
     let key_is : t.0.key ≡ a.0 = equal_by_same t.0.key a.0 t.2 in
     let by_key : IsTouchedBy h held.position p (range_kept s held) t.0.key is.need = touched_through s held h p reported is.need is.source_is t.0.key listed is.has is.of_source is.is_check is.inside is.reports in
     let here : IsTouchedBy h held.position p (range_kept s held) a.0 is.need = subst (λ (k : Text). IsTouchedBy h held.position p (range_kept s held) k is.need) key_is by_key in
-    untouched (any_of (IsTouched h held.position p (range_kept s held)) need.by a.0 a.1 (any_of (IsTouchedBy h held.position p (range_kept s held) a.0) held.rows.needs is.need is.has here)))) has
+    untouched (is_any (IsTouched h held.position p (range_kept s held)) need.by a.0 a.1 (is_any (IsTouchedBy h held.position p (range_kept s held) a.0) held.rows.needs is.need is.has here)))) has
 
 -- ---- how many notes are made
-
--- a part of a sum that is taken or not
-sum_taken : {A : Type 0} (f : A → ℕ) (test : A → Bool) (x : A) (xs : List A) → sum_by f (filter test (x ∷ xs)) ≡ cond (test x) (f x) 0 + sum_by f (filter test xs)
-sum_taken f test x xs = by_test (test x)
-  where
-    by_test : (b : Bool) → sum_by f (cond b (x ∷ filter test xs) (filter test xs)) ≡ cond b (f x) 0 + sum_by f (filter test xs)
-    by_test true = sum_by-cons f x (filter test xs)
-    by_test false = omega arith
 
 -- one element more, or not, of a list that is filtered
 taken_more : {A : Type 0} (f : A → ℕ) (test : A → Bool) (x : A) (xs : List A) (b : Bool) → sum_by f (filter test (cond b (x ∷ xs) xs)) ≤ cond (test x) (f x) 0 + sum_by f (filter test xs)
@@ -152,17 +138,22 @@ notes_count few_touches few_applications s held made h p reported listed advance
 -- an advance over bare ranges touches little
 little_here : FewTouches → FewApplications → (s : Subject) (held made : Holding) (h : History) (p : ℕ) (reported : List Text) → AreListed held.position p h held.rows.needs reported → IsAdvancedTo s p reported held made
     → TouchesLittle h held.position p (range_kept s held) (range_kept s made)
-little_here few_touches few_applications s held made h p reported listed advanced = record {
-  pending = λ slots has. ⊎_elim (λ (old : Contains held.pending.noted slots). inl old) (λ (new : Contains (map (λ t. t.slots) (touched_by s reported held)) slots). inr (touched_slots s held h p reported slots listed new)) ((advanced.pending slots).0 has);
-  needs = λ need has untouched. subst (λ (ns : List Need). Contains ns need) (sym advanced.needs)
-      (contains_from_has (filter (is_left (touched_by s reported held)) held.rows.needs) need (needs_stay s held h p reported need listed (has_from_contains held.rows.needs need has) untouched));
-  no_more = λ need has.
-      let test = is_left (touched_by s reported held) in
-      contains_from_has held.rows.needs need
-      (has_filter test held.rows.needs need (has_from_contains (filter test held.rows.needs) need (subst (λ (ns : List Need). Contains ns need) advanced.needs has))).1;
-  notes = notes_are_marks s held made h p reported (λ given has. touched_slots s held h p reported given listed has) listed advanced;
-  start = λ room. ap (λ n. n.start) advanced.notes ∙ noted_start held.notes (touch_notes p (touched_by s reported held) ++ key_notes p (applied_by s reported made)) (fits _ _ _ _ room (notes_count few_touches few_applications s held made h p reported listed advanced));
-}
+little_here few_touches few_applications s held made h p reported listed advanced =
+    let added = touch_notes p (touched_by s reported held) ++ key_notes p (applied_by s reported made) in
+    let count = notes_count few_touches few_applications s held made h p reported listed advanced in
+    record {
+      pending = λ slots has. ⊎_elim (λ (old : Contains held.pending.noted slots). inl old) (λ (new : Contains (map (λ t. t.slots) (touched_by s reported held)) slots). inr (touched_slots s held h p reported slots listed new)) ((advanced.pending slots).0 has);
+      touched = slots_touched (touched_by s reported held);
+      once = advanced.once;
+      needs = λ need has untouched. subst (λ (ns : List Need). Contains ns need) (sym advanced.needs)
+          (contains_from_has (filter (is_left (touched_by s reported held)) held.rows.needs) need (needs_stay s held h p reported need listed (has_from_contains held.rows.needs need has) untouched));
+      left = (is_left (touched_by s reported held), advanced.needs);
+      added = added;
+      notes = advanced.notes;
+      marks = λ note has. notes_are_marks s held made h p reported (λ given of_touch. touched_slots s held h p reported given listed of_touch) listed advanced note has;
+      few = count;
+      start = λ room. ap (λ n. n.start) advanced.notes ∙ noted_start held.notes added (fits _ _ _ _ room count);
+    }
   where
     fits : (a b c limit : ℕ) → a + c ≤ limit → b ≤ c → a + b ≤ limit
     fits a b c limit r l = omega arith
@@ -177,12 +168,26 @@ little_held few_touches few_applications s held same made after v h q p needs re
     let there : TouchesLittle h q p v (range_kept s made) = subst (λ (w : ℕ × KeptRange). TouchesLittle h w.0 p w.1 (range_kept s made)) (λ i. (place i, view i)) own in
     subst (λ (a : Holding). TouchesLittle h q p v (range_kept s a)) (sym after_is) there
 
+-- what is held has no more notes than are kept at most
+few_held : (s : Subject) (o : Option Holding) → IfSome o (FitsJoin s.join) → length (view_of s o).notes.list ≤ note_limit
+few_held s None fits = omega arith
+few_held s (Some held) fits = fits.few
+
+-- nor has what is kept
+pub few_kept : (s : Subject) (o : Option Holding) (v : KeptRange) → view_of s o ≡ v → IfSome o (FitsJoin s.join) → length v.notes.list ≤ note_limit
+few_kept s o v view fits = subst (λ (w : KeptRange). length w.notes.list ≤ note_limit) view (few_held s o fits)
+
 -- where nothing is done, nothing is touched
-pub little_same : (h : History) (q p : ℕ) (v : KeptRange) → TouchesLittle h q p v v
-little_same h q p v = record {
+pub little_same : (h : History) (q p : ℕ) (v : KeptRange) → length v.notes.list ≤ note_limit → TouchesLittle h q p v v
+little_same h q p v fits = record {
   pending = λ slots has. inl has;
+  touched = [];
+  once = refl;
   needs = λ need has untouched. has;
-  no_more = λ need has. has;
-  notes = λ note has. inl has;
+  left = (λ _. true, all_pass v.kept.needs);
+  added = [];
+  notes = sym (noted_none v.notes fits);
+  marks = λ note has. absurd (has_from_contains [] note has);
+  few = omega arith;
   start = λ room. refl;
 }

@@ -1,5 +1,5 @@
 -- What an advance over bare ranges notes.
-use Rattle.std.proofs.Common.{◌≡◌, ◌⊎◌, ℕ, zero, suc, ◌-◌, List, [], ◌∷◌, ◌++◌, length, drop, map, Contains, false, Option, Some, option_and_then, refl, sym, ap, ◌∙◌, subst, inl, inr, ⊎_elim}
+use Rattle.std.proofs.Common.{◌≡◌, ℕ, List, ◌++◌, map, Contains, false, Option, option_and_then, refl, sym, ap, ◌∙◌, subst, ⊎_elim}
 use Rattle.std.specs.Option.{IsSomeAnd}
 use Rattle.semantics.specs.Texts.{Text, within}
 use Rattle.semantics.specs.Patterns.{Slots, bind, fill}
@@ -9,8 +9,8 @@ use Rattle.semantics.proofs.MemberLemmas.{Has, has_from_contains, contains_from_
 use Rattle.growing_history.specs.Changes.{changed_keys}
 use Rattle.growing_history.proofs.ElementLemmas.{has_of_all}
 use Rattle.range_evaluation.specs.Trees.{Need}
-use Rattle.kept_ranges.specs.Notes.{key, slots, Note, Notes, note_limit, noted}
-use Rattle.kept_ranges.specs.Rules.{reported_in, output_of, Touch, is_left, Application}
+use Rattle.kept_ranges.specs.Notes.{key, slots, Note}
+use Rattle.kept_ranges.specs.Rules.{reported_in, Touch, is_left, Application}
 use Rattle.kept_ranges.proofs.ApplyLemmas.{application_from}
 use Rattle.source_changes.specs.Asking.{ListsWritten, AreListed}
 use Rattle.range_state.specs.Advanced.{touch_notes, key_notes, touched_by, applied_by, IsAdvancedTo}
@@ -18,19 +18,6 @@ use Rattle.range_state.specs.Held.{range_kept}
 use Rattle.range_state.specs.Work.{AreTouchedSlots, IsFilledBy, IsMarkOf}
 use Rattle.range_state.specs.declared.holding.Holding.{Holding}
 use Rattle.range_state.specs.declared.subject.Subject.{Subject}
-
--- what stands in a list without its first elements stands in the list
-dropped_has : {A : Type 0} (n : ℕ) (xs : List A) (x : A) → Has (drop n xs) x → Has xs x
-dropped_has zero xs x h = h
-dropped_has (suc n) [] x h = absurd h
-dropped_has (suc n) (y ∷ ys) x h = inr (dropped_has n ys x h)
-
--- a note that is kept was there, or was added
-noted_has : (notes : Notes) (added : List Note) (note : Note) → Contains (noted notes added).list note → Contains notes.list note ⊎ Has added note
-noted_has notes added note c =
-    let all : List Note = notes.list ++ added in
-    let there : Has all note = dropped_has (length all - note_limit) all note (has_from_contains (noted notes added).list note c) in
-    ⊎_elim (λ (old : Has notes.list note). inl (contains_from_has notes.list note old)) (λ (new : Has added note). inr new) (has_append_cases notes.list added note there)
 
 -- an output key to which a reported key is applied is filled by a changed key of a value need's range
 applied_fills : (s : Subject) (held made : Holding) (h : History) (p : ℕ) (reported : List Text) (a : Application) → AreListed held.position p h held.rows.needs reported → IsAdvancedTo s p reported held made
@@ -66,16 +53,14 @@ application_mark s held made h p reported note listed advanced has =
     let filled : IsFilledBy h held.position p (range_kept s held) w.0.output = applied_fills s held made h p reported w.0 listed advanced w.1 in
     subst (λ (n : Note). (n.position ≡ p) × IsMarkOf h held.position p (range_kept s held) n.mark) w.2 (refl, filled)
 
--- a note afterwards was there before, or was made at the position of what the advance touches
+-- a note that an advance makes is made at its position, of what it touches
 pub notes_are_marks : (s : Subject) (held made : Holding) (h : History) (p : ℕ) (reported : List Text) → ((given : Slots) → Contains (map (λ t. t.slots) (touched_by s reported held)) given → AreTouchedSlots h held.position p (range_kept s held) given)
     → AreListed held.position p h held.rows.needs reported → IsAdvancedTo s p reported held made
-    → (note : Note) → Contains made.notes.list note → Contains held.notes.list note ⊎ ((note.position ≡ p) × IsMarkOf h held.position p (range_kept s held) note.mark)
+    → (note : Note) → Contains (touch_notes p (touched_by s reported held) ++ key_notes p (applied_by s reported made)) note → (note.position ≡ p) × IsMarkOf h held.position p (range_kept s held) note.mark
 notes_are_marks s held made h p reported of_touches listed advanced note has =
     let by_touch = touch_notes p (touched_by s reported held) in
     let by_key = key_notes p (applied_by s reported made) in
-    ⊎_elim (λ (old : Contains held.notes.list note). inl old)
-    (λ (new : Has (by_touch ++ by_key) note). inr (⊎_elim
+    ⊎_elim
     (λ (there : Has by_touch note). touch_mark s held h p reported note of_touches there)
     (λ (there : Has by_key note). application_mark s held made h p reported note listed advanced there)
-    (has_append_cases by_touch by_key note new)))
-    (noted_has held.notes (by_touch ++ by_key) note (subst (λ (n : Notes). Contains n.list note) advanced.notes has))
+    (has_append_cases by_touch by_key note (has_from_contains (by_touch ++ by_key) note has))

@@ -20,6 +20,7 @@ use Rattle.join_rows.specs.Kept.{KeptRows, AddsOnce, AddsEach}
 use Rattle.kept_ranges.specs.Kept.{Kept}
 use Rattle.kept_ranges.specs.Rules.{IsMended}
 use Rattle.growing_history.proofs.PrefixLemmas.{take_prefix}
+use Rattle.join_eval.specs.Bounds.{Exceeds}
 use Rattle.join_eval.specs.Walks.{AreBare}
 use Rattle.kept_ranges.specs.Notes.{Mark, key, slots, Note, Notes, note_limit, last_dropped, noted}
 use Rattle.kept_ranges.specs.Sound.{KeptRange, IsSoundAt}
@@ -29,7 +30,7 @@ use Rattle.lazy_log.specs.Pending.{meets_output}
 use Rattle.range_state.specs.Held.{range_kept}
 use Rattle.range_state.specs.Mended.{AreAllBare, AreBareFor, steps_for, steps_under, with_pending}
 use Rattle.range_state.specs.Ready.{StandsAt}
-use Rattle.range_state.specs.Work.{AddsNeeds, AreBareUnder, meeting, mend_notes, mend_steps, needs_under_each}
+use Rattle.range_state.specs.Work.{AreBareUnder, MendsTooMany, meeting, mend_notes, mend_steps, needs_under_each}
 use Rattle.range_state.specs.declared.holding.Holding.{Holding}
 use Rattle.range_state.specs.declared.subject.Subject.{Subject}
 use Rattle.range_state.proofs.FillLemmas.{copies_by}
@@ -142,6 +143,23 @@ adds_each added old new adds n = (
   λ c. ⊎_elim (λ a. inl (contains_from_has old n a)) (λ b. inr (contains_from_has added n b)) (added_from added old new n adds (has_from_contains new n c)),
   λ w. contains_from_has new n (⊎_elim (λ a. added_old added old new n adds (has_from_contains old n a)) (λ b. added_new added old new n adds (has_from_contains added n b)) w),
 )
+
+-- needs that are added each once, and others after them, are added each once together
+adds_append : (xs ys old mid new : List Need) → AddsEach xs old mid → AddsEach ys mid new → AddsEach (xs ++ ys) old new
+adds_append [] ys old mid new first next = subst (λ (from : List Need). AddsEach ys from new) first next
+adds_append (x ∷ xs) ys old mid new first next = (first.0, (first.1.0, adds_append xs ys first.0 mid new first.1.1 next))
+
+once_long : (a : Need) (old mid : List Need) → AddsOnce a old mid → length mid ≤ length old + 1
+once_long a old mid (inl there) = let same : length mid ≡ length old = ap length there.1 in omega (arith, same)
+once_long a old mid (inr new) = let long : length mid ≡ length old + 1 = ap length new.1 ∙ length-append old (a ∷ []) in omega (arith, long)
+
+-- no more needs are added than there are
+pub adds_long : (added old new : List Need) → AddsEach added old new → length new ≤ length old + length added
+adds_long [] old new adds = let same : length new ≡ length old = ap length adds in omega (arith, same)
+adds_long (a ∷ added) old new adds =
+    let one : length adds.0 ≤ length old + 1 = once_long a old adds.0 adds.1.0 in
+    let more : length new ≤ length adds.0 + length added = adds_long added adds.0 new adds.1.1 in
+    omega (arith, one, more)
 
 -- ---- one step
 
@@ -303,11 +321,11 @@ mending_counts s held h range taken old new is least q stands =
 
 -- which needs it adds
 pub mending_adds : (s : Subject) (held : Holding) (h : History) (range : Range) (taken : List Slots) (new : List Need) → taken ≡ filter (meets_output s.join.output range) held.pending.noted
-    → AddsNeeds (needs_under_each s.join s.range (below (take held.position h) s.rank) taken) held.rows.needs new
-    → (q : ℕ) → StandsAt q (range_kept s held) → AddsNeeds (needs_under_each s.join s.range (below (take q h) s.rank) (meeting (range_kept s held) range)) held.rows.needs new
+    → AddsEach (needs_under_each s.join s.range (below (take held.position h) s.rank) taken) held.rows.needs new
+    → (q : ℕ) → StandsAt q (range_kept s held) → AddsEach (needs_under_each s.join s.range (below (take q h) s.rank) (meeting (range_kept s held) range)) held.rows.needs new
 mending_adds s held h range taken new is adds q stands =
     let e : held.position ≡ q = same_Some held.position q stands in
-    subst (λ (w : ℕ × List Slots). AddsNeeds (needs_under_each s.join s.range (below (take w.0 h) s.rank) w.1) held.rows.needs new) (λ i. (e i, is i)) adds
+    subst (λ (w : ℕ × List Slots). AddsEach (needs_under_each s.join s.range (below (take w.0 h) s.rank) w.1) held.rows.needs new) (λ i. (e i, is i)) adds
 
 -- and which notes it makes
 pub mending_notes : (s : Subject) (held : Holding) (range : Range) (taken : List Slots) (new : Notes) → taken ≡ filter (meets_output s.join.output range) held.pending.noted
@@ -317,45 +335,33 @@ mending_notes s held range taken new is made q stands =
     let e : held.position ≡ q = same_Some held.position q stands in
     made ∙ (λ i. noted held.notes (mend_notes (e i) (is i)))
 
+-- and that it would have too many needs
+pub mending_exceeds : (most : Option ℕ) (s : Subject) (held : Holding) (h : History) (range : Range) (taken : List Slots) → taken ≡ filter (meets_output s.join.output range) held.pending.noted
+    → Exceeds most (length held.rows.needs + length (needs_under_each s.join s.range (below (take held.position h) s.rank) taken))
+    → (q : ℕ) → StandsAt q (range_kept s held) → MendsTooMany most (below (take q h) s.rank) range (range_kept s held)
+mending_exceeds most s held h range taken is many q stands =
+    let e : held.position ≡ q = same_Some held.position q stands in
+    subst (λ (w : ℕ × List Slots). Exceeds most (length held.rows.needs + length (needs_under_each s.join s.range (below (take w.0 h) s.rank) w.1))) (λ i. (e i, is i)) many
+
 -- ---- slot by slot
 
--- the needs so far, with those that are found under the slots that are left, are the old ones with those under all
+-- whatever needs are added under the slots that are left make those that are added under all
 abbrev pub AddsLeft : Join → Range → Table → List Slots → List Slots → List Need → List Need → Type 0
 AddsLeft j range table taken rest old now =
-    (need : Need) → (Contains now need ⊎ Contains (needs_under_each j range table rest) need) ↔ (Contains old need ⊎ Contains (needs_under_each j range table taken) need)
-
--- needs that are added each once, with others behind them
-added_before : (own others now next : List Need) → AddsEach own now next → (need : Need) → (Contains next need ⊎ Contains others need) ↔ (Contains now need ⊎ Contains (own ++ others) need)
-added_before own others now next adds need = (forth, back)
-  where
-    forth : Contains next need ⊎ Contains others need → Contains now need ⊎ Contains (own ++ others) need
-    forth (inl found) = ⊎_elim
-        (λ (there : Contains now need). inl there)
-        (λ (added : Contains own need). inr (contains_from_has (own ++ others) need (has_append_left own others need (has_from_contains own need added))))
-        ((adds_each own now next adds need).0 found)
-    forth (inr later) = inr (contains_from_has (own ++ others) need (has_append_right own others need (has_from_contains others need later)))
-
-    back : Contains now need ⊎ Contains (own ++ others) need → Contains next need ⊎ Contains others need
-    back (inl there) = inl ((adds_each own now next adds need).1 (inl there))
-    back (inr both) = ⊎_elim
-        (λ (added : Has own need). inl ((adds_each own now next adds need).1 (inr (contains_from_has own need added))))
-        (λ (later : Has others need). inr (contains_from_has others need later))
-        (has_append_cases own others need (has_from_contains (own ++ others) need both))
+    (new : List Need) → AddsEach (needs_under_each j range table rest) now new → AddsEach (needs_under_each j range table taken) old new
 
 -- one of the slots that are left is mended
 pub needs_next : (j : Join) (range : Range) (table here : Table) (given : Slots) (taken all rest : List Slots) (old now next : List Need) → here ≡ table → all ≡ given ∷ rest → AddsEach (tree j given range here) now next
     → AddsLeft j range table taken all old now → AddsLeft j range table taken rest old next
-needs_next j range table here given taken all rest old now next at first adds so_far need =
+needs_next j range table here given taken all rest old now next at first adds so_far new later =
     let left : AddsLeft j range table taken (given ∷ rest) old now = subst (λ (ss : List Slots). AddsLeft j range table taken ss old now) first so_far in
     let one : AddsEach (tree j given range table) now next = subst (λ (t : Table). AddsEach (tree j given range t) now next) at adds in
-    let both = added_before (tree j given range table) (needs_under_each j range table rest) now next one need in
-    (λ has. (left need).0 (both.0 has), λ has. both.1 ((left need).1 has))
+    left new (adds_append (tree j given range table) (needs_under_each j range table rest) now next new one later)
 
 -- once none is left, the needs under all are added
-pub needs_end : (j : Join) (range : Range) (table : Table) (taken rest : List Slots) (old new : List Need) → length rest ≡ 0 → AddsLeft j range table taken rest old new → AddsNeeds (needs_under_each j range table taken) old new
-needs_end j range table taken [] old new none all need =
-    (λ has. (all need).0 (inl has), λ has. ⊎_elim (λ (there : Contains new need). there) (λ (left : Contains [] need). absurd (has_from_contains [] need left)) ((all need).1 has))
-needs_end j range table taken (x ∷ xs) old new none all need = absurd (omega arith)
+pub needs_end : (j : Join) (range : Range) (table : Table) (taken rest : List Slots) (old new : List Need) → length rest ≡ 0 → AddsLeft j range table taken rest old new → AddsEach (needs_under_each j range table taken) old new
+needs_end j range table taken [] old new none all = all new refl
+needs_end j range table taken (x ∷ xs) old new none all = absurd (omega arith)
 
 -- nothing more is read
 pub steps_end : (s : Subject) (h : History) (q : ℕ) (rest : List Slots) → length rest ≡ 0 → steps_under s h q rest ≡ 0

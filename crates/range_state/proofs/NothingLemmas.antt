@@ -1,11 +1,11 @@
 -- A range of which no key fits the output.
-use Rattle.std.proofs.Common.{◌≡◌, ℕ, [], take, true, None, MatchOption, refl, sym, ap, ◌∙◌, subst}
+use Rattle.std.proofs.Common.{◌≡◌, ℕ, [], length, take, true, Option, None, MatchOption, refl, sym, ap, ◌∙◌, subst}
 use Rattle.semantics.specs.Texts.{is_range}
 use Rattle.semantics.specs.Joins.{is_aggregate, value_operator}
 use Rattle.semantics.specs.Histories.{History, joins_of}
-use Rattle.semantics.specs.Patterns.{no_slots}
+use Rattle.semantics.specs.Patterns.{Slots, no_slots}
 use Rattle.semantics.specs.States.{KeepsRules, below}
-use Rattle.semantics.specs.Texts.{pairs_within}
+use Rattle.semantics.specs.Texts.{Table, pairs_within}
 use Rattle.semantics.specs.Outputs.{out}
 use Rattle.key_ranges.specs.Containing.{range_slots}
 use Rattle.growing_history.specs.Entered.{HasEntered, HasRank}
@@ -17,9 +17,12 @@ use Rattle.range_evaluation.proofs.AskedLemmas.{shared_give_out}
 use Rattle.range_evaluation.proofs.ContributionLemmas.{shared_give_contributions}
 use Rattle.join_rows.specs.Kept.{KeptRows}
 use Rattle.agg_rows.specs.Kept.{Groups, pairs_of}
+use Rattle.join_eval.specs.Bounds.{Allows}
+use Rattle.join_eval.proofs.CollectingLemmas.{none_allowed}
 use Rattle.kept_ranges.specs.Listing.{listed_at}
 use Rattle.range_state.specs.Held.{groups_of}
 use Rattle.range_state.specs.Filled.{HoldsAt, IsFilledAt}
+use Rattle.range_state.specs.Work.{fill_needs, needs_under}
 use Rattle.range_state.specs.declared.holding.Holding.{Holding}
 use Rattle.range_state.specs.declared.subject.Subject.{Subject}
 use Rattle.range_state.proofs.FillLemmas.{standing_join}
@@ -51,3 +54,8 @@ nothing_filled s h p held entered stands bounds none holds empty =
           (shared_give_contributions s.join s.range table ok rules aggregates bounds keys) in
           ap (λ (groups : Groups). pairs_of key groups) empty ∙ sym (ap (listed_at key) unlisted);
     }
+
+-- and it takes no need, which any number allows
+pub nothing_allowed : (s : Subject) (most : Option ℕ) (table : Table) → range_slots s.join.output s.range ≡ None → Allows most (length (fill_needs s.join s.range table))
+nothing_allowed s most table none =
+    subst (λ (o : Option Slots). Allows most (length (needs_under s.join s.range table o))) (sym none) (none_allowed most)

@@ -7,7 +7,8 @@ use Rattle.semantics.proofs.MemberLemmas.{Has, has_from_contains, contains_from_
 use Rattle.lazy_log.specs.Pending.{NotesOnce}
 use Rattle.kept_ranges.specs.Notes.{key, slots, Note, Notes, note_limit, last_dropped, noted}
 use Rattle.kept_ranges.specs.Rules.{Touch, Application, AddsTouched}
-use Rattle.range_state.specs.Advanced.{touch_notes, key_notes}
+use Rattle.range_state.specs.Advanced.{touch_notes, key_notes, slots_touched}
+use Rattle.range_state.specs.Work.{NotesEach}
 
 -- ---- first notes that are left out
 
@@ -106,10 +107,6 @@ noted_next now next note rest one = ap (λ n. noted n rest) one ∙ noted_parts 
 
 -- ---- slots that are pending
 
--- the slots of touches
-abbrev pub slots_touched : List Touch → List Slots
-slots_touched touched = map (λ touch. touch.slots) touched
-
 -- what is pending, with the slots of the touches that are left, is what was pending before with those of all
 abbrev pub AddsRest : List Touch → List Touch → List Slots → List Slots → Type 0
 AddsRest touched rest old now = (s : Slots) → (Contains now s ⊎ Contains (slots_touched rest) s) ↔ (Contains old s ⊎ Contains (slots_touched touched) s)
@@ -156,6 +153,21 @@ adds_next touched rest t old now next so_far once s = (λ h. (so_far s).0 (forth
 pub adds_all : (touched rest : List Touch) (old new : List Slots) → length rest ≡ 0 → AddsRest touched rest old new → AddsTouched touched old new
 adds_all touched [] old new none all s = (λ h. (all s).0 (inl h), λ h. ⊎_elim (λ (there : Contains new s). there) (λ (left : Contains (slots_touched []) s). absurd (has_from_contains (slots_touched []) s left)) ((all s).1 h))
 adds_all touched (t ∷ rest) old new none all s = absurd (omega arith)
+
+-- whatever is noted for the touches that are left makes what is noted for all
+abbrev pub NotesRest : List Touch → List Touch → List Slots → List Slots → Type 0
+NotesRest touched rest old now = (new : List Slots) → NotesEach (slots_touched rest) now new → NotesEach (slots_touched touched) old new
+
+-- one of the touches that are left is noted once
+pub once_next : (touched left rest : List Touch) (t : Touch) (old now next : List Slots) → left ≡ t ∷ rest → NotesOnce t.slots now next → NotesRest touched left old now → NotesRest touched rest old next
+once_next touched left rest t old now next steps once so_far new later =
+    let all : NotesRest touched (t ∷ rest) old now = subst (λ (ts : List Touch). NotesRest touched ts old now) steps so_far in
+    all new (next, (once, later))
+
+-- once none is left, each is noted once
+pub once_all : (touched rest : List Touch) (old new : List Slots) → length rest ≡ 0 → NotesRest touched rest old new → NotesEach (slots_touched touched) old new
+once_all touched [] old new none all = all new refl
+once_all touched (t ∷ rest) old new none all = absurd (omega arith)
 
 -- ---- keys of touches
 

@@ -17,11 +17,12 @@ use Rattle.growing_history.proofs.ChangeLemmas.{has_in_order}
 use Rattle.lazy_log.specs.Pending.{meets_output}
 use Rattle.lazy_log.proofs.PendingLemmas.{covered_is_met}
 use Rattle.range_evaluation.specs.TreeLaws.{AreOutputSlots}
+use Rattle.range_evaluation.proofs.AskedLemmas.{absent_by}
 use Rattle.kept_ranges.specs.Kept.{is_covered}
 use Rattle.kept_ranges.specs.Notes.{Mark, key, slots, Note, marks, is_noted}
 use Rattle.kept_ranges.specs.ReadLaws.{IsClear}
 use Rattle.kept_ranges.specs.Sound.{KeptRange, IsSoundAt, IsSound}
-use Rattle.kept_ranges.proofs.ReadLemmas.{absent_by, rows_are_output}
+use Rattle.kept_ranges.proofs.ReadLemmas.{rows_are_output}
 use Rattle.kept_ranges.proofs.SoundLemmas.{or_false_left, or_false_right}
 use Rattle.range_state.specs.NotesSince.{key_of, key_after, keys_since, slots_meet, meets_after, slots_since}
 use Rattle.range_state.specs.Held.{HasPlaces}

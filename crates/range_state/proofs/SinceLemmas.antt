@@ -1,5 +1,5 @@
 -- Keys and slots that were noted, one note more at a time.
-use Rattle.std.proofs.Common.{◌≡◌, ℕ, ◌+◌, ◌<◌, List, [], ◌∷◌, ◌++◌, filter, flat_map, Bool, true, false, cond, refl, sym, ap, ◌∙◌, subst, append_assoc}
+use Rattle.std.proofs.Common.{◌≡◌, ℕ, ◌+◌, ◌<◌, List, [], ◌∷◌, ◌++◌, filter, flat_map, Bool, true, false, cond, nat_lt, refl, sym, ap, ◌∙◌, subst, append_assoc}
 use Rattle.std.specs.BTreeSet.{insert_key}
 use Rattle.std.proofs.lemmas.Bool.{lt-ltb}
 use Rattle.std.proofs.lemmas.List.{append-nil}
@@ -41,6 +41,19 @@ gathers_note range u note k old new less e inside made =
     subst (λ (p : List Text × List Text). GathersMore range p.0 old p.1)
     (λ i. (sym (key_noted u note k less e) i, sym (made ∙ sym (ap (λ b. cond b (insert_key text_cmp old k) old) inside)) i))
     (gathers_one range k old)
+
+-- and where it lies outside, nothing more is gathered
+pub gathers_outside : (range : Range) (u : ℕ) (note : Note) (k : Text) (keys : List Text) → u < note.position → note.mark ≡ key k → within range k ≡ false
+    → GathersMore range (key_after u note) keys keys
+gathers_outside range u note k keys less e outside =
+    subst (λ (p : List Text × List Text). GathersMore range p.0 keys p.1)
+    (λ i. (sym (key_noted u note k less e) i, ap (λ b. cond b (insert_key text_cmp keys k) keys) outside i))
+    (gathers_one range k keys)
+
+-- nor where the note was made before
+pub gathers_earlier : (range : Range) (u : ℕ) (note : Note) (keys : List Text) → nat_lt u note.position ≡ false → GathersMore range (key_after u note) keys keys
+gathers_earlier range u note keys not_later =
+    subst (λ (b : Bool). GathersMore range (cond b (key_of note.mark) []) keys keys) (sym not_later) (gathers_none range keys)
 
 -- the keys of two parts of a list of notes
 pub gathers_all : (range : Range) (u : ℕ) (first rest notes : List Note) (mid new : List Text) → notes ≡ first ++ rest

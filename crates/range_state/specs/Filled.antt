@@ -1,13 +1,18 @@
 -- What is held once a range is filled.
-use Rattle.std.specs.Prelude.{◌≡◌, ℕ, List, [], fold, true, if◌then◌else◌, Option}
-use Rattle.semantics.specs.Texts.{Text, same, Table, with_pair}
+use Rattle.std.specs.Prelude.{◌≡◌, ℕ, List, [], fold, length, true, if◌then◌else◌, Option}
+use Rattle.semantics.specs.Texts.{Text, same, Table, pairs_within, with_pair}
 use Rattle.semantics.specs.Joins.{is_aggregate, value_operator}
+use Rattle.semantics.specs.Outputs.{out}
 use Rattle.range_evaluation.specs.Contributions.{Contribution}
 use Rattle.join_rows.specs.Kept.{KeptRows}
 use Rattle.agg_rows.specs.Kept.{KeptGroups, pairs_of}
+use Rattle.join_eval.specs.Bounds.{Allows, Exceeds}
 use Rattle.kept_ranges.specs.Rules.{Application, IsFilled}
 use Rattle.kept_ranges.specs.Listing.{AreListed}
 use Rattle.range_state.specs.Held.{groups_of, kept_of, FitsJoin}
+use Rattle.range_state.specs.Work.{fill_needs}
+use Rattle.range_state.specs.declared.filling.Filling.{Filling}
+use Rattle.range_state.specs.declared.filling.Filling.TheVariants.{Whole, Loose}
 use Rattle.range_state.specs.declared.holding.Holding.{Holding}
 use Rattle.range_state.specs.declared.subject.Subject.{Subject}
 
@@ -28,6 +33,11 @@ pub record IsFilledAt (subject : Subject) (table : Table) (at : ℕ) (held : Hol
   pub notes : held.notes ≡ record { start = at; list = [] }
   pub filled : IsFilled subject.join subject.range table (kept_of held)
   pub listed : is_aggregate (value_operator subject.join) ≡ true → AreListed subject.join subject.range table (λ k. pairs_of k (groups_of held.groups))
+
+-- what filling the range over a table at a position finds: all that is held then, where so many needs are allowed as it takes, and otherwise the rows alone
+abbrev pub Fills : {M : Type 0} → Subject → Option ℕ → Table → ℕ → Filling M → Type 0
+Fills s most table at (Whole held) = IsFilledAt s table at held × Allows most (length (fill_needs s.join s.range table))
+Fills s most table at (Loose found more) = (found.pairs ≡ pairs_within s.range (out s.join table)) × Exceeds most (length (fill_needs s.join s.range table))
 
 -- the pairs of an output key once each contribution to it is listed in turn
 abbrev pub listed_each : Text → List Contribution → Table

@@ -1,21 +1,25 @@
--- What an advance over bare ranges leaves, and what filling, advancing and mending cost.
-use Rattle.std.specs.Prelude.{◌≡◌, ℕ, ◌+◌, ◌*◌, ◌≤◌, ◌⊎◌, ◌↔◌, List, [], map, filter, flat_map, length, take, Any, Contains, true, false, Option, Some, None}
+-- What filling, advancing and mending leave, and what they cost.
+use Rattle.std.specs.Prelude.{◌≡◌, ℕ, ◌+◌, ◌*◌, ◌<◌, ◌≤◌, ◌⊎◌, List, [], ◌∷◌, map, filter, flat_map, length, take, Any, Contains, Bool, true, false, Option, Some, None}
 use Rattle.std.specs.List.{AllByRecursion, sum_by}
 use Rattle.std.specs.Option.{IsSomeAnd}
-use Rattle.semantics.specs.Texts.{Text, Table, Range}
+use Rattle.semantics.specs.Texts.{Text, Table, Range, pairs_within}
 use Rattle.semantics.specs.Patterns.{Slots, bind}
 use Rattle.semantics.specs.Joins.{is_check, Join}
 use Rattle.semantics.specs.Histories.{History, joins_of}
+use Rattle.semantics.specs.Outputs.{out}
 use Rattle.semantics.specs.States.{below}
 use Rattle.growing_history.specs.Changes.{changed_keys}
 use Rattle.key_ranges.specs.Containing.{range_slots, only}
 use Rattle.range_evaluation.specs.Trees.{Need, tree, reading_steps}
 use Rattle.source_changes.specs.Asking.{changed_count}
-use Rattle.lazy_log.specs.Pending.{meets_output}
+use Rattle.lazy_log.specs.Pending.{meets_output, NotesOnce}
+use Rattle.join_rows.specs.Kept.{KeptRows}
+use Rattle.join_eval.specs.Bounds.{Allows, Exceeds}
 use Rattle.join_eval.specs.Walks.{AreBare}
-use Rattle.kept_ranges.specs.Notes.{Mark, key, slots, Note, note_limit}
+use Rattle.kept_ranges.specs.Notes.{Mark, key, slots, Note, note_limit, noted}
 use Rattle.kept_ranges.specs.Rules.{source_of, output_of, IsFilled}
 use Rattle.kept_ranges.specs.Sound.{KeptRange}
+use Rattle.range_state.specs.Ready.{StandsAt}
 
 -- the most steps of an advance from q to p over bare ranges: for each need one, and three for each changed key of its range
 abbrev pub advance_steps : History → ℕ → ℕ → List Need → ℕ
@@ -51,12 +55,22 @@ abbrev pub IsMarkOf : History → ℕ → ℕ → KeptRange → Mark → Type 0
 IsMarkOf h q p s (key output) = IsFilledBy h q p s output
 IsMarkOf h q p s (slots given) = AreTouchedSlots h q p s given
 
--- an advance over bare ranges touches little: what is pending was, or is made of a touched key; a need stays unless it came by one, and none is added; a note was there, or is made at p of what is touched; and the notes' start stays unless more are made than there is room for
+-- slots are noted one after another, each of them once
+abbrev pub NotesEach : List Slots → List Slots → List Slots → Type 0
+NotesEach [] old new = new ≡ old
+NotesEach (given ∷ others) old new = (mid : List Slots) × (NotesOnce given old mid × NotesEach others mid new)
+
+-- an advance over bare ranges touches little: what is pending was, or is made of a touched key, and is noted once; a need stays unless it came by one, those that stay are as they were and in their order, and none is added; the notes that it adds are made at p of what is touched, and are no more than the keys that changed in the ranges of the needs; and the notes' start stays unless more are made than there is room for
 pub record TouchesLittle (h : History) (q p : ℕ) (before after : KeptRange) : Type 0 where
   pub pending : (given : Slots) → Contains after.kept.pending given → Contains before.kept.pending given ⊎ AreTouchedSlots h q p before given
+  pub touched : List Slots
+  pub once : NotesEach touched before.kept.pending after.kept.pending
   pub needs : (need : Need) → Contains before.kept.needs need → (Any (IsTouched h q p before) need.by → ⊥) → Contains after.kept.needs need
-  pub no_more : (need : Need) → Contains after.kept.needs need → Contains before.kept.needs need
-  pub notes : (note : Note) → Contains after.notes.list note → Contains before.notes.list note ⊎ ((note.position ≡ p) × IsMarkOf h q p before note.mark)
+  pub left : (test : Need → Bool) × (after.kept.needs ≡ filter test before.kept.needs)
+  pub added : List Note
+  pub notes : after.notes ≡ noted before.notes added
+  pub marks : (note : Note) → Contains added note → (note.position ≡ p) × IsMarkOf h q p before note.mark
+  pub few : length added ≤ sum_by (changed_count q p h) before.kept.needs
   pub start : length before.notes.list + sum_by (changed_count q p h) before.kept.needs ≤ note_limit → after.notes.start ≡ before.notes.start
 
 -- ---- filling, advancing and mending
@@ -87,6 +101,25 @@ pub record IsFilledAfresh (p : ℕ) (table : Table) (before after : KeptRange) :
   pub filled : IsFilled before.join before.range table after.kept
   pub notes : after.notes ≡ record { start = p; list = [] }
 
+-- a kept range was filled over a table at a position, which takes so many needs at most: it stands there with nothing pending
+pub record IsKeptAfresh (most p : ℕ) (table : Table) (before after : KeptRange) : Type 0 where
+  pub at : StandsAt p after
+  pub clear : after.kept.pending ≡ []
+  pub afresh : IsFilledAfresh p table before after
+  pub few : length (fill_needs before.join before.range table) ≤ most
+
+-- nothing is kept of a range, whose filling takes more than so many needs over a table, and these are its rows
+pub record IsLeftOut (most : ℕ) (table : Table) (before after : KeptRange) (found : KeptRows) : Type 0 where
+  pub nothing : after.position ≡ None
+  pub empty : after.kept ≡ record { rows = []; needs = []; pending = [] }
+  pub rows : found.pairs ≡ pairs_within before.range (out before.join table)
+  pub many : most < length (fill_needs before.join before.range table)
+
+-- a range was filled over a table at a position, where so many needs may be kept: where it takes no more it is kept, and nothing is given; otherwise its rows are given, and nothing is kept
+abbrev pub FillsUpTo : ℕ → ℕ → Table → KeptRange → KeptRange → Option KeptRows → Type 0
+FillsUpTo most p table before after None = IsKeptAfresh most p table before after
+FillsUpTo most p table before after (Some found) = IsLeftOut most table before after found
+
 -- an advance to a later position counts what it asks or reads: one step at least for each need, or, where it fills the range afresh, those of what that reads
 abbrev pub CountsAdvance : ℕ → Table → KeptRange → KeptRange → ℕ → ℕ → Type 0
 CountsAdvance p table before after old new =
@@ -96,9 +129,21 @@ CountsAdvance p table before after old new =
 abbrev pub needs_under_each : Join → Range → Table → List Slots → List Need
 needs_under_each j range table given = flat_map (λ s. tree j s range table) given
 
--- some needs are added to others, and no more
-abbrev pub AddsNeeds : List Need → List Need → List Need → Type 0
-AddsNeeds added old new = (need : Need) → Contains new need ↔ (Contains old need ⊎ Contains added need)
+-- ---- more needs than may be kept
+
+-- filling a kept range at a position takes more needs than are allowed
+abbrev pub TakesTooMany : Option ℕ → History → ℕ → KeptRange → Type 0
+TakesTooMany most h p s = Exceeds most (length (fill_needs s.join s.range (below (take p h) s.rank)))
+
+-- the needs of a kept range, with those over a table under its pending slots that meet a range, are more than are allowed
+abbrev pub MendsTooMany : Option ℕ → Table → Range → KeptRange → Type 0
+MendsTooMany most table range s = Exceeds most (length s.kept.needs + length (needs_under_each s.join s.range table (meeting s range)))
+
+-- a kept range has no more needs than are allowed, where it had no more before
+abbrev pub StaysWithin : Option ℕ → KeptRange → KeptRange → Type 0
+StaysWithin most old new = Allows most (length old.kept.needs) → Allows most (length new.kept.needs)
+
+-- ---- mending
 
 -- the notes of slots that are mended at a position
 abbrev pub mend_notes : ℕ → List Slots → List Note

@@ -12,7 +12,8 @@ ghost use Rattle.kept_ranges.specs.Sound.{IsSoundAt};
 ghost use Rattle.kept_ranges.specs.SoundLaws.{AreReportedBetween};
 ghost use Rattle.source_changes.specs.Setting.{AreBareAt};
 ghost use Rattle.range_state.specs.Held.{FitsJoin, range_kept};
-ghost use Rattle.range_state.specs.Advanced.{applied_by, IsAdvancedTo, key_notes, touch_notes};
+ghost use Rattle.range_state.specs.Advanced.{applied_by, IsAdvancedTo, key_notes, slots_touched, touch_notes};
+ghost use Rattle.range_state.specs.Work.{NotesEach};
 
 use crate::holding::Holding;
 use crate::subject::Subject;
@@ -30,7 +31,7 @@ use std::alloc::Global;
 use std::sync::ledger::Ledger;
 use steps::Steps;
 
-/// Records the touched slots as pending, and notes them. The touched keys are given back.
+/// Records the touched slots as pending, each once, and notes them. The touched keys are given back.
 fn take_touches(
     alloc: Global,
     position: u64,
@@ -42,6 +43,7 @@ fn take_touches(
     ensures keys { IfOk result (λ keys. keys.items ≡ map (λ t. t.key) touched.items) }
     ensures output { pending.new.output ≡ pending.old.output }
     ensures pending { OnOk result (AddsTouched touched.items pending.old.noted pending.new.noted) }
+    ensures once { OnOk result (NotesEach (slots_touched touched.items) pending.old.noted pending.new.noted) }
     ensures notes { OnOk result (notes.new ≡ noted notes.old (touch_notes position touched.items)) }
 {
     let mut keys = Vec::with_capacity(alloc, touched.len())?;

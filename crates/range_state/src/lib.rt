@@ -5,8 +5,9 @@
 // keeps `IsSound` over the reader's list. They see `Notes` as their list in the order in which they were made, and the
 // position from which they are complete.
 //
-// Dangerous here: a call that finds no memory may leave nothing kept, so whoever goes on asks for the `position` again. What is
-// pending stays until it is mended, and each advance walks it.
+// Dangerous here: a call that answers a fault, for want of memory or because there are more needs than may be kept, may leave
+// nothing kept, so whoever goes on asks for the `position` again. What is pending stays until it is mended, and each advance walks
+// it.
 #![tactic(auto)]
 
 mod advancing;

@@ -111,7 +111,7 @@ fn any_meets(
 
 impl Notes {
     /// The output keys of the range that were noted after a position, ascending, each once. It takes a look at each note,
-    /// and the sorting of the keys, whose texts are shared.
+    /// and the sorting of the keys, whose long texts are shared.
     pub fn keys_since(
         &self,
         alloc: Global,

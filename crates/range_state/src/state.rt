@@ -1,5 +1,5 @@
 // A kept range.
-ghost use Rattle.std.specs.Prelude.{◌≡◌, ℕ, ◌+◌, ◌<◌, ◌≤◌, [], length, filter, take, false, not, IfOk, IsSome, OnOk, OnErr};
+ghost use Rattle.std.specs.Prelude.{◌≡◌, ℕ, ◌+◌, ◌<◌, ◌≤◌, [], length, filter, take, false, not, IfErr, IfOk, IsSome, OnOk, OnErr};
 ghost use Rattle.std.specs.Option.{IsSomeAnd};
 ghost use Rattle.semantics.specs.Texts.{pairs_within};
 ghost use Rattle.semantics.specs.Joins.{checks_of};
@@ -9,6 +9,8 @@ ghost use Rattle.semantics.specs.States.{below};
 ghost use Rattle.growing_history.specs.Entered.{HasEntered, HasRank};
 ghost use Rattle.range_evaluation.specs.Trees.{reading_steps};
 ghost use Rattle.lazy_log.specs.Pending.{meets_output};
+ghost use Rattle.join_rows.specs.Kept.{AddsEach};
+ghost use Rattle.join_eval.specs.Bounds.{Allows, OnTooWide, most_of};
 ghost use Rattle.join_eval.specs.Moves.{Moves};
 ghost use Rattle.join_eval.specs.Walks.{AreBare};
 ghost use Rattle.kept_ranges.specs.Notes.{note_limit, noted};
@@ -17,21 +19,23 @@ ghost use Rattle.source_changes.specs.Asking.{AreBareThroughout};
 ghost use Rattle.range_state.specs.Held.{forgotten};
 ghost use Rattle.range_state.specs.Ready.{HasSameSubject, pending_meets, StandsAt, StandsOrIsForgotten};
 ghost use Rattle.range_state.specs.Since.{AnswersSince, ListsAllSince, as_changed, told_count};
-ghost use Rattle.range_state.specs.Work.{AddsNeeds, advance_steps, AreBareUnder, CountsAdvance, IsFilledAfresh, TouchesLittle};
-ghost use Rattle.range_state.specs.Work.{fill_needs, meeting, mend_notes, mend_steps, needs_under_each};
+ghost use Rattle.range_state.specs.Work.{advance_steps, AreBareUnder, CountsAdvance, FillsUpTo, IsFilledAfresh, TouchesLittle};
+ghost use Rattle.range_state.specs.Work.{fill_needs, meeting, mend_notes, mend_steps, needs_under_each, MendsTooMany, StaysWithin, TakesTooMany};
 
 use crate::advancing::advance_held;
-use crate::filling::fill_at;
+use crate::filling::{Filling, fill_at, fill_by};
 use crate::holding::Holding;
 use crate::mending::mend_all;
 use crate::subject::Subject;
-use join_eval::{Changed, Reader};
+use join_eval::{Changed, KeepFault, NeedBound, Reader, TooMany};
+use join_rows::Rows;
 use join_types::{Join, Pair};
 use key_space::{Key, Range};
 use out_of_memory::OutOfMemory;
 use source_changes::ask_needs;
 use source_changes::laws::{advance_is_cheap, applied_are_bare, few_applications, few_touches};
 use std::alloc::Global;
+use std::convert::Infallible;
 use std::marker::Model;
 use std::mem;
 use std::sync::ledger::Ledger;
@@ -135,17 +139,19 @@ impl RangeState {
     /// Evaluates the join over its range after p entries, and keeps what it finds. Nothing is pending then. Linear in what
     /// it reads, and logarithmic in the rows for each of them.
     ///
-    /// On `OutOfMemory` nothing is kept. The reader may have gone on and steps may have been taken, here and in the other
-    /// calls over a reader.
+    /// On a fault nothing is kept. The reader may have gone on and steps may have been taken, here and in the other calls over a
+    /// reader. `TooWide` comes exactly where that takes more needs than the bound allows, unless no memory is found before: then no
+    /// more than these are read for.
     ///
     /// It takes one step for each of the ranges that are read and one for each pair in it, at least; where they are all bare, no
     /// more.
-    pub fn fill<R: Reader, L: Ledger>(
+    pub fn fill<E: Copy, R: Reader, L: Ledger>(
         &mut self,
         p: u64,
+        bound: NeedBound<E, Infallible>,
         reader: &mut R,
         steps: &mut Steps<L>,
-    ) -> Result<(), OutOfMemory>
+    ) -> Result<(), KeepFault<E>>
         requires forgotten { self.old.position ≡ None }
         requires within { p ≤ length (R.list reader.old) }
         requires above { R.floor reader.old ≤ p }
@@ -156,6 +162,45 @@ impl RangeState {
         ensures at { OnOk result (StandsAt p self.new) }
         ensures clear { OnOk result (self.new.kept.pending ≡ []) }
         ensures filled { OnOk result (IsFilledAfresh p (below (take p (R.list reader.old)) self.old.rank) self.old self.new) }
+        ensures few { OnOk result (Allows (most_of bound) (length (fill_needs self.old.join self.old.range (below (take p (R.list reader.old)) self.old.rank)))) }
+        ensures few_notes { OnOk result (length self.new.notes.list ≤ note_limit) }
+        ensures err { OnErr result (self.new.position ≡ None) }
+        ensures wide { IfErr result (OnTooWide (TakesTooMany (most_of bound) (R.list reader.old) p self.old)) }
+        ensures sound { IsSound self.new (R.list reader.new) }
+        ensures moves { Moves R.list R.floor R.went reader.old reader.new }
+        ensures counted { steps.old ≤ steps.new }
+        ensures least { OnOk result (steps.old + reading_steps (fill_needs self.old.join self.old.range (below (take p (R.list reader.old)) self.old.rank)) (below (take p (R.list reader.old)) self.old.rank) ≤ steps.new) }
+        ensures cost { AreBare (joins_of (take p (R.list reader.old))) (fill_needs self.old.join self.old.range (below (take p (R.list reader.old)) self.old.rank)) →
+            OnOk result (steps.new ≤ steps.old + reading_steps (fill_needs self.old.join self.old.range (below (take p (R.list reader.old)) self.old.rank)) (below (take p (R.list reader.old)) self.old.rank)) }
+    {
+        let filled = fill_at(&self.subject, p, bound, reader, steps)?;
+        self.held = Some(filled);
+        Ok(())
+    }
+
+    /// Evaluates the join over its range after p entries. Where that takes no more than `most` needs, it keeps what it finds, as
+    /// `fill` does, and gives nothing. Where it takes more, nothing is kept, and the rows of the whole range are given; of a copy
+    /// join no more than `most` needs are held meanwhile, and an aggregate has one.
+    ///
+    /// On `OutOfMemory` nothing is kept.
+    ///
+    /// It takes one step for each of the ranges that are read and one for each pair in it, at least, whatever is kept; where they are
+    /// all bare, no more.
+    pub fn fill_up_to<R: Reader, L: Ledger>(
+        &mut self,
+        p: u64,
+        most: u64,
+        reader: &mut R,
+        steps: &mut Steps<L>,
+    ) -> Result<Option<Rows>, OutOfMemory>
+        requires forgotten { self.old.position ≡ None }
+        requires within { p ≤ length (R.list reader.old) }
+        requires above { R.floor reader.old ≤ p }
+        requires entered { HasEntered (R.list reader.old) }
+        requires stands { HasRank (joins_of (take p (R.list reader.old))) self.old.join self.old.rank }
+        requires ranked { self.old.rank ≤ R.top }
+        ensures same { HasSameSubject self.old self.new }
+        ensures filled { IfOk result (FillsUpTo most p (below (take p (R.list reader.old)) self.old.rank) self.old self.new) }
         ensures err { OnErr result (self.new.position ≡ None) }
         ensures sound { IsSound self.new (R.list reader.new) }
         ensures moves { Moves R.list R.floor R.went reader.old reader.new }
@@ -164,9 +209,15 @@ impl RangeState {
         ensures cost { AreBare (joins_of (take p (R.list reader.old))) (fill_needs self.old.join self.old.range (below (take p (R.list reader.old)) self.old.rank)) →
             OnOk result (steps.new ≤ steps.old + reading_steps (fill_needs self.old.join self.old.range (below (take p (R.list reader.old)) self.old.rank)) (below (take p (R.list reader.old)) self.old.rank)) }
     {
-        let filled = fill_at(&self.subject, p, reader, steps)?;
-        self.held = Some(filled);
-        Ok(())
+        let bound: NeedBound<Infallible, TooMany> = NeedBound::GoesOnPast(most, TooMany);
+        let filling = fill_by(&self.subject, p, bound, reader, steps)?;
+        match filling {
+            Filling::Whole(held) => {
+                self.held = Some(held);
+                Ok(None)
+            }
+            Filling::Loose(rows, _more) => Ok(Some(rows)),
+        }
     }
 
     /// Brings it forward to where p entries stand. Slots of the output that changed pairs of check sources touch are pending
@@ -177,17 +228,21 @@ impl RangeState {
     /// then takes work that is logarithmic in the rows, and what `LazyLog::covers` takes; for each need of a check, each changed
     /// key takes what `LazyLog::note` does. These keys are put in order once, and looked for among those by which a need came.
     ///
-    /// Brought to a later position it takes one step at least for each need; or else it was filled, and takes what `fill` does.
-    /// Where the ranges of its needs are bare from its position on to p, it takes at most one step for each need and three
-    /// for each key of its range that was put or removed in between.
+    /// Brought to a later position it takes one step at least for each need; or else it was filled, and takes at least what
+    /// `fill` does. Where the ranges of its needs are bare from its position on to p, it takes at most one step for each need and
+    /// three for each key of its range that was put or removed in between; then no need is added, the touched slots are pending
+    /// once, and it notes no more than these keys.
     ///
-    /// On `OutOfMemory` it is unchanged, or nothing is kept.
-    pub fn advance<R: Reader, L: Ledger>(
+    /// On a fault it is unchanged, or nothing is kept. `TooWide` comes only where the range is filled again and that takes more
+    /// needs than the bound allows; then nothing is kept, and no more than these were read for. A kept range with no more needs
+    /// than the bound allows has no more afterwards.
+    pub fn advance<E: Copy, R: Reader, L: Ledger>(
         &mut self,
         p: u64,
+        bound: NeedBound<E, Infallible>,
         reader: &mut R,
         steps: &mut Steps<L>,
-    ) -> Result<(), OutOfMemory>
+    ) -> Result<(), KeepFault<E>>
         requires order { IsSomeAnd self.old.position (λ q. (R.floor reader.old ≤ q) × (q ≤ p)) }
         requires within { p ≤ length (R.list reader.old) }
         requires entered { HasEntered (R.list reader.old) }
@@ -196,7 +251,12 @@ impl RangeState {
         requires sound { IsSound self.old (R.list reader.old) }
         ensures same { HasSameSubject self.old self.new }
         ensures at { OnOk result (StandsAt p self.new) }
+        ensures few { OnOk result (StaysWithin (most_of bound) self.old self.new) }
+        ensures few_notes { OnOk result (length self.new.notes.list ≤ note_limit) }
         ensures err { OnErr result (StandsOrIsForgotten self.old self.new) }
+        ensures wide { IfErr result (OnTooWide (TakesTooMany (most_of bound) (R.list reader.old) p self.old)) }
+        ensures known { (q : ℕ) → StandsAt q self.old → AreBareThroughout (R.list reader.old) q p self.old.kept.needs → IfErr result (OnTooWide ⊥) }
+        ensures gone { IfErr result (OnTooWide (self.new.position ≡ None)) }
         ensures sound { IsSound self.new (R.list reader.new) }
         ensures unchecked { checks_of self.old.join.sources ≡ [] → self.old.kept.pending ≡ [] → self.new.kept.pending ≡ [] }
         ensures moves { Moves R.list R.floor R.went reader.old reader.new }
@@ -225,7 +285,7 @@ impl RangeState {
             unreachable!()
         };
         let advanced = match asked {
-            None => fill_at(&self.subject, p, reader, steps)?,
+            None => fill_at(&self.subject, p, bound, reader, steps)?,
             Some(reported) => {
                 advance_held(&self.subject, held, reported.as_slice(), p, reader, steps)?
             }
@@ -240,16 +300,19 @@ impl RangeState {
     /// 32 needs that are found are compared with all needs. Where more are found, all needs are put in order once, and each further
     /// one is looked for in logarithmic steps.
     ///
-    /// On `OutOfMemory` it is unchanged, or nothing is kept.
+    /// On a fault it is unchanged, or nothing is kept. `TooWide` comes only where the needs that it has and those that are found, each
+    /// counted as often as it is found, are more than the bound allows; then nothing is kept, and no more than the bound allows were
+    /// read for at once. A kept range with no more needs than the bound allows has no more afterwards.
     ///
     /// It takes one step for each of the ranges that are read and one for each pair in it, at least; where they are all bare, no
-    /// more. It adds no need but those of what is read, and one note for each of the slots.
-    pub fn mend<R: Reader, L: Ledger>(
+    /// more. It adds the needs of what is read, each once, and one note for each of the slots.
+    pub fn mend<E: Copy, R: Reader, L: Ledger>(
         &mut self,
         range: &Range,
+        bound: NeedBound<E, Infallible>,
         reader: &mut R,
         steps: &mut Steps<L>,
-    ) -> Result<(), OutOfMemory>
+    ) -> Result<(), KeepFault<E>>
         requires above { IsSomeAnd self.old.position (λ q. R.floor reader.old ≤ q) }
         requires entered { HasEntered (R.list reader.old) }
         requires ranked { self.old.rank ≤ R.top }
@@ -258,11 +321,15 @@ impl RangeState {
         ensures at { OnOk result (self.new.position ≡ self.old.position) }
         ensures clear { OnOk result (pending_meets self.new range.now ≡ false) }
         ensures left { OnOk result (self.new.kept.pending ≡ filter (λ slots. not (meets_output self.old.join.output range.now slots)) self.old.kept.pending) }
+        ensures few { OnOk result (StaysWithin (most_of bound) self.old self.new) }
         ensures err { OnErr result (StandsOrIsForgotten self.old self.new) }
+        ensures wide { (q : ℕ) → StandsAt q self.old → IfErr result (OnTooWide (MendsTooMany (most_of bound) (below (take q (R.list reader.old)) self.old.rank) range.now self.old)) }
+        ensures gone { IfErr result (OnTooWide (self.new.position ≡ None)) }
         ensures sound { IsSound self.new (R.list reader.new) }
         ensures needs { (q : ℕ) → StandsAt q self.old →
-            OnOk result (AddsNeeds (needs_under_each self.old.join self.old.range (below (take q (R.list reader.old)) self.old.rank) (meeting self.old range.now)) self.old.kept.needs self.new.kept.needs) }
+            OnOk result (AddsEach (needs_under_each self.old.join self.old.range (below (take q (R.list reader.old)) self.old.rank) (meeting self.old range.now)) self.old.kept.needs self.new.kept.needs) }
         ensures notes { (q : ℕ) → StandsAt q self.old → OnOk result (self.new.notes ≡ noted self.old.notes (mend_notes q (meeting self.old range.now))) }
+        ensures few_notes { OnOk result (length self.new.notes.list ≤ note_limit) }
         ensures start { length self.old.notes.list + length (filter (meets_output self.old.join.output range.now) self.old.kept.pending) ≤ note_limit → OnOk result (self.new.notes.start ≡ self.old.notes.start) }
         ensures moves { Moves R.list R.floor R.went reader.old reader.new }
         ensures counted { steps.old ≤ steps.new }
@@ -275,13 +342,13 @@ impl RangeState {
             unreachable!()
         };
         let taken = held.pending.take_meeting(range)?;
-        mend_all(&self.subject, &mut held, taken, reader, steps)?;
+        mend_all(&self.subject, &mut held, taken, bound, reader, steps)?;
         self.held = Some(held);
         Ok(())
     }
 
     /// Its rows in a range, in the order of their keys: the join's output in the part of the range that is its own, where it
-    /// stands. It takes the search for the range, and is linear in what it gives; texts are shared.
+    /// stands. It takes the search for the range, and is linear in what it gives; long texts are shared.
     ///
     /// It takes one step, and one for each row that it gives.
     pub fn read<L: Ledger>(

@@ -7,6 +7,7 @@ use join_types::Pair;
 use key_space::Range;
 use list_reader::ListReader;
 use out_of_memory::OutOfMemory;
+use std::alloc::AllocError;
 use std::sync::ledger::Ledger;
 use steps::Steps;
 
@@ -38,7 +39,7 @@ impl RefusingReader {
             0 => Ok(()),
             1 => {
                 self.left = 0;
-                Err(OutOfMemory)
+                Err(OutOfMemory::from(AllocError))
             }
             more => {
                 self.left = more - 1;
@@ -58,8 +59,6 @@ impl Reader for RefusingReader {
     ghost went = { λ _ _. Unit {0} };
 
     ghost spends = { λ _ _ _ _ _ _. Unit {0} };
-
-    ghost tells = { λ _ _ _ _ _ _ _. Unit {0} };
 
     ghost top_small = { Prim.search rules };
 

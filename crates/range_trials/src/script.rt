@@ -2,10 +2,9 @@
 ghost use Rattle.range_trials.specs.Tried.{IsTried};
 
 use crate::trial::Trial;
-use join_eval::Changed;
+use join_eval::{Changed, KeepFault, TooMany};
 use join_types::Pair;
 use key_space::Range;
-use out_of_memory::OutOfMemory;
 use std::alloc::Global;
 use std::process::Abort;
 use std::sync::ledger::Ledger;
@@ -35,17 +34,20 @@ pub fn show_changed(text: &mut String, changed: &Changed) -> Result<(), Fail> {
     Ok(())
 }
 
-/// Shows where memory ran out.
-fn show_memory(text: &mut String, done: Result<(), OutOfMemory>) -> Result<(), Fail> {
-    if done.is_err() {
-        text.push_str(" memory;")?;
+/// Shows why nothing is kept: there were too many needs, or memory ran out.
+fn show_fault(text: &mut String, done: Result<(), KeepFault<TooMany>>) -> Result<(), Fail> {
+    match done {
+        Ok(()) => {}
+        Err(KeepFault::TooWide(_many)) => text.push_str(" wide;")?,
+        Err(KeepFault::OutOfMemory(_memory)) => text.push_str(" memory;")?,
     }
     Ok(())
 }
 
 /// Makes the call that the words say; `mend`, `read` and `since` over the range that is asked for. What `read`, `since` and
-/// `count` answer is shown with a semicolon behind it, and of the others only that no memory was found. `again` fills where
-/// nothing is kept, and `refuse` and a number say at which call from now on the reader finds no memory.
+/// `count` answer is shown with a semicolon behind it, and of the others only why nothing is kept. `again` fills where nothing is
+/// kept, and `refuse` and a number say at which call from now on the reader finds no memory. `most` and a number say how many needs
+/// may be kept from now on; `bounded` fills then, and shows the rows that it could not keep.
 pub fn call<L: Ledger>(
     rt: &impl Abort,
     alloc: Global,
@@ -63,18 +65,23 @@ pub fn call<L: Ledger>(
     match name {
         "fill" => {
             let done = trial.fill(rt, p, steps);
-            show_memory(text, done)?;
+            show_fault(text, done)?;
         }
         "advance" => {
             let done = trial.advance(rt, p, steps);
-            show_memory(text, done)?;
+            show_fault(text, done)?;
         }
         "mend" => {
             let done = trial.mend(rt, range, steps);
-            show_memory(text, done)?;
+            show_fault(text, done)?;
         }
         "again" => if trial.state.position().is_none() {
             trial.fill(rt, p, steps)?;
+        },
+        "most" => trial.most = Some(p),
+        "bounded" => if let Some(pairs) = trial.fill_up_to(rt, p, range, steps)? {
+            show_pairs(text, pairs.as_slice())?;
+            text.push(';')?;
         },
         "refuse" => trial.reader.left = p,
         "count" => {

@@ -6,6 +6,7 @@ ghost use Rattle.range_trials.specs.Tried.{IsTried};
 
 use crate::refusing::RefusingReader;
 use crate::telling::Told;
+use join_eval::{KeepFault, NeedBound, TooMany};
 use join_types::Pair;
 use key_space::Range;
 use layering::standing_laws::same_joins_since;
@@ -13,6 +14,7 @@ use list_reader::ListReader;
 use out_of_memory::OutOfMemory;
 use range_state::RangeState;
 use std::alloc::Global;
+use std::convert::Infallible;
 use std::process::Abort;
 use std::sync::ledger::Ledger;
 use std::test::Fail;
@@ -29,6 +31,8 @@ pub struct Trial {
     pub changed: u64,
     /// How many entries were told.
     pub length: u64,
+    /// How many needs may be kept, where that was said.
+    pub most: Option<u64>,
 }
 
 /// A trial of the last join of the history over the range, with nothing kept yet.
@@ -54,17 +58,26 @@ pub fn start(rt: &impl Abort, alloc: Global, told: Told, range: &Range) -> Resul
         },
         changed: joins.changed_at(),
         length: standing.length(),
+        most: None,
     })
 }
 
 impl Trial {
+    /// How many needs may be kept: more are a fault.
+    fn bound(&self) -> NeedBound<TooMany, Infallible> {
+        match self.most {
+            None => NeedBound::Every,
+            Some(most) => NeedBound::EndsPast(most, TooMany),
+        }
+    }
+
     /// Fills the range after p entries.
     pub fn fill<L: Ledger>(
         &mut self,
         rt: &impl Abort,
         p: u64,
         steps: &mut Steps<L>,
-    ) -> Result<(), OutOfMemory>
+    ) -> Result<(), KeepFault<TooMany>>
         requires { IsTried self.old.reader.inner self.old.changed self.old.length self.old.state }
         ensures { IsTried self.new.reader.inner self.new.changed self.new.length self.new.state }
     {
@@ -74,7 +87,36 @@ impl Trial {
         if self.state.position().is_some() {
             panic!(rt; "something is kept already");
         }
-        self.state.fill(p, &mut self.reader, steps)
+        let bound = self.bound();
+        self.state.fill(p, bound, &mut self.reader, steps)
+    }
+
+    /// Fills the range after p entries, where that takes no more needs than may be kept, and gives its rows in a range where it
+    /// takes more.
+    pub fn fill_up_to<L: Ledger>(
+        &mut self,
+        rt: &impl Abort,
+        p: u64,
+        range: &Range,
+        steps: &mut Steps<L>,
+    ) -> Result<Option<Vec<Pair>>, OutOfMemory>
+        requires { IsTried self.old.reader.inner self.old.changed self.old.length self.old.state }
+        ensures { IsTried self.new.reader.inner self.new.changed self.new.length self.new.state }
+    {
+        if p < self.changed || self.length < p {
+            panic!(rt; "the join does not stand there");
+        }
+        if self.state.position().is_some() {
+            panic!(rt; "something is kept already");
+        }
+        let Some(most) = self.most else {
+            panic!(rt; "no bound was said");
+        };
+        let loose = self.state.fill_up_to(p, most, &mut self.reader, steps)?;
+        match loose {
+            None => Ok(None),
+            Some(rows) => Ok(Some(rows.within(range)?)),
+        }
     }
 
     /// Advances to where p entries stand.
@@ -83,7 +125,7 @@ impl Trial {
         rt: &impl Abort,
         p: u64,
         steps: &mut Steps<L>,
-    ) -> Result<(), OutOfMemory>
+    ) -> Result<(), KeepFault<TooMany>>
         requires { IsTried self.old.reader.inner self.old.changed self.old.length self.old.state }
         ensures { IsTried self.new.reader.inner self.new.changed self.new.length self.new.state }
     {
@@ -96,7 +138,8 @@ impl Trial {
         if p < position {
             panic!(rt; "it stands later");
         }
-        self.state.advance(p, &mut self.reader, steps)
+        let bound = self.bound();
+        self.state.advance(p, bound, &mut self.reader, steps)
     }
 
     /// Mends where something pending meets the range.
@@ -105,14 +148,15 @@ impl Trial {
         rt: &impl Abort,
         range: &Range,
         steps: &mut Steps<L>,
-    ) -> Result<(), OutOfMemory>
+    ) -> Result<(), KeepFault<TooMany>>
         requires { IsTried self.old.reader.inner self.old.changed self.old.length self.old.state }
         ensures { IsTried self.new.reader.inner self.new.changed self.new.length self.new.state }
     {
         if self.state.position().is_none() {
             panic!(rt; "nothing is kept");
         }
-        self.state.mend(range, &mut self.reader, steps)
+        let bound = self.bound();
+        self.state.mend(range, bound, &mut self.reader, steps)
     }
 
     /// The rows in the range, where nothing pending meets it.

@@ -1,7 +1,6 @@
 -- What joins of one rank give in a range, and what reading it costs.
 use Rattle.std.proofs.Common.{◌≡◌, ℕ, zero, suc, ◌+◌, ◌-◌, ◌<◌, ◌≤◌, List, [], ◌∷◌, ◌++◌, flat_map, get_or, length, map, take, slice_get, Ordering, Less, Equal, Greater, true, Contains, Some, Result, Ok, Err, IfOk, refl, sym, ap, ◌∙◌, subst, arith}
-use Rattle.std.proofs.lemmas.List.{append-nil, take_more}
-use Rattle.std.proofs.lemmas.List.Concat.{flat_map-append}
+use Rattle.std.proofs.lemmas.List.{take_more}
 use Rattle.std.proofs.lemmas.List.Folds.{flat_map-map}
 use Rattle.std.proofs.lemmas.List.Sums.{fold-append}
 use Rattle.std.specs.FinMap.Entries.{by_order}
@@ -41,11 +40,6 @@ part_ascends range j table pairs is = subst Ascends (sym is) (ascending-pairs_wi
 pub output_over : (h more : History) (p at rank : ℕ) (range : Range) (pairs : Table) → p ≤ length h → IsPrefix h more → IsOutput more p at rank range pairs → IsOutput h p at rank range pairs
 output_over h more p at rank range pairs less prefix is = λ j stands.
     is j (stands_over h more p at rank j less prefix stands) ∙ ap (λ l. pairs_within range (out j (below l rank))) (take_prefix p h more less prefix)
-
--- what a function makes of one element more
-pub flat_map_more : {A B : Type 0} (f : A → List B) (xs : List A) (i : ℕ) (x : A) → i < length xs → x ≡ get_or xs i x → flat_map f (take (i + 1) xs) ≡ flat_map f (take i xs) ++ f x
-flat_map_more f xs i x less is =
-    ap (flat_map f) (take_more xs i x less ∙ ap (λ y. take i xs ++ y ∷ []) (sym is)) ∙ flat_map-append f (take i xs) (x ∷ []) ∙ ap (λ ys. flat_map f (take i xs) ++ ys) (append-nil (f x))
 
 -- ---- the cost of one join
 

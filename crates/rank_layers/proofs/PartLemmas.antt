@@ -1,12 +1,11 @@
 -- One part of a range that is read from a cell.
-use Rattle.std.proofs.Common.{◌≡◌, ℕ, ◌+◌, ◌-◌, ◌<◌, ◌≤◌, List, [], ◌∷◌, ◌++◌, length, take, slice_get, Some, None, Result, Ok, Err, IfOk, OnOk, sym, ap, ◌∙◌, subst, arith}
+use Rattle.std.proofs.Common.{◌≡◌, ℕ, ◌+◌, ◌-◌, ◌<◌, List, [], length, take, slice_get, Some, None, Result, Ok, Err, IfOk, OnOk, sym, ap, ◌∙◌, subst, arith}
 use Rattle.std.specs.Option.{IsSomeAnd}
 use Rattle.semantics.specs.Texts.{Table, Range, pairs_within}
 use Rattle.semantics.specs.Joins.{Join}
 use Rattle.semantics.specs.Histories.{History, IsPrefix, joins_of}
 use Rattle.semantics.specs.Outputs.{out}
 use Rattle.semantics.specs.States.{below}
-use Rattle.key_ranges.proofs.OrderLemmas.{up_to_itself}
 use Rattle.growing_history.specs.Entered.{HasEntered, HasRank}
 use Rattle.growing_history.proofs.PrefixLemmas.{prefix_refl}
 use Rattle.layering.specs.Parts.{IsWithin}
@@ -15,12 +14,13 @@ use Rattle.join_eval.specs.Moves.{Moves}
 use Rattle.kept_ranges.specs.Sound.{KeptRange, IsSound}
 use Rattle.range_state.specs.Held.{forgotten}
 use Rattle.range_state.specs.Ready.{HasSameSubject, IsReady, StandsAt}
-use Rattle.range_serving.specs.Serving.{IsPast, WasAdvanced, output_within}
+use Rattle.range_serving.specs.Serving.{IsPast, WasAdvanced, WasMended, output_within}
+use Rattle.range_serving.proofs.AdvancedLemmas.{mended_counted}
 use Rattle.cell_slots.specs.declared.slot.Part.{Part}
 use Rattle.cell_slots.specs.declared.slot.Slot.{Slot}
 use Rattle.cell_slots.specs.declared.slot.Slot.TheVariants.{Lent, Held}
 use Rattle.cell_slots.specs.Slots.{Holdings, with_slot, with_lent, Frame, HoldsWhole, IsReadySlot, IsDeclared, IsRightFor, StandsAs, Takes}
-use Rattle.cell_slots.specs.Spending.{HoldsAdvanced, KeepsJust, StandsBehind, StaysReady, Took}
+use Rattle.cell_slots.specs.Spending.{HoldsAdvanced, HoldsMended, KeepsJust, StandsBehind, StandsPending, StaysReady, Took}
 use Rattle.cell_slots.proofs.DeclaredLemmas.{declared_over_longer, declared_once, rank_declared}
 use Rattle.cell_slots.proofs.FrameLemmas.{frame_weaker, frame_around, still_lent, given_back}
 use Rattle.rank_layers.proofs.MoveLemmas.{moves_as}
@@ -61,19 +61,19 @@ place_lent h floor before lent mid id at rank p part state after takes frame sam
 
 -- around the work the slots go on as a layer's
 pub frame_part : (h : History) (floor : ℕ) (before lent mid after : Holdings) (id at rank p : ℕ) (part : Range) (state s : KeptRange) → Takes h floor before lent id at rank p part state → Frame rank lent mid →
-    after ≡ with_slot id (Held at s) mid → Frame (rank + 1) before after
-frame_part h floor before lent mid after id at rank p part state s takes frame set =
-    frame_around before lent mid after id at rank takes.was s state.range takes.held takes.least takes.lent frame set
+    after ≡ with_slot id (Held at s) mid → HasSameSubject state s → Frame (rank + 1) before after
+frame_part h floor before lent mid after id at rank p part state s takes frame set same =
+    frame_around before lent mid after id at rank takes.was s state.range takes.held takes.least takes.lent frame set (same.range ∙ sym takes.same_range)
 
 -- and so does the reader
 pub moves_part : {S : Type 0} (list : S → History) (floor : S → ℕ) (went : S → S → Type 0) (holds : S → Holdings) (top rank : ℕ) (a b c d : S) (id at p : ℕ) (part : Range) (state s : KeptRange) → top ≡ rank →
     Takes (list a) (floor a) (holds a) (holds b) id at rank p part state → list b ≡ list a → floor b ≡ floor a → (went b c → Frame top (holds b) (holds c)) → Moves list floor went b c →
-    holds d ≡ with_slot id (Held at s) (holds c) → list d ≡ list c → floor d ≡ floor c → Moves list floor (λ x y. Frame (rank + 1) (holds x) (holds y)) a d
-moves_part list floor went holds top rank a b c d id at p part state s is takes same floors frames moves set last last_floor = record {
+    holds d ≡ with_slot id (Held at s) (holds c) → HasSameSubject state s → list d ≡ list c → floor d ≡ floor c → Moves list floor (λ x y. Frame (rank + 1) (holds x) (holds y)) a d
+moves_part list floor went holds top rank a b c d id at p part state s is takes same floors frames moves set subject last last_floor = record {
   kept = subst (λ l. IsPrefix l (list d)) same (subst (IsPrefix (list b)) (sym last) moves.kept);
   entered = λ e. subst HasEntered (sym last) (moves.entered (subst HasEntered (sym same) e));
   same_floor = last_floor ∙ moves.same_floor ∙ floors;
-  on = frame_part (list a) (floor a) (holds a) (holds b) (holds c) (holds d) id at rank p part state s takes (subst (λ t. Frame t (holds b) (holds c)) is (frames moves.on)) set;
+  on = frame_part (list a) (floor a) (holds a) (holds b) (holds c) (holds d) id at rank p part state s takes (subst (λ t. Frame t (holds b) (holds c)) is (frames moves.on)) set subject;
 }
 
 -- what was served is the join's output in the part
@@ -89,10 +89,6 @@ pub rank_of_part : (h more : History) (floor : ℕ) (before lent : Holdings) (id
 rank_of_part h more floor before lent id at rank p part state j takes same stands =
     subst (λ l. HasRank (joins_of (take p l)) state.join state.rank) (sym same)
     (subst (HasRank (joins_of (take p h)) state.join) (sym takes.ranked) (rank_declared h p at rank j state.join stands takes.right.declared))
-
--- a range lies within itself
-pub within_itself : (range : Range) → IsWithin range range
-within_itself range = record { begins = up_to_itself range.low; ends = up_to_itself range.high }
 
 -- a cell that was reserved holds the whole part once it is read
 pub whole_from : (mid after : Holdings) (id at rank p : ℕ) (part : Range) (j : Join) (state s : KeptRange) → state ≡ forgotten j rank part → slice_get mid.slots id ≡ Some (Lent at s.range) → after ≡ with_slot id (Held at s) mid →
@@ -118,11 +114,6 @@ keeps_from h floor before lent mid after id at rank p part state s takes frame s
 pub not_past : (p : ℕ) (s : KeptRange) → StandsAt p s → IsPast p s → ⊥
 not_past p s stands past = let less : p < p = subst (λ o. IsSomeAnd o (λ q. p < q)) stands past in omega (arith, less)
 
--- what is so whether a call succeeds or not
-pub on_ok : {A E : Type 0} {P : Type 0} (r : Result A E) → P → OnOk r P
-on_ok (Ok a) holds = holds
-on_ok (Err e) holds = tt
-
 -- a kept range that was ready, was lent and did not change, while the reader was not called, stands in its slot again
 pub stays_ready : (before lent mid after : Holdings) (id at p : ℕ) (part place : Range) (s t : KeptRange) → lent ≡ with_lent id at place before → mid ≡ lent → slice_get mid.slots id ≡ Some (Lent at t.range) → after ≡ with_slot id (Held at t) mid →
     t ≡ s → IsReady p part s → IsWithin part s.range → StaysReady before after id at p part s
@@ -144,14 +135,22 @@ pub behind_not_past : (h : History) (slots : List Slot) (id at q p : ℕ) (part 
 behind_not_past h slots id at q p part s is = below_not_past q p s is.stands is.behind
 
 -- what was lent and served while it stood behind stands in its slot again, advanced
-pub holds_advanced : {X E : Type 0} (r : Result X E) (size : X → ℕ) (h more : History) (mid after : Holdings) (id n at q p : ℕ) (part : Range) (s lent t : KeptRange) (old new : ℕ) → more ≡ h → id ≡ n → lent ≡ s → slice_get mid.slots id ≡ Some (Lent at t.range) → after ≡ with_slot id (Held at t) mid →
-    IfOk r (λ x. WasAdvanced more q p part lent t (old + 1 + size x) new) → IfOk r (λ x. HoldsAdvanced h after.slots n at q p part s (old + 1 + size x) new)
-holds_advanced (Ok x) size h more mid after id n at q p part s lent t old new same number own there set was = record {
+pub holds_advanced : (rows : ℕ) (h more : History) (mid after : Holdings) (id n at q p : ℕ) (part : Range) (s lent t : KeptRange) (old new : ℕ) → more ≡ h → id ≡ n → lent ≡ s → slice_get mid.slots id ≡ Some (Lent at t.range) → after ≡ with_slot id (Held at t) mid →
+    WasAdvanced more q p part lent t (old + 1 + rows) new → HoldsAdvanced h after.slots n at q p part s (old + 1 + rows) new
+holds_advanced rows h more mid after id n at q p part s lent t old new same number own there set was = record {
   state = t;
   held = subst (λ k. slice_get after.slots k ≡ Some (Held at t)) number (given_back mid after id (Held at t) (Lent at t.range) there set);
-  was = subst (λ (w : History × KeptRange). WasAdvanced w.0 q p part w.1 t (old + 1 + size x) new) (λ i. (same i, own i)) was;
+  was = subst (λ (w : History × KeptRange). WasAdvanced w.0 q p part w.1 t (old + 1 + rows) new) (λ i. (same i, own i)) was;
 }
-holds_advanced (Err e) size h more mid after id n at q p part s lent t old new same number own there set was = tt
+
+-- and what was lent and served while something was pending stands there, mended
+pub holds_mended : (rows : ℕ) (h more : History) (mid after : Holdings) (id n at p : ℕ) (part : Range) (s lent t : KeptRange) (old new : ℕ) → more ≡ h → id ≡ n → lent ≡ s → slice_get mid.slots id ≡ Some (Lent at t.range) → after ≡ with_slot id (Held at t) mid →
+    WasMended more p part lent t (old + 1 + rows) new → HoldsMended h after.slots n at p part s (old + 1 + rows) new
+holds_mended rows h more mid after id n at p part s lent t old new same number own there set was = record {
+  state = t;
+  held = subst (λ k. slice_get after.slots k ≡ Some (Held at t)) number (given_back mid after id (Held at t) (Lent at t.range) there set);
+  was = subst (λ (w : History × KeptRange). WasMended w.0 p part w.1 t (old + 1 + rows) new) (λ i. (same i, own i)) was;
+}
 
 -- ---- the cost
 
@@ -162,11 +161,22 @@ added_steps h slots id at q p part s old new rows is = record {
   held = is.held;
   was = record {
     mid = is.was.mid;
+    same = is.was.same;
+    at = is.was.at;
     little = is.was.little;
-    needs = is.was.needs;
-    start = is.was.start;
-    cost = λ bare. let up = is.was.cost bare in omega (arith, up);
+    between = is.was.between - old;
+    cost = let few = is.was.cost in omega (arith, few);
+    alone = λ clear. let so = is.was.alone clear in (so.0, ap (λ n. n - old) so.1);
+    mended = λ meets. mended_counted h p part is.was.mid is.state is.was.between new (is.was.between - old) (new - old) (λ steps up. omega (arith, up)) (is.was.mended meets);
   };
+}
+
+-- so of a mend
+mended_steps : (h : History) (slots : List Slot) (id at p : ℕ) (part : Range) (s : KeptRange) (old new rows : ℕ) → HoldsMended h slots id at p part s (old + 1 + rows) new → HoldsMended h slots id at p part s (1 + rows) (new - old)
+mended_steps h slots id at p part s old new rows is = record {
+  state = is.state;
+  held = is.held;
+  was = mended_counted h p part s is.state (old + 1 + rows) new (1 + rows) (new - old) (λ steps up. omega (arith, up)) is.was;
 }
 
 -- a part that is read as it may be
@@ -174,12 +184,14 @@ pub took_by : {V E : Type 0} (items : V → Table) (r : Result V E) (h : History
     ((id : ℕ) (s : KeptRange) → part.cell ≡ Some id → s.rank ≡ rank → IsReadySlot before.slots id at p part.range s → IfOk r (λ v. new ≡ old + 1 + length (items v))) →
     ((id : ℕ) (s : KeptRange) → part.cell ≡ Some id → s.rank ≡ rank → IsReadySlot before.slots id at p part.range s → OnOk r (StaysReady before after id at p part.range s)) →
     ((id q : ℕ) (s : KeptRange) → part.cell ≡ Some id → s.rank ≡ rank → StandsBehind h before.slots id at q p part.range s → IfOk r (λ v. HoldsAdvanced h after.slots id at q p part.range s (old + 1 + length (items v)) new)) →
+    ((id : ℕ) (s : KeptRange) → part.cell ≡ Some id → s.rank ≡ rank → StandsPending before.slots id at p part.range s → IfOk r (λ v. HoldsMended h after.slots id at p part.range s (old + 1 + length (items v)) new)) →
     ((id : ℕ) (j : Join) → part.cell ≡ Some id → slice_get before.slots id ≡ Some (Held at (forgotten j rank part.range)) → OnOk r (KeepsJust before after rank at p part.range)) →
     IfOk r (λ v. Took h before after at rank p part (length (items v)) (new - old))
-took_by items (Ok v) h before after at rank p part old new ready stays behind held = record {
+took_by items (Ok v) h before after at rank p part old new ready stays behind pending held = record {
   ready = λ id s cell ranked is. let costs = ready id s cell ranked is in omega (arith, costs);
   stays = stays;
   behind = λ id q s cell ranked is. added_steps h after.slots id at q p part.range s old new (length (items v)) (behind id q s cell ranked is);
+  pending = λ id s cell ranked is. mended_steps h after.slots id at p part.range s old new (length (items v)) (pending id s cell ranked is);
   held = held;
 }
-took_by items (Err e) h before after at rank p part old new ready stays behind held = tt
+took_by items (Err e) h before after at rank p part old new ready stays behind pending held = tt

@@ -14,12 +14,12 @@ use Rattle.semantics.proofs.MemberLemmas.{has_from_contains, contains_from_has, 
 use Rattle.semantics.proofs.Members.{AllByRecursion-append}
 use Rattle.key_ranges.specs.Ranges.{is_below, is_open}
 use Rattle.key_ranges.proofs.OrderLemmas.{is_up_to, up_to_itself, up_to_from_below, up_to_from_not_below, not_up_to_from_below, up_to_below, below_up_to, up_to_trans}
-use Rattle.growing_history.proofs.ElementLemmas.{all_from_has, has_of_all}
+use Rattle.growing_history.proofs.ElementLemmas.{all_from_has, all_then, has_of_all}
 use Rattle.growing_history.proofs.PrefixLemmas.{take_prefix}
 use Rattle.layering.specs.Parts.{JoinUpTo, JoinTo}
 use Rattle.layering.specs.Reached.{reached}
 use Rattle.layering.specs.Standing.{SameOutput}
-use Rattle.layering.proofs.PartLemmas.{within_is_kept}
+use Rattle.layering.proofs.PartLemmas.{join_order, within_is_kept}
 use Rattle.join_eval.specs.declared.reading.Changed.{Changed}
 use Rattle.join_eval.specs.declared.reading.Changed.TheVariants.{Keys, All}
 use Rattle.kept_ranges.specs.Sound.{KeptRange}
@@ -27,7 +27,7 @@ use Rattle.range_serving.specs.Telling.{TellsOutput}
 use Rattle.cell_slots.specs.Slots.{Holdings, IsDeclared, Takes}
 use Rattle.cell_slots.proofs.DeclaredLemmas.{declared_once}
 use Rattle.rank_layers.specs.Telling.{ListsJoin, TellsJoin, ListsAdded, AddsChanges}
-use Rattle.rank_layers.proofs.KeyLemmas.{all_then, less_from_lt}
+use Rattle.rank_layers.proofs.KeyLemmas.{less_from_lt}
 
 -- ---- lists
 
@@ -115,12 +115,6 @@ lists_none h q p rank j range joins = record {
 join_last : (low high : Text) (parts : List Range) (part : Range) → JoinUpTo low high (parts ++ part ∷ []) → JoinUpTo low part.low parts × (is_open part ≡ true) × (part.high ≡ high)
 join_last low high [] part joins = (sym joins.0, joins.1, joins.2)
 join_last low high (r ∷ parts) part joins = let more = join_last r.high high parts part joins.2 in ((joins.0, joins.1, more.0), more.1, more.2)
-
--- where parts join from one text up to another, the one is not above the other
-join_order : (low high : Text) (parts : List Range) → JoinUpTo low high parts → is_up_to low high ≡ true
-join_order low high [] joins = subst (λ t. is_up_to low t ≡ true) joins (up_to_itself low)
-join_order low high (part ∷ parts) joins =
-    subst (λ t. is_up_to t high ≡ true) joins.0 (up_to_trans part.low part.high high (up_to_from_below part.low part.high joins.1) (join_order part.high high parts joins.2))
 
 abbrev from_to : Text → Text → Range
 from_to low high = record { low = low; high = high }

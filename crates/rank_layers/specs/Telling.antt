@@ -10,7 +10,7 @@ use Rattle.layering.specs.Standing.{SameOutput}
 use Rattle.join_eval.specs.declared.reading.Changed.{Changed}
 use Rattle.join_eval.specs.declared.reading.Changed.TheVariants.{Keys, All}
 use Rattle.kept_ranges.specs.Sound.{KeptRange}
-use Rattle.range_serving.specs.Serving.{IsBroughtTo, IsPast}
+use Rattle.range_serving.specs.Serving.{IsCaughtUp, IsPast}
 use Rattle.cell_slots.specs.declared.slot.Slot.{Slot}
 use Rattle.cell_slots.specs.declared.slot.Slot.TheVariants.{Held}
 
@@ -43,8 +43,8 @@ pub record CanTell (rank p : ℕ) (part : Range) (s : KeptRange) : Type 0 where
   pub upto : IsPast p s → ⊥
   pub whole : IsWithin part s.range
 
--- a slot holds, for the join that was declared at a position, what became of a kept range when it was brought to p
-pub record HoldsBrought (p at : ℕ) (old : KeptRange) (slot : Option Slot) : Type 0 where
+-- a slot holds, for the join that was declared at a position, what became of a kept range when it was advanced to p
+pub record HoldsCaughtUp (p at : ℕ) (old : KeptRange) (slot : Option Slot) : Type 0 where
   pub after : KeptRange
   pub holds : slot ≡ Some (Held at after)
-  pub brought : IsBroughtTo p old after
+  pub advanced : IsCaughtUp p old after

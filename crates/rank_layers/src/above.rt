@@ -1,6 +1,6 @@
 // Reading one rank more than a reader does.
-ghost use Rattle.std.specs.Prelude.{◌≡◌, ◌+◌, ◌-◌, ◌≤◌, length, take, true, IfOk};
-ghost use Rattle.semantics.specs.Texts.{is_range, pairs_within};
+ghost use Rattle.std.specs.Prelude.{◌≡◌, ◌+◌, ◌-◌, ◌≤◌, length, take, IfOk};
+ghost use Rattle.semantics.specs.Texts.{pairs_within};
 ghost use Rattle.semantics.specs.States.{below};
 ghost use Rattle.key_ranges.specs.Ranges.{is_open};
 ghost use Rattle.growing_history.specs.Changes.{changed_keys, IsBareAt, IsBareThroughout};
@@ -14,16 +14,10 @@ use crate::telling::add_changes;
 use join_eval::{Between, Changed, Reader};
 use join_types::Pair;
 use key_space::Range;
+use key_space::range::look_at;
 use out_of_memory::OutOfMemory;
 use std::sync::ledger::Ledger;
 use steps::Steps;
-
-/// Looks at the range, and so knows that its bounds are those of a range.
-fn look_at(range: &Range)
-    ensures { is_range range.now.low range.now.high ≡ true }
-{
-    let _low = range.lo();
-}
 
 /// Whether the range is not empty.
 fn is_open(range: &Range) -> bool

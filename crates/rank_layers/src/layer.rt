@@ -37,8 +37,6 @@ impl<R: Cells> Reader for Layer<R> {
 
     ghost spends = { λ a b p range rank added. Spends (R.list a.inner) (R.holdings a.inner) (R.holdings b.inner) p range rank added };
 
-    ghost tells = { λ _ _ _ _ _ _ _. Unit {0} };
-
     ghost top_small = { min_small (R.top + 1) };
 
     ghost went_refl = { λ a. frame_refl (min 8 (R.top + 1)) (R.holdings a.inner) };

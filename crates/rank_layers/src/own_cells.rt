@@ -6,7 +6,7 @@ ghost use Rattle.cell_slots.specs.Spending.{Covers, OneSpends, Spends, Took};
 ghost use Rattle.cell_slots.proofs.FrameLemmas.{frame_of_same, frame_weaker};
 ghost use Rattle.cell_slots.proofs.SpendingLemmas.{cost_of_part, cost_of_parts, spends_next};
 
-use crate::part::{read_part, tell_part};
+use crate::part::{changes_of_part, read_part};
 use crate::query::Query;
 use crate::range_cache::RangeCache;
 use cell_slots::{Cells, Part};
@@ -106,6 +106,6 @@ impl<R: Cells> RangeCache<R> for OwnCells {
         reader: &mut R,
         steps: &mut Steps<L>,
     ) -> Result<Changed, OutOfMemory> {
-        tell_part(query, since, part, reader, steps)
+        changes_of_part(query, since, part, reader, steps)
     }
 }

@@ -8,17 +8,18 @@ ghost use Rattle.range_state.specs.Held.{forgotten};
 ghost use Rattle.range_state.specs.Since.{AnswersSince};
 ghost use Rattle.cell_slots.specs.declared.slot.Slot.TheVariants.{Held};
 ghost use Rattle.cell_slots.specs.Slots.{Frame, IsOutput, IsReadySlot, StandsAs};
-ghost use Rattle.cell_slots.specs.Spending.{HoldsAdvanced, KeepsJust, StandsBehind, StaysReady};
-ghost use Rattle.rank_layers.specs.Telling.{CanTell, HoldsBrought, TellsJoin};
+ghost use Rattle.cell_slots.specs.Spending.{HoldsAdvanced, HoldsMended, KeepsJust, StandsBehind, StandsPending, StaysReady};
+ghost use Rattle.rank_layers.specs.Telling.{CanTell, HoldsCaughtUp, TellsJoin};
 
 use crate::query::Query;
 use cell_slots::{Cells, Part};
-use join_eval::Changed;
+use join_eval::{Changed, NeedBound};
 use join_types::Pair;
 use out_of_memory::OutOfMemory;
 use pq_io::OpenGate;
-use range_serving::{serve, serve_alone, tell};
+use range_serving::{changes_since, serve, serve_alone};
 use std::alloc::Global;
+use std::convert::Infallible;
 use std::sync::ledger::Ledger;
 use steps::Steps;
 
@@ -51,7 +52,8 @@ fn read_alone<R: Cells, L: Ledger>(
 /// otherwise from a kept range of its own.
 ///
 /// Where the cell can be read over the part at once, it takes one step and one for each pair, and the cell stays as it is.
-/// Where it stands behind and the ranges of its needs are bare from there on, it is advanced and mended, and not filled again.
+/// Where it stands behind and the ranges of its needs are bare from there on, it is advanced and mended, and where something is
+/// pending that meets the part it is mended, and not filled again.
 pub fn read_part<R: Cells, L: Ledger>(
     alloc: Global,
     query: Query,
@@ -74,6 +76,8 @@ pub fn read_part<R: Cells, L: Ledger>(
         OnOk result (StaysReady (R.holdings reader.old) (R.holdings reader.new) id query.at query.p part.now.range s) }
     ensures behind { (id q : ℕ) (s : KeptRange) → part.now.cell ≡ Some id → s.rank ≡ query.rank → StandsBehind (R.list reader.old) (R.holdings reader.old).slots id query.at q query.p part.now.range s →
         IfOk result (λ pairs. HoldsAdvanced (R.list reader.old) (R.holdings reader.new).slots id query.at q query.p part.now.range s (steps.old + 1 + length pairs.items) steps.new) }
+    ensures pending { (id : ℕ) (s : KeptRange) → part.now.cell ≡ Some id → s.rank ≡ query.rank → StandsPending (R.holdings reader.old).slots id query.at query.p part.now.range s →
+        IfOk result (λ pairs. HoldsMended (R.list reader.old) (R.holdings reader.new).slots id query.at query.p part.now.range s (steps.old + 1 + length pairs.items) steps.new) }
     ensures held { (id : ℕ) (j : PlainJoin) → part.now.cell ≡ Some id → slice_get (R.holdings reader.old).slots id ≡ Some (Held query.at (forgotten j query.rank part.now.range)) →
         OnOk result (KeepsJust (R.holdings reader.old) (R.holdings reader.new) query.rank query.at query.p part.now.range) }
 {
@@ -84,9 +88,11 @@ pub fn read_part<R: Cells, L: Ledger>(
         return read_alone(alloc, query, part, reader, steps);
     };
     let mut state = state;
-    let served = serve(&mut state, query.p, &part.range, &OpenGate, reader, steps);
+    let bound: NeedBound<Infallible, Infallible> = NeedBound::Every;
+    let range = &part.range;
+    let served = serve(&mut state, query.p, range, bound, &OpenGate, reader, steps);
     reader.give_back(id, query.at, state);
-    served
+    Ok(served?)
 }
 
 /// Says what changed in the join's output in the part since a position, as the cell that holds the part says.
@@ -94,7 +100,7 @@ pub fn read_part<R: Cells, L: Ledger>(
 /// `All` comes where no cell holds the part, where the cell cannot be lent, and where what it holds does not know it once it
 /// stands at the later position: it keeps nothing, its notes start later, or slots meet the part that are pending or were
 /// noted since.
-pub fn tell_part<R: Cells, L: Ledger>(
+pub fn changes_of_part<R: Cells, L: Ledger>(
     query: Query,
     since: u64,
     part: &Part,
@@ -110,8 +116,8 @@ pub fn tell_part<R: Cells, L: Ledger>(
         TellsJoin (R.list reader.old) since query.p query.rank j part.now.range told) }
     ensures since { (id : ℕ) (held : KeptRange) → part.now.cell ≡ Some id → slice_get (R.holdings reader.old).slots id ≡ Some (Held query.at held) → CanTell query.rank query.p part.now.range held →
         IfOk result (λ told. (after : KeptRange) → slice_get (R.holdings reader.new).slots id ≡ Some (Held query.at after) → AnswersSince since part.now.range after told) }
-    ensures brought { (id : ℕ) (held : KeptRange) → part.now.cell ≡ Some id → slice_get (R.holdings reader.old).slots id ≡ Some (Held query.at held) → CanTell query.rank query.p part.now.range held →
-        OnOk result (HoldsBrought query.p query.at held (slice_get (R.holdings reader.new).slots id)) }
+    ensures advanced { (id : ℕ) (held : KeptRange) → part.now.cell ≡ Some id → slice_get (R.holdings reader.old).slots id ≡ Some (Held query.at held) → CanTell query.rank query.p part.now.range held →
+        OnOk result (HoldsCaughtUp query.p query.at held (slice_get (R.holdings reader.new).slots id)) }
     ensures moves { Moves R.list R.floor (λ a b. Frame (query.rank + 1) (R.holdings a) (R.holdings b)) reader.old reader.new }
     ensures counted { steps.old ≤ steps.new }
 {
@@ -122,7 +128,9 @@ pub fn tell_part<R: Cells, L: Ledger>(
         return Ok(Changed::All);
     };
     let mut state = state;
-    let told = tell(&mut state, since, query.p, &part.range, reader, steps);
+    let bound: NeedBound<Infallible, Infallible> = NeedBound::Every;
+    let range = &part.range;
+    let told = changes_since(&mut state, since, query.p, range, bound, reader, steps);
     reader.give_back(id, query.at, state);
-    told
+    Ok(told?)
 }

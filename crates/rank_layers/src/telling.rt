@@ -23,7 +23,7 @@ use steps::Steps;
 
 /// What changed in the join's output in parts of a range since a position: the keys of the parts one after another, or `All`
 /// where that is said of some part.
-fn tell_parts<R: Reader, C: RangeCache<R>, L: Ledger>(
+fn changes_of_parts<R: Reader, C: RangeCache<R>, L: Ledger>(
     cache: &C,
     query: Query,
     since: u64,
@@ -54,7 +54,7 @@ fn tell_parts<R: Reader, C: RangeCache<R>, L: Ledger>(
 
 /// What changed in the join's output in a range since a position, as what is kept of parts of the range says. `All` comes
 /// where that is said of some part.
-fn tell_join<R: Reader, C: RangeCache<R>, L: Ledger>(
+fn changes_of_join<R: Reader, C: RangeCache<R>, L: Ledger>(
     cache: &C,
     query: Query,
     since: u64,
@@ -74,7 +74,7 @@ fn tell_join<R: Reader, C: RangeCache<R>, L: Ledger>(
     ensures counted { steps.old ≤ steps.new }
 {
     let parts = cache.parts(query, range, reader)?;
-    tell_parts(cache, query, since, parts.as_slice(), reader, steps)
+    changes_of_parts(cache, query, since, parts.as_slice(), reader, steps)
 }
 
 /// Adds to keys of a range those of it at which the outputs of joins of a rank may have changed since a position: the joins
@@ -108,8 +108,8 @@ pub fn add_changes<R: Reader, C: RangeCache<R>, L: Ledger>(
     let mut all = keys;
     for at in ats {
         let query = Query { at: *at, rank, p };
-        match tell_join(cache, query, since, range, reader, steps)? {
-            Changed::Keys(more) => all = united(cache.alloc(), all, more)?,
+        match changes_of_join(cache, query, since, range, reader, steps)? {
+            Changed::Keys(more) => all = united(all, more)?,
             Changed::All => return Ok(Changed::All),
         }
     }

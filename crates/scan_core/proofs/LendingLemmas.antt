@@ -84,6 +84,7 @@ takes_from h before after id at rank p part state right same lent = by (lent.was
           held = lent.might.held;
           least = lent.might.least;
           lent = lends;
+          same_range = refl;
           ranked = eqb-true was.rank rank e;
           right = was_right;
           from = from_start was.position;
@@ -97,6 +98,7 @@ takes_from h before after id at rank p part state right same lent = by (lent.was
           held = lent.might.held;
           least = lent.might.least;
           lent = lends;
+          same_range = refl;
           ranked = refl;
           right = record { declared = was_right.declared; sound = tt };
           from = tt;
@@ -136,6 +138,7 @@ pub frame_over : (h : History) (top : ℕ) (before after : Store) → after.limi
 frame_over h top before after same frame = record {
   same_count = frame.same_count;
   left = frame.left;
+  places = frame.places;
   lent = frame.lent;
   unused = frame.unused;
   same_setting = ap (setting_with h) same;

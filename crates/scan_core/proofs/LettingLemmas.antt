@@ -1,7 +1,8 @@
 -- Cells that let go of what they hold for former joins and former ranks.
 use Rattle.std.proofs.Common.{◌≡◌, ◌⊎◌, ℕ, ◌+◌, ◌≤◌, false, List, length, take, slice_get, slice_set, Option, Some, None, IfSome, inl, inr, refl, sym, ap, ◌∙◌, subst}
+use Rattle.std.specs.Option.{option_and_then}
 use Rattle.std.proofs.lemmas.Bool.{cases_eq}
-use Rattle.std.proofs.lemmas.Option.{none-some, same_Some, slice_get_within}
+use Rattle.std.proofs.lemmas.Option.{none-some, slice_get_within}
 use Rattle.std.proofs.lemmas.List.{length-set}
 use Rattle.semantics.specs.Texts.{Range}
 use Rattle.semantics.specs.Joins.{Join}
@@ -12,10 +13,12 @@ use Rattle.growing_history.proofs.EnteredLemmas.{has_entered_taken}
 use Rattle.kept_ranges.specs.Sound.{KeptRange, IsSoundAt}
 use Rattle.cell_slots.specs.declared.slot.Slot.{Slot}
 use Rattle.cell_slots.specs.declared.slot.Slot.TheVariants.{Free, Lent, Held}
-use Rattle.cell_slots.specs.Slots.{Holdings, with_slot, place_of, Frame, HasFree, IsReadySlot, HoldsReady, IsRankAt, IsRightFor, MeetsNone, StandsAs}
+use Rattle.cell_slots.specs.Places.{KeepsPlace}
+use Rattle.cell_slots.specs.Slots.{Holdings, with_slot, place_at, place_of, Frame, HasFree, IsReadySlot, HoldsReady, IsRankAt, IsRightFor, MeetsNone, StandsAs}
 use Rattle.cell_slots.specs.Spending.{row_count}
 use Rattle.cell_slots.proofs.DeclaredLemmas.{declared_once, has_rank, rank_declared, stands_as}
 use Rattle.cell_slots.proofs.FrameLemmas.{get-set_same, get-set_other}
+use Rattle.cell_slots.proofs.PlaceLemmas.{place_from_slot}
 use Rattle.cell_table.specs.Moves.{Evicts, IsEvicted}
 use Rattle.scan_core.specs.Cells.{HoldsAt}
 use Rattle.scan_core.specs.LettingGo.{IsLetGo, LetsGo}
@@ -26,7 +29,8 @@ use Rattle.scan_core.proofs.RightLemmas.{one_rank}
 held_at_same : (at other : ℕ) (s t : KeptRange) → Some (Held at s) ≡ Some (Held other t) → at ≡ other
 held_at_same at other s t e = cc
 
-held_state_same : (at other : ℕ) (s t : KeptRange) → Some (Held at s) ≡ Some (Held other t) → s ≡ t
+-- one slot holds one kept range
+pub held_state_same : (at other : ℕ) (s t : KeptRange) → Some (Held at s) ≡ Some (Held other t) → s ≡ t
 held_state_same at other s t e = cc
 
 free_not_lent : (at : ℕ) (range : Range) → Some Free ≡ Some (Lent at range) → ⊥
@@ -87,14 +91,13 @@ free_by h p a b id free (inr g) = g.free
 pub still_free : (h : History) (p : ℕ) (a b : Holdings) → LetsGo h p a b → HasFree a.slots → HasFree b.slots
 still_free h p a b goes free = record { id = free.id; free = free_by h p a.slots b.slots free.id free.free (goes.each free.id) }
 
-apart_by : (h : History) (p : ℕ) (a b : List Slot) (at : ℕ) (range : Range) (id : ℕ) (filled : Slot) (kept : Range) → MeetsNone a at range → (slice_get b id ≡ slice_get a id) ⊎ IsLetGo h p a b id →
-    slice_get b id ≡ Some filled → place_of filled ≡ Some (at, kept) → meets kept range ≡ false
-apart_by h p a b at range id filled kept apart (inl e) is place = apart id filled kept (sym e ∙ is) place
-apart_by h p a b at range id filled kept apart (inr g) is place = absurd (none-some (at, kept) (ap place_of (same_Some Free filled (sym g.free ∙ is)) ∙ place))
+apart_by : (h : History) (p : ℕ) (a b : List Slot) (at : ℕ) (range : Range) (id : ℕ) (kept : Range) → MeetsNone a at range → (slice_get b id ≡ slice_get a id) ⊎ IsLetGo h p a b id → KeepsPlace (place_at b) id at kept → meets kept range ≡ false
+apart_by h p a b at range id kept apart (inl e) keeps = apart id kept (ap (option_and_then place_of) (sym e) ∙ keeps)
+apart_by h p a b at range id kept apart (inr g) keeps = absurd (none-some (at, kept) (sym (place_from_slot place_of b id Free g.free) ∙ keeps))
 
 -- no place meets a range, where none did
 pub still_apart : (h : History) (p : ℕ) (a b : Holdings) (at : ℕ) (range : Range) → LetsGo h p a b → MeetsNone a.slots at range → MeetsNone b.slots at range
-still_apart h p a b at range goes apart id filled kept is place = apart_by h p a.slots b.slots at range id filled kept apart (goes.each id) is place
+still_apart h p a b at range goes apart id kept keeps = apart_by h p a.slots b.slots at range id kept apart (goes.each id) keeps
 
 lent_by : (h : History) (p : ℕ) (a b : List Slot) (id at : ℕ) (range : Range) → NoneLent a → (slice_get b id ≡ slice_get a id) ⊎ IsLetGo h p a b id → slice_get b id ≡ Some (Lent at range) → ⊥
 lent_by h p a b id at range none (inl e) is = none id at range (sym e ∙ is)

@@ -1,5 +1,5 @@
 -- What the reader of all ranks leaves of what cells hold, where one is taken out, worked on and put back.
-use Rattle.std.proofs.Common.{◌≡◌, ◌⊎◌, ℕ, ◌<◌, ◌≤◌, [], true, false, take, slice_get, List, Option, Some, None, IfSome, is_some, Result, Ok, Err, OnOk, inl, inr, sym, ap, ◌∙◌, subst, arith}
+use Rattle.std.proofs.Common.{◌≡◌, ◌⊎◌, ℕ, ◌+◌, ◌<◌, ◌≤◌, [], true, false, take, slice_get, List, Option, Some, None, IfSome, is_some, Result, Ok, Err, OnOk, inl, inr, sym, ap, ◌∙◌, subst, arith}
 use Rattle.std.proofs.lemmas.Bool.{cases_eq, false≢true}
 use Rattle.std.proofs.lemmas.Option.{slice_get_within}
 use Rattle.semantics.specs.Texts.{is_range, Range}
@@ -13,18 +13,20 @@ use Rattle.growing_history.proofs.EnteredLemmas.{has_entered_taken}
 use Rattle.kept_ranges.specs.Sound.{KeptRange, IsSound, IsSoundAt}
 use Rattle.range_state.specs.Ready.{StandsAt, pending_meets}
 use Rattle.source_changes.specs.Asking.{AreBareThroughout}
-use Rattle.range_state.specs.Work.{TouchesLittle}
+use Rattle.range_state.specs.Work.{TouchesLittle, advance_steps}
+use Rattle.range_serving.specs.Serving.{MendsPart, WasMended}
 use Rattle.cell_slots.specs.declared.slot.Slot.{Slot}
 use Rattle.cell_slots.specs.declared.slot.Slot.TheVariants.{Lent, Held}
-use Rattle.cell_slots.specs.Slots.{Holdings, with_slot, Frame, HasFree, MeetsNone, IsReadySlot, HoldsReady, IsDeclared, IsRightFor}
+use Rattle.cell_slots.specs.Slots.{Holdings, with_slot, KeepPlaces, Frame, HasFree, MeetsNone, IsReadySlot, HoldsReady, IsDeclared, IsRightFor}
 use Rattle.cell_slots.specs.Spending.{Spends}
 use Rattle.cell_slots.proofs.DeclaredLemmas.{declared_over_longer}
-use Rattle.cell_slots.proofs.FrameLemmas.{get-set_same, get-set_other}
-use Rattle.scan_core.specs.Bringing.{HasSamePlace}
+use Rattle.cell_slots.proofs.FrameLemmas.{get-set_same, get-set_other, places_around}
+use Rattle.scan_core.specs.Places.{HasSamePlace}
 use Rattle.scan_core.specs.Cells.{HoldsAt, IsTaken, IsTakenOut, KeepsLast}
 use Rattle.scan_core.specs.Rights.{AreRight, Contents}
-use Rattle.scan_core.specs.Worlds.{NoneLent, IsBroughtIn, IsMendedIn, PieceSpends}
+use Rattle.scan_core.specs.Worlds.{NoneLent, IsAdvancedIn, IsMendedIn, PieceSpends}
 use Rattle.scan_core.proofs.RightLemmas.{one_rank}
+use Rattle.scan_core.proofs.LettingLemmas.{held_state_same}
 use Rattle.scan_core.proofs.SpendLemmas.{index_stands, rank_within, kept_after, used_after, stays_after}
 
 -- what was found is what was taken out
@@ -89,12 +91,18 @@ none_lent_back before taken mid after id at s t lent frame there put none other 
         let in_taken = frame.lent other from range in_mid in
         none other from range (sym (ap (λ (c : Holdings). slice_get c.slots other) lent ∙ get-set_other before.slots id other (Lent at s.range) apart) ∙ in_taken)
 
--- where a kept range is brought forward, its cell is
-pub brought_from : {X E : Type 0} (r : Result X E) (h more : History) (before after : List Slot) (id at to rank : ℕ) (s t : KeptRange) → HasEntered more → more ≡ h → HoldsAt before id at s → HoldsAt after id at t → t.range ≡ s.range →
+-- and each place that was kept is
+pub places_back : (before taken mid after : Holdings) (id at : ℕ) (s t : KeptRange) → HoldsAt before.slots id at s → taken ≡ with_slot id (Lent at s.range) before → Frame 8 taken mid → slice_get mid.slots id ≡ Some (Lent at t.range) →
+    after ≡ with_slot id (Held at t) mid → t.range ≡ s.range → KeepPlaces before.slots after.slots
+places_back before taken mid after id at s t held lent frame there put same =
+    places_around before.slots taken.slots mid.slots after.slots id at s t s.range held (ap (λ (c : Holdings). c.slots) lent) frame.places (slice_get_within mid.slots id (Lent at t.range) there) (ap (λ (c : Holdings). c.slots) put) same
+
+-- where a kept range is advanced, its cell is
+pub advanced_from : {X E : Type 0} (r : Result X E) (h more : History) (before after : List Slot) (id at to rank : ℕ) (s t : KeptRange) → HasEntered more → more ≡ h → HoldsAt before id at s → HoldsAt after id at t → t.range ≡ s.range → KeepPlaces before after →
     HasRank (joins_of (take to more)) s.join rank → OnOk r (StandsAt to t) →
-    ((q : ℕ) → s.rank ≡ rank → StandsAt q s → q < to → AreBareThroughout more q to s.kept.needs → OnOk r (TouchesLittle more q to s t)) → OnOk r (IsBroughtIn h before after id to)
-brought_from (Ok x) h more before after id at to rank s t entered same was held range has stands little =
-    subst (λ (l : History). IsBroughtIn l before after id to) same (record {
+    ((q : ℕ) → s.rank ≡ rank → StandsAt q s → q < to → AreBareThroughout more q to s.kept.needs → OnOk r (TouchesLittle more q to s t)) → OnOk r (IsAdvancedIn h before after id to)
+advanced_from (Ok x) h more before after id at to rank s t entered same was held range places has stands little =
+    subst (λ (l : History). IsAdvancedIn l before after id to) same (record {
       at = at;
       was = s;
       kept = t;
@@ -103,13 +111,25 @@ brought_from (Ok x) h more before after id at to rank s t entered same was held 
       stands = stands;
       range = range;
       little = λ q ranked there less bare. little q (one_rank (take to more) s.join s.rank rank (has_entered_taken to more entered) ranked has) there less bare;
+      places = places;
     })
-brought_from (Err e) h more before after id at to rank s t entered same was held range has stands little = tt
+advanced_from (Err e) h more before after id at to rank s t entered same was held range places has stands little = tt
+
+-- it costs what advancing costs what the cell holds
+pub cost_from : {X E : Type 0} (r : Result X E) (h more : History) (slots : List Slot) (id at to rank first last : ℕ) (s : KeptRange) → more ≡ h → HoldsAt slots id at s →
+    ((q : ℕ) → s.rank ≡ rank → StandsAt q s → q < to → AreBareThroughout more q to s.kept.needs → OnOk r (last ≤ first + advance_steps more q to s.kept.needs)) →
+    (other q : ℕ) (t : KeptRange) → HoldsAt slots id other t → t.rank ≡ rank → StandsAt q t → q < to → AreBareThroughout h q to t.kept.needs → OnOk r (last ≤ first + advance_steps h q to t.kept.needs)
+cost_from r h more slots id at to rank first last s same held cost other q t is ranked stands less bare =
+    let one : s ≡ t = held_state_same at other s t (sym held ∙ is) in
+    subst (λ (l : History). OnOk r (last ≤ first + advance_steps l q to t.kept.needs)) same
+    (subst (λ (x : KeptRange). OnOk r (last ≤ first + advance_steps more q to x.kept.needs)) one
+    (cost q (subst (λ (x : KeptRange). x.rank ≡ rank) (sym one) ranked) (subst (StandsAt q) (sym one) stands) less
+    (subst (λ (x : KeptRange). AreBareThroughout more q to x.kept.needs) (sym one) (subst (λ (l : History). AreBareThroughout l q to t.kept.needs) (sym same) bare))))
 
 -- where mending succeeds, the cell is mended
-pub mended_from : {X E : Type 0} (r : Result X E) (before after : List Slot) (id at : ℕ) (part : Range) (s t : KeptRange) → HoldsAt before id at s → HoldsAt after id at t → t.range ≡ s.range →
-    OnOk r (t.position ≡ s.position) → OnOk r (pending_meets t part ≡ false) → OnOk r (IsMendedIn before after id part)
-mended_from (Ok x) before after id at part s t was held range position clear = record {
+pub mended_from : {X E : Type 0} (r : Result X E) (h more : History) (before after : List Slot) (id at : ℕ) (part : Range) (s t : KeptRange) (old new : ℕ) → more ≡ h → HoldsAt before id at s → HoldsAt after id at t → t.range ≡ s.range →
+    KeepPlaces before after → OnOk r (t.position ≡ s.position) → OnOk r (pending_meets t part ≡ false) → ((q : ℕ) → StandsAt q s → OnOk r (WasMended more q part s t old new)) → OnOk r (IsMendedIn h before after id part)
+mended_from (Ok x) h more before after id at part s t old new same was held range places position clear mended = record {
   at = at;
   was = s;
   kept = t;
@@ -118,8 +138,10 @@ mended_from (Ok x) before after id at part s t was held range position clear = r
   range = range;
   position = position;
   clear = clear;
+  places = places;
+  mends = λ q stands. subst (λ (l : History). MendsPart l q part s t) same (mended q stands).mends;
 }
-mended_from (Err e) before after id at part s t was held range position clear = tt
+mended_from (Err e) h more before after id at part s t old new same was held range places position clear mended = tt
 
 -- ---- a piece
 

@@ -6,7 +6,7 @@ pub mod CoreLaws
 pub mod Cells
 pub mod LettingGo
 pub mod Towers
-pub mod Bringing
+pub mod Places
 pub mod Going
 pub mod Worlds
 pub mod Running

@@ -11,13 +11,14 @@ use Rattle.layering.specs.Reached.{reaches, ReachesOne}
 use Rattle.kept_ranges.specs.Sound.{KeptRange}
 use Rattle.range_state.specs.Ready.{StandsAt, pending_meets}
 use Rattle.source_changes.specs.Asking.{AreBareThroughout}
-use Rattle.range_state.specs.Work.{TouchesLittle}
+use Rattle.range_state.specs.Work.{TouchesLittle, advance_steps}
+use Rattle.range_serving.specs.Serving.{MendsPart}
 use Rattle.core_events.specs.Events.{Event, Done, brought, mended, evicted, nothing, append, begin, piece, advance, mend, evict, finish}
 use Rattle.core_events.specs.Plain.{World, Scan, scan_of, goes_on, freed, step}
 use Rattle.core_events.specs.PlainLaws.{AnswersAs, LookAlike}
 use Rattle.cell_slots.specs.declared.slot.Slot.{Slot}
 use Rattle.cell_slots.specs.declared.slot.Slot.TheVariants.{Free, Lent}
-use Rattle.cell_slots.specs.Slots.{Holdings, IsRankAt, StandsAs, HasFree, MeetsNone, IsReadySlot, HoldsReady, HoldsJust}
+use Rattle.cell_slots.specs.Slots.{KeepPlaces, Holdings, IsRankAt, StandsAs, HasFree, MeetsNone, IsReadySlot, HoldsReady, HoldsJust}
 use Rattle.cell_slots.specs.Spending.{base_count, row_count}
 use Rattle.scan_core.specs.Cells.{HoldsAt, IsHeldAt, HoldsNothing}
 use Rattle.scan_core.specs.Progress.{next_range}
@@ -50,8 +51,8 @@ pub record MayAdvance (before : CoreWorld) (id to : ℕ) : Type 0 where
   pub rank : ℕ
   pub stands : IsRankAt before.world.history to at (Some rank)
 
--- it held a kept range, and holds one of the same declaration and range, which stands at the position; where that was kept with the rank that its join has there, and stood below, with bare ranges from there on, what no changed key touches is left
-pub record IsBroughtIn (h : History) (before after : List Slot) (id to : ℕ) : Type 0 where
+-- it held a kept range, and holds one of the same declaration and range, which stands at the position; where that was kept with the rank that its join has there, and stood below, with bare ranges from there on, what no changed key touches is left; and each cell keeps its place
+pub record IsAdvancedIn (h : History) (before after : List Slot) (id to : ℕ) : Type 0 where
   pub at : ℕ
   pub was : KeptRange
   pub kept : KeptRange
@@ -60,9 +61,10 @@ pub record IsBroughtIn (h : History) (before after : List Slot) (id to : ℕ) : 
   pub stands : StandsAt to kept
   pub range : kept.range ≡ was.range
   pub little : (q : ℕ) → HasRank (joins_of (take to h)) was.join was.rank → StandsAt q was → q < to → AreBareThroughout h q to was.kept.needs → TouchesLittle h q to was kept
+  pub places : KeepPlaces before after
 
--- it held a kept range, and holds one of the same declaration and range at the same position, with nothing pending that meets a part
-pub record IsMendedIn (before after : List Slot) (id : ℕ) (part : Range) : Type 0 where
+-- it held a kept range, and holds one of the same declaration and range at the same position, with nothing pending that meets a part; what stood somewhere was mended there for the part; and each cell keeps its place
+pub record IsMendedIn (h : History) (before after : List Slot) (id : ℕ) (part : Range) : Type 0 where
   pub at : ℕ
   pub was : KeptRange
   pub kept : KeptRange
@@ -71,6 +73,8 @@ pub record IsMendedIn (before after : List Slot) (id : ℕ) (part : Range) : Typ
   pub range : kept.range ≡ was.range
   pub position : kept.position ≡ was.position
   pub clear : pending_meets kept part ≡ false
+  pub places : KeepPlaces before after
+  pub mends : (q : ℕ) → StandsAt q was → MendsPart h q part was kept
 
 -- what an event does to cells: one that is of no cell, and no piece of a scan, leaves what the slots have; one of a cell is answered that there was nothing to do exactly where that is so, and otherwise what was done
 abbrev pub CellSteps : Event → CoreWorld → CoreWorld → Done → Type 0
@@ -79,9 +83,9 @@ CellSteps (begin scan range) before after done = after.cells.slots ≡ before.ce
 CellSteps (piece scan upto) before after done = Unit {0}
 CellSteps (finish scan) before after done = after.cells.slots ≡ before.cells.slots
 CellSteps (advance cell to) before after done =
-    ((done ≡ brought) × MayAdvance before cell to × IsBroughtIn before.world.history before.cells.slots after.cells.slots cell to) ⊎ ((done ≡ nothing) × (MayAdvance before cell to → ⊥) × (after.cells.slots ≡ before.cells.slots))
+    ((done ≡ brought) × MayAdvance before cell to × IsAdvancedIn before.world.history before.cells.slots after.cells.slots cell to) ⊎ ((done ≡ nothing) × (MayAdvance before cell to → ⊥) × (after.cells.slots ≡ before.cells.slots))
 CellSteps (mend cell range) before after done =
-    ((done ≡ mended) × IsMendedIn before.cells.slots after.cells.slots cell range) ⊎ ((done ≡ nothing) × HoldsNothing before.cells.slots cell × (after.cells.slots ≡ before.cells.slots))
+    ((done ≡ mended) × IsMendedIn before.world.history before.cells.slots after.cells.slots cell range) ⊎ ((done ≡ nothing) × HoldsNothing before.cells.slots cell × (after.cells.slots ≡ before.cells.slots))
 CellSteps (evict cell) before after done =
     ((done ≡ evicted) × IsHeldAt before.cells.slots cell × (after.cells.slots ≡ slice_set before.cells.slots cell Free)) ⊎ ((done ≡ nothing) × HoldsNothing before.cells.slots cell × (after.cells.slots ≡ before.cells.slots))
 
@@ -103,7 +107,7 @@ pub record ReachesPush (joins : List DeclaredJoin) (range : Range) (place : ℕ)
   pub reached : reaches range s ≡ true
   pub pushed : s.join.kind ≡ push
 
--- a piece of a scan after p entries over a range that is not empty and reaches one output alone, with so many steps: where that join has rank 0 and may be kept, a cell holds just the range afterwards; where a cell could be read over it, it took at most two steps beside the range's base pairs and its pairs of the state, and a cell that could holds the same afterwards, where that fits the limit by itself
+-- a piece of a scan after p entries over a range that is not empty and reaches one output alone, with so many steps: where that join has rank 0 and may be kept, a cell holds just the range afterwards; where a cell could be read over it, it took at most two steps beside the range's base pairs and its pairs of the state, and a cell that could be read over it holds the same afterwards, where that fits the limit by itself
 pub record PieceSpends (h : History) (before after : Holdings) (p : ℕ) (range : Range) (added : ℕ) : Type 0 where
   pub kept : (place : ℕ) (s : DeclaredJoin) → ReachesPush (joins_of (take p h)) range place s → is_open range ≡ true →
       StandsAs h p s.position 0 s.join → HasFree before.slots → MeetsNone before.slots s.position range → row_count h p range 0 s.join + 1 ≤ before.setting.room →
@@ -115,13 +119,15 @@ pub record PieceSpends (h : History) (before after : Holdings) (p : ℕ) (range 
       (id : ℕ) (held : KeptRange) → IsReadySlot before.slots id s.position p range held → length held.kept.rows + 1 ≤ before.setting.room →
       IsReadySlot after.slots id s.position p range held
 
--- what each piece that is answered costs and leaves; an event that reads nothing takes no step
+-- what each piece that is answered costs and leaves; and what it costs to bring a cell forward: where its kept range stands below, with the rank that its join has at the position, and the ranges of its needs are bare from there on, no more than an advance takes. A write, the beginning and the end of a scan and an eviction take no step
 abbrev pub StepSpends : Event → CoreWorld → CoreWorld → ℕ → Type 0
 StepSpends (append client write) before after added = added ≡ 0
 StepSpends (begin scan range) before after added = added ≡ 0
 StepSpends (piece number upto) before after added =
     (scan : Scan) → scan_of number before.world.scans ≡ Some scan → goes_on upto scan ≡ true → PieceSpends before.world.history before.cells after.cells scan.position (next_range scan upto) added
-StepSpends (advance cell to) before after added = Unit {0}
+StepSpends (advance cell to) before after added =
+    (at q : ℕ) (s : KeptRange) → HoldsAt before.cells.slots cell at s → HasRank (joins_of (take to before.world.history)) s.join s.rank → StandsAt q s → q < to → to ≤ length before.world.history →
+    AreBareThroughout before.world.history q to s.kept.needs → added ≤ advance_steps before.world.history q to s.kept.needs
 StepSpends (mend cell range) before after added = Unit {0}
 StepSpends (evict cell) before after added = added ≡ 0
 StepSpends (finish scan) before after added = added ≡ 0

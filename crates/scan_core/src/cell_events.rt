@@ -4,27 +4,28 @@ ghost use Rattle.semantics.specs.Histories.{joins_of};
 ghost use Rattle.growing_history.specs.Entered.{HasEntered, HasRank};
 ghost use Rattle.join_eval.specs.Moves.{Moves};
 ghost use Rattle.kept_ranges.specs.Sound.{IsSound};
-ghost use Rattle.range_serving.specs.Serving.{IsPast};
+ghost use Rattle.range_serving.specs.Serving.{IsPast, WasMended};
 ghost use Rattle.range_state.specs.Ready.{StandsAt, pending_meets};
 ghost use Rattle.source_changes.specs.Asking.{AreBareThroughout};
 ghost use Rattle.range_state.specs.Work.{advance_steps, TouchesLittle};
-ghost use Rattle.scan_core.specs.Bringing.{HasSamePlace};
+ghost use Rattle.scan_core.specs.Places.{HasSamePlace};
 
-use join_eval::Reader;
+use join_eval::{NeedBound, Reader};
 use key_space::Range;
 use out_of_memory::OutOfMemory;
 use range_serving::{reach, renew};
 use range_state::RangeState;
 use std::alloc::Global;
+use std::convert::Infallible;
 use std::sync::ledger::Ledger;
 use steps::Steps;
 
-/// Brings a kept range that does not stand past a position to it: it is filled where it stands nowhere, or where its join
+/// Advances a kept range that does not stand past a position to it: it is filled where it stands nowhere, or where its join
 /// has another rank there, and advanced where it stands below. Where it has that rank and stands below, and the ranges of its needs
 /// are bare from there on, what no changed key touches is left, and it takes no more steps than an advance.
 ///
 /// On `OutOfMemory` it stands where it stood, or nowhere, and is right for the reader's list.
-pub fn bring<R: Reader, L: Ledger>(
+pub fn advance_to<R: Reader, L: Ledger>(
     alloc: Global,
     state: &mut RangeState,
     rank: u8,
@@ -49,14 +50,16 @@ pub fn bring<R: Reader, L: Ledger>(
     ensures cost { (q : ℕ) → state.old.rank ≡ rank → StandsAt q state.old → q < to → AreBareThroughout (R.list reader.old) q to state.old.kept.needs →
         OnOk result (steps.new ≤ steps.old + advance_steps (R.list reader.old) q to state.old.kept.needs) }
 {
+    let bound: NeedBound<Infallible, Infallible> = NeedBound::Every;
     if state.rank() != rank {
         *state = renew(alloc, state, rank)?;
-        return state.fill(to, reader, steps);
+        return Ok(state.fill(to, bound, reader, steps)?);
     }
-    reach(state, to, reader, steps)
+    Ok(reach(state, to, bound, reader, steps)?)
 }
 
-/// Finds anew what is pending in a range of a kept range. Where it stands nowhere, nothing is pending.
+/// Finds anew what is pending in a range of a kept range, where it stands, and takes no more steps than a mend. Where it stands
+/// nowhere, nothing is pending.
 ///
 /// On `OutOfMemory` it stands where it stood, or nowhere, and is right for the reader's list.
 pub fn mend<R: Reader, L: Ledger>(
@@ -72,6 +75,7 @@ pub fn mend<R: Reader, L: Ledger>(
     ensures same { HasSamePlace state.old state.new }
     ensures at { OnOk result (state.new.position ≡ state.old.position) }
     ensures clear { OnOk result (pending_meets state.new range.now ≡ false) }
+    ensures mended { (q : ℕ) → StandsAt q state.old → OnOk result (WasMended (R.list reader.old) q range.now state.old state.new steps.old steps.new) }
     ensures sound { IsSound state.new (R.list reader.new) }
     ensures moves { Moves R.list R.floor R.went reader.old reader.new }
     ensures counted { steps.old ≤ steps.new }
@@ -80,5 +84,6 @@ pub fn mend<R: Reader, L: Ledger>(
         state.forget();
         return Ok(());
     }
-    state.mend(range, reader, steps)
+    let bound: NeedBound<Infallible, Infallible> = NeedBound::Every;
+    Ok(state.mend(range, bound, reader, steps)?)
 }

@@ -242,8 +242,6 @@ impl Reader for Core {
 
     ghost spends = { λ a b p range rank added. SpendsBase a b p range rank added };
 
-    ghost tells = { λ _ _ _ _ _ _ _. Unit {0} };
-
     ghost top_small = { Prim.search rules };
 
     ghost went_refl = { λ _. refl };

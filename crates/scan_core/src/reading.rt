@@ -1,18 +1,21 @@
 // What a scan's piece and events of cells do to the reader.
-ghost use Rattle.std.specs.Prelude.{◌≡◌, ℕ, ◌-◌, ◌≤◌, length, take, IfOk, OnOk};
+ghost use Rattle.std.specs.Prelude.{◌≡◌, ℕ, ◌+◌, ◌-◌, ◌<◌, ◌≤◌, length, take, IfOk, OnOk};
 ghost use Rattle.semantics.specs.Texts.{pairs_within};
 ghost use Rattle.semantics.specs.Histories.{joins_of};
 ghost use Rattle.semantics.specs.States.{state};
 ghost use Rattle.growing_history.specs.Entered.{HasEntered, HasRank};
 ghost use Rattle.kept_ranges.specs.Sound.{KeptRange};
+ghost use Rattle.range_state.specs.Ready.{StandsAt};
+ghost use Rattle.source_changes.specs.Asking.{AreBareThroughout};
+ghost use Rattle.range_state.specs.Work.{advance_steps};
 ghost use Rattle.range_serving.specs.Serving.{IsPast};
 ghost use Rattle.cell_slots.specs.Slots.{Frame};
 ghost use Rattle.cell_slots.specs.Spending.{Spends};
 ghost use Rattle.scan_core.specs.Cells.{HoldsAt, IsHeldAt};
 ghost use Rattle.scan_core.specs.Rights.{AreRight};
-ghost use Rattle.scan_core.specs.Worlds.{IsBroughtIn, IsMendedIn, NoneLent, PieceSpends};
+ghost use Rattle.scan_core.specs.Worlds.{IsAdvancedIn, IsMendedIn, NoneLent, PieceSpends};
 
-use crate::cell_events::{bring, mend};
+use crate::cell_events::{advance_to, mend};
 use crate::stack::Stack;
 use join_eval::Reader;
 use join_types::Pair;
@@ -72,7 +75,8 @@ pub fn read_piece<L: Ledger>(
     Ok(pairs)
 }
 
-/// Brings what a cell holds to a position, with the rank that its join has there.
+/// Advances what a cell holds to a position, with the rank that its join has there. Where it has that rank and stands below,
+/// and the ranges of its needs are bare from there on, it takes no more steps than an advance.
 ///
 /// On `OutOfMemory` the cell holds what it held, or nothing is kept for its range.
 pub fn advance_cell<L: Ledger>(
@@ -88,7 +92,9 @@ pub fn advance_cell<L: Ledger>(
     requires before { (at : ℕ) (s : KeptRange) → HoldsAt reader.old.cells.slots id at s → IsPast to s → ⊥ }
     requires stands { (at : ℕ) (s : KeptRange) → HoldsAt reader.old.cells.slots id at s → HasRank (joins_of (take to reader.old.history)) s.join rank }
     requires small { rank ≤ 8 }
-    ensures brought { OnOk result (IsBroughtIn reader.old.history reader.old.cells.slots reader.new.cells.slots id to) }
+    ensures advanced { OnOk result (IsAdvancedIn reader.old.history reader.old.cells.slots reader.new.cells.slots id to) }
+    ensures cost { (at q : ℕ) (s : KeptRange) → HoldsAt reader.old.cells.slots id at s → s.rank ≡ rank → StandsAt q s → q < to → AreBareThroughout reader.old.history q to s.kept.needs →
+        OnOk result (steps.new ≤ steps.old + advance_steps reader.old.history q to s.kept.needs) }
     ensures counted { steps.old ≤ steps.new }
     ensures history { reader.new.history ≡ reader.old.history }
     ensures unlent { NoneLent reader.old.cells.slots → NoneLent reader.new.cells.slots }
@@ -99,10 +105,10 @@ pub fn advance_cell<L: Ledger>(
     };
     let mut state = state;
     reader.look();
-    let brought = bring(alloc, &mut state, rank, to, reader, steps);
+    let advanced = advance_to(alloc, &mut state, rank, to, reader, steps);
     reader.look();
     reader.give_back(id, at, state);
-    brought
+    advanced
 }
 
 /// Finds anew what is pending in a range of what a cell holds.
@@ -115,7 +121,7 @@ pub fn mend_cell<L: Ledger>(
     steps: &mut Steps<L>,
 ) -> Result<(), OutOfMemory>
     requires { IsHeldAt reader.old.cells.slots id }
-    ensures mended { OnOk result (IsMendedIn reader.old.cells.slots reader.new.cells.slots id range.now) }
+    ensures mended { OnOk result (IsMendedIn reader.old.history reader.old.cells.slots reader.new.cells.slots id range.now) }
     ensures counted { steps.old ≤ steps.new }
     ensures history { reader.new.history ≡ reader.old.history }
     ensures unlent { NoneLent reader.old.cells.slots → NoneLent reader.new.cells.slots }

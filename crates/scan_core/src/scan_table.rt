@@ -77,7 +77,7 @@ fn range_between(
     match Range::read(alloc, place.text(), upto.text()) {
         Ok(range) => Ok(range),
         Err(RangeFault::BadRange) => unreachable!(),
-        Err(RangeFault::OutOfMemory) => Err(OutOfMemory),
+        Err(RangeFault::OutOfMemory(memory)) => Err(memory),
     }
 }
 

@@ -42,6 +42,13 @@ impl Model for Stack {
     ghost view = { λ s. bottom s.tower };
 }
 
+// The core below the eight layers of a tower.
+macro_rules! core_of {
+    ($tower:expr) => {
+        $tower.inner.inner.inner.inner.inner.inner.inner.inner
+    };
+}
+
 /// Two layers over a reader.
 fn two<R: Cells>(alloc: Global, inner: R) -> Layer<Layer<R>>
     ensures { result.inner.inner ≡ inner }
@@ -73,7 +80,7 @@ impl Stack {
     fn core(&self) -> &Core
         ensures { result.now ≡ self.now }
     {
-        &self.tower.inner.inner.inner.inner.inner.inner.inner.inner
+        &core_of!(self.tower)
     }
 
     /// The number of entries, below 2^48.
@@ -127,16 +134,7 @@ impl Stack {
         ensures slots { self.new.cells.slots ≡ self.old.cells.slots }
         ensures room { self.new.cells.setting.room ≡ self.old.cells.setting.room }
     {
-        self.tower
-            .inner
-            .inner
-            .inner
-            .inner
-            .inner
-            .inner
-            .inner
-            .inner
-            .enter(entry)
+        core_of!(self.tower).enter(entry)
     }
 
     /// Takes out what a cell holds, with the position of its join's declaration; its slot keeps the place. None exactly where
@@ -148,16 +146,7 @@ impl Stack {
         ensures err { OnErr result (self.new.cells ≡ self.old.cells) }
         ensures history { self.new.history ≡ self.old.history }
     {
-        self.tower
-            .inner
-            .inner
-            .inner
-            .inner
-            .inner
-            .inner
-            .inner
-            .inner
-            .take(id)
+        core_of!(self.tower).take(id)
     }
 
     /// Puts a kept range back into the slot that keeps its place.
@@ -167,16 +156,7 @@ impl Stack {
         ensures held { self.new.cells ≡ with_slot id (Held at state) self.old.cells }
         ensures history { self.new.history ≡ self.old.history }
     {
-        self.tower
-            .inner
-            .inner
-            .inner
-            .inner
-            .inner
-            .inner
-            .inner
-            .inner
-            .give_back(id, at, state);
+        core_of!(self.tower).give_back(id, at, state);
     }
 
     /// Frees a cell, and forgets what it holds.
@@ -185,16 +165,7 @@ impl Stack {
         ensures cells { self.new.cells ≡ with_slot id Free self.old.cells }
         ensures history { self.new.history ≡ self.old.history }
     {
-        self.tower
-            .inner
-            .inner
-            .inner
-            .inner
-            .inner
-            .inner
-            .inner
-            .inner
-            .evict(id);
+        core_of!(self.tower).evict(id);
     }
 
     /// Frees the cells of former joins and former ranks before a read after the first p entries, where a join was declared or
@@ -204,16 +175,7 @@ impl Stack {
         ensures goes { LetsGo self.old.history p self.old.cells self.new.cells }
         ensures history { self.new.history ≡ self.old.history }
     {
-        self.tower
-            .inner
-            .inner
-            .inner
-            .inner
-            .inner
-            .inner
-            .inner
-            .inner
-            .let_go(p)
+        core_of!(self.tower).let_go(p)
     }
 
     /// Forgets which cells were used, so that the book is not told of them.
@@ -223,16 +185,7 @@ impl Stack {
         ensures setting { self.new.cells.setting ≡ self.old.cells.setting }
         ensures history { self.new.history ≡ self.old.history }
     {
-        self.tower
-            .inner
-            .inner
-            .inner
-            .inner
-            .inner
-            .inner
-            .inner
-            .inner
-            .clear_used();
+        core_of!(self.tower).clear_used();
     }
 
     /// Tells the book of the cells that were used, and frees those that have to go.
@@ -244,16 +197,7 @@ impl Stack {
         ensures setting { self.new.cells.setting ≡ self.old.cells.setting }
         ensures history { self.new.history ≡ self.old.history }
     {
-        self.tower
-            .inner
-            .inner
-            .inner
-            .inner
-            .inner
-            .inner
-            .inner
-            .inner
-            .settle()
+        core_of!(self.tower).settle()
     }
 }
 
@@ -267,8 +211,6 @@ impl Reader for Stack {
     ghost went = { λ a b. Frame 8 a.cells b.cells };
 
     ghost spends = { λ a b p range rank added. Spends a.history a.cells b.cells p range rank added };
-
-    ghost tells = { λ _ _ _ _ _ _ _. Unit {0} };
 
     ghost top_small = { Prim.search rules };
 

@@ -175,6 +175,7 @@ impl World {
         ensures world { self.new.world ≡ self.old.world }
         ensures room { self.new.cells.setting.room ≡ self.old.cells.setting.room }
         ensures counted { steps.old ≤ steps.new }
+        ensures spends { OnOk result (StepSpends (plain.advance cell to) self.old self.new (steps.new - steps.old)) }
     {
         self.reader.look();
         let Some(rank) = self.rank_to(cell, to)? else {
@@ -220,8 +221,9 @@ impl World {
     /// history and the scans. What the cells hold changes in pieces of scans and in events of cells alone.
     ///
     /// A write takes what judging it takes. A piece takes, for each join whose output it reaches, a search, what is wanted to
-    /// bring what is kept to the scan's position, and is linear in the pairs that it reads; what it costs in steps where one
-    /// output alone is reached is said by `spends`.
+    /// bring what is kept to the scan's position, and is linear in the pairs that it reads. A write, the beginning and the end of a
+    /// scan and an eviction take no step; what a piece costs in steps where one output alone is reached, and what bringing a cell
+    /// forward over bare ranges costs, is said by `spends`.
     ///
     /// On `OutOfMemory` the history and the scans are unchanged; cells may have been filled, brought forward, or freed.
     pub fn step<L: Ledger>(

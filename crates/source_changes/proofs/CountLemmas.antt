@@ -28,7 +28,7 @@ few_given h [] = omega arith
 few_given h (x ∷ xs) = let few = few_more (h x) (filter_map h xs) xs (few_given h xs) in omega (arith, few)
 
 -- a part of a sum that is taken or not
-sum_taken : {A : Type 0} (f : A → ℕ) (test : A → Bool) (x : A) (xs : List A) → sum_by f (filter test (x ∷ xs)) ≡ cond (test x) (f x) 0 + sum_by f (filter test xs)
+pub sum_taken : {A : Type 0} (f : A → ℕ) (test : A → Bool) (x : A) (xs : List A) → sum_by f (filter test (x ∷ xs)) ≡ cond (test x) (f x) 0 + sum_by f (filter test xs)
 sum_taken f test x xs = by_test (test x)
   where
     by_test : (b : Bool) → sum_by f (cond b (x ∷ filter test xs) (filter test xs)) ≡ cond b (f x) 0 + sum_by f (filter test xs)

@@ -4,7 +4,7 @@ use Rattle.std.specs.List.{enumerate_from}
 use Rattle.std.proofs.lemmas.Bool.{and_parts, and_from, false≢true}
 use Rattle.std.proofs.lemmas.Option.{none-some, same_Some}
 use Rattle.semantics.specs.Texts.{Text, Table}
-use Rattle.semantics.specs.Patterns.{literal, slot, Pattern, Slots, no_slots, text_at, takes_width, is_pattern, segments, Fits, TakeAll}
+use Rattle.semantics.specs.Patterns.{Slots, no_slots, is_pattern, segments, Fits}
 use Rattle.semantics.specs.Joins.{Source, Join, is_check, is_join, checks_of, value_sources_of, evaluation_order, slots_of, source_slots_of}
 use Rattle.semantics.specs.States.{KeepsRules}
 use Rattle.semantics.proofs.PatternLemmas.{text_at-no_slots}
@@ -13,7 +13,7 @@ use Rattle.semantics.proofs.OutputLemmas.{sources_of_join}
 use Rattle.range_evaluation.specs.Trees.{placed_sources}
 use Rattle.range_evaluation.specs.PathLaws.{IsPath}
 use Rattle.join_output.specs.Evaluation.{HasText}
-use Rattle.join_output.proofs.SlotLemmas.{can_start}
+use Rattle.join_output.proofs.SlotLemmas.{can_start, has_text}
 use Rattle.kept_ranges.specs.Kept.{CameBy}
 use Rattle.kept_ranges.proofs.PathLemmas.{some_with, stands_at, has_from_at}
 use Rattle.growing_history.proofs.ElementLemmas.{all_from_has, has_of_all}
@@ -21,15 +21,6 @@ use Rattle.source_changes.specs.Filling.{CanFill}
 use Rattle.source_changes.specs.Laws.{NeedCanFill, NeedsCanFill}
 
 -- ---- texts of a path
-
--- a slot of a pattern has its text under slots that give each segment its text
-has_text : (p : Pattern) (ts : List Text) (given : Slots) (place width : ℕ) → TakeAll p ts given → Has (slots_of p) (place, width) → HasText place width given
-has_text [] ts given place width h g = absurd g
-has_text (s ∷ ss) [] given place width h g = absurd h
-has_text (literal l ∷ ss) (t ∷ ts) given place width h g = has_text ss ts given place width h.1 g
-has_text (slot other asked ∷ ss) (t ∷ ts) given place width h (inl e) =
-    (t, ap (λ (s : ℕ × ℕ). text_at s.0 given) (sym e) ∙ h.0.1, ap (λ (s : ℕ × ℕ). takes_width s.1 t) (sym e) ∙ h.0.0)
-has_text (slot other asked ∷ ss) (t ∷ ts) given place width h (inr g) = has_text ss ts given place width h.1 g
 
 -- a source before the end of a path has a key of it that fits
 record HasFit (source : Source) (slots : Slots) : Type 0 where

@@ -1,8 +1,8 @@
 mod OrderLemmas
 mod ListLemmas
 mod ApplyingLemmas
-mod LongerLemmas
+pub mod LongerLemmas
 mod AskingLemmas
 pub mod SettingLemmas
 mod FillingLemmas
-mod CountLemmas
+pub mod CountLemmas

@@ -12,6 +12,7 @@ use Rattle.std.proofs.lemmas.Map.Keys.{Less-from_sorted}
 use Rattle.semantics.specs.Texts.{Text, Range, text_cmp, same, within}
 use Rattle.semantics.proofs.PieceLemmas.{equal_by_same}
 use Rattle.semantics.proofs.TableLemmas.{text_total, same_is_tie}
+use Rattle.growing_history.proofs.ElementLemmas.{all_then}
 use Rattle.key_ranges.specs.Ranges.{is_below}
 use Rattle.key_ranges.proofs.OrderLemmas.{up_to-not_below, up_to_from_below, up_to_below}
 
@@ -56,10 +57,6 @@ filter_same : {A : Type 0} (p q : A → Bool) (xs : List A) → AllByRecursion (
 filter_same p q [] h = refl
 filter_same p q (x ∷ xs) h = ap (λ b. cond b (x ∷ filter p xs) (filter p xs)) h.0 ∙ ap (λ ys. cond (q x) (x ∷ ys) ys) (filter_same p q xs h.1)
 
-each : {A : Type 0} (P Q : A → Type 0) (xs : List A) → ((x : A) → P x → Q x) → AllByRecursion P xs → AllByRecursion Q xs
-each P Q [] more h = tt
-each P Q (x ∷ xs) more h = (more x h.0, each P Q xs more h.1)
-
 -- ---- ascending keys
 
 -- the keys below a bound come first
@@ -81,8 +78,8 @@ reached_within range key h = ap (λ b. b && is_below key range.high) (up_to-not_
 pub keys_between : (range : Range) (keys : List Text) (i n : ℕ) → i ≤ length keys → n ≤ length (drop i keys) → IsPartitionPoint (λ key. is_below key range.low ≡ true) (λ key. is_below key range.low ≡ false) keys i →
     IsPartitionPoint (λ key. is_below key range.high ≡ true) (λ key. is_below key range.high ≡ false) (drop i keys) n → take n (drop i keys) ≡ filter (within range) keys
 keys_between range keys i n short fewer low high =
-    let outside = each (λ key. is_below key range.low ≡ true) (λ key. within range key ≡ false) (take i keys) (below_outside range) (front_of (λ key. is_below key range.low ≡ true) keys i short low.0) in
-    let reached = each (λ key. is_below key range.low ≡ false) (λ key. within range key ≡ is_below key range.high) (drop i keys) (reached_within range) (back_of (λ key. is_below key range.low ≡ false) keys i low.1) in
+    let outside = all_then (λ key. is_below key range.low ≡ true) (λ key. within range key ≡ false) (take i keys) (below_outside range) (front_of (λ key. is_below key range.low ≡ true) keys i short low.0) in
+    let reached = all_then (λ key. is_below key range.low ≡ false) (λ key. within range key ≡ is_below key range.high) (drop i keys) (reached_within range) (back_of (λ key. is_below key range.low ≡ false) keys i low.1) in
     let inside = front_of (λ key. is_below key range.high ≡ true) (drop i keys) n fewer high.0 in
     let behind = back_of (λ key. is_below key range.high ≡ false) (drop i keys) n high.1 in
     sym (filter_back (within range) keys i outside

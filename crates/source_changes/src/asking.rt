@@ -1,8 +1,8 @@
 // What a reader says of the ranges of needs.
-ghost use Rattle.std.specs.Prelude.{◌≡◌, ◌+◌, ◌≤◌, length, flat_map, Any, IfOk, IfSome, IfNone, true};
+ghost use Rattle.std.specs.Prelude.{◌≡◌, ◌+◌, ◌≤◌, length, flat_map, Any, IfOk, IfSome, IfNone};
 ghost use Rattle.std.specs.Option.{IsSomeAnd};
 ghost use Rattle.std.specs.List.Sorted.{IsStrictlySortedBy};
-ghost use Rattle.semantics.specs.Texts.{text_cmp, is_range};
+ghost use Rattle.semantics.specs.Texts.{text_cmp};
 ghost use Rattle.growing_history.specs.Changes.{changed_keys};
 ghost use Rattle.kept_ranges.specs.SoundLaws.{AreReportedBetween};
 ghost use Rattle.join_eval.specs.Answers.{MayNotBeKnown};
@@ -12,18 +12,12 @@ ghost use Rattle.source_changes.specs.Asking.{HaveRanges, AreBareThroughout, Lie
 use crate::merging::merged;
 use join_eval::{Changed, Reader};
 use join_rows::Need;
-use key_space::{Key, Range};
+use key_space::Key;
+use key_space::range::look_at;
 use out_of_memory::OutOfMemory;
 use std::alloc::Global;
 use std::sync::ledger::Ledger;
 use steps::Steps;
-
-/// Looks at the range, and so knows that its bounds are those of a range.
-fn look_at(range: &Range)
-    ensures { is_range range.now.low range.now.high ≡ true }
-{
-    let _low = range.lo();
-}
 
 /// Looks at the range of each need.
 fn look_at_ranges(needs: &[Need])

@@ -3,18 +3,19 @@
 //
 // The layer above may use all that is public here, each call for one part of an advance: `ask_needs`, then `touches`, then,
 // through the needs that are left, `applications`, and then `apply_values`, or `list_values` and `remake_rows` for an
-// aggregate. The calls go over any reader and keep nothing themselves. `laws` says that the needs of a right kept range can
-// fill, and what an advance costs.
+// aggregate; and `merged`, which puts keys in order. The calls go over any reader and keep nothing themselves. `laws` says that
+// the needs of a right kept range can fill, and what an advance costs.
 #![tactic(auto)]
 
 pub mod applying;
 pub mod asking;
 pub mod laws;
-mod merging;
+pub mod merging;
 pub mod setting;
 pub mod touching;
 
 pub use applying::{Application, applications};
 pub use asking::ask_needs;
+pub use merging::merged;
 pub use setting::{apply_values, list_values, remake_rows};
 pub use touching::{Touch, keys_in, touches};

@@ -23,7 +23,7 @@ returns-clause-advanced g c =
     let set : List Application → KeptRows = λ applying. record { pairs = applied table applying cut.pairs; needs = cut.needs } in
     let step : RowsStep s c.args.p c.args.reported.now table held after =
     rows_step s c.args.p c.args.reported.now table held after c.needs.result.now c.needs-2.result.now c.in_ok-touched.touched.items c.as_slice.result.now c.take_touches.new.notes cut c.in_ok-applying.applying.items
-    c.needs.ensures c.in_ok-touched.ensures (c.as_slice.ensures.value ∙ c.in_ok-keys.ensures.keys) c.in_ok-keys.ensures.pending c.in_ok-keys.ensures.notes c.drop_needs_by_any.ensures c.needs-2.ensures c.in_ok-applying.ensures
+    c.needs.ensures c.in_ok-touched.ensures (c.as_slice.ensures.value ∙ c.in_ok-keys.ensures.keys) c.in_ok-keys.ensures.pending c.in_ok-keys.ensures.once c.in_ok-keys.ensures.notes c.drop_needs_by_any.ensures c.needs-2.ensures c.in_ok-applying.ensures
     (c.in_ok-note_keys.ensures ∙ ap (λ applying. noted c.take_touches.new.notes (key_notes c.args.p applying)) c.as_slice-2.ensures.value) (c.in_ok-apply_values.ensures.rows ∙ ap set c.as_slice-3.ensures.value) refl refl c.in_ok-keys.ensures.output in
     rows_advanced s c.args.p c.args.reported.now table held after c.requires.fits step
 
@@ -38,7 +38,7 @@ returns-clause-sound g c =
     let set : List Application → KeptRows = λ applying. record { pairs = applied table applying cut.pairs; needs = cut.needs } in
     let step : RowsStep s c.args.p c.args.reported.now table held after =
     rows_step s c.args.p c.args.reported.now table held after c.needs.result.now c.needs-2.result.now c.in_ok-touched.touched.items c.as_slice.result.now c.take_touches.new.notes cut c.in_ok-applying.applying.items
-    c.needs.ensures c.in_ok-touched.ensures (c.as_slice.ensures.value ∙ c.in_ok-keys.ensures.keys) c.in_ok-keys.ensures.pending c.in_ok-keys.ensures.notes c.drop_needs_by_any.ensures c.needs-2.ensures c.in_ok-applying.ensures
+    c.needs.ensures c.in_ok-touched.ensures (c.as_slice.ensures.value ∙ c.in_ok-keys.ensures.keys) c.in_ok-keys.ensures.pending c.in_ok-keys.ensures.once c.in_ok-keys.ensures.notes c.drop_needs_by_any.ensures c.needs-2.ensures c.in_ok-applying.ensures
     (c.in_ok-note_keys.ensures ∙ ap (λ applying. noted c.take_touches.new.notes (key_notes c.args.p applying)) c.as_slice-2.ensures.value) (c.in_ok-apply_values.ensures.rows ∙ ap set c.as_slice-3.ensures.value) refl refl c.in_ok-keys.ensures.output in
     rows_sound s h (g.R.Reader.list c.apply_values.new.reader) c.args.p c.args.reported.now held after c.apply_values.ensures.moves.kept
     (record { is_range = c.requires.is_range; entered = c.requires.entered; place = c.requires.within; stands = c.requires.stands }) c.requires.order c.requires.copies c.requires.sound c.requires.reported step

@@ -13,5 +13,5 @@ pub returns-clause-rows : goal.returns-clause-rows
 returns-clause-rows g c =
     let s = c.args.subject.now in
     let h = g.R.Reader.list c.args.reader.now in
-    IfOk-weaker c.evaluate.result _ _ (λ rows is. is ∙ asked_is_within s.join s.range c.args.slots.now (below (take c.args.p h) s.rank) (standing_join h c.args.p s.rank s.join c.requires.entered c.requires.stands) c.requires.is_range c.requires.of_range)
+    IfOk-weaker c.evaluate.result _ _ (λ found is. is ∙ asked_is_within s.join s.range c.args.slots.now (below (take c.args.p h) s.rank) (standing_join h c.args.p s.rank s.join c.requires.entered c.requires.stands) c.requires.is_range c.requires.of_range)
     c.evaluate.ensures.rows

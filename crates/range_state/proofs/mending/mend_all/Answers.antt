@@ -1,18 +1,22 @@
-use Rattle.std.proofs.Common.{◌≡◌, ℕ, ◌+◌, ◌≤◌, List, [], ◌∷◌, ◌++◌, length, take, sym, ap, ◌∙◌, subst, arith}
+use Rattle.std.proofs.Common.{◌≡◌, ℕ, ◌+◌, ◌≤◌, List, [], ◌∷◌, ◌++◌, length, length-append, take, sym, ap, ◌∙◌, subst, arith}
 use Rattle.std.specs.List.{AllByRecursion}
 use Rattle.std.proofs.lemmas.List.Sums.{sum_by-cons}
+use Rattle.std.proofs.lemmas.Result.{err_from_is_err_and}
 use Rattle.semantics.specs.Patterns.{Slots}
 use Rattle.semantics.specs.Histories.{History}
 use Rattle.semantics.specs.States.{below}
 use Rattle.growing_history.proofs.PrefixLemmas.{take_prefix}
+use Rattle.range_evaluation.specs.Trees.{tree}
 use Rattle.range_evaluation.specs.TreeLaws.{AreOutputSlots}
-use Rattle.join_rows.specs.Kept.{KeptRows}
+use Rattle.join_rows.specs.Kept.{KeptRows, AddsEach}
+use Rattle.join_eval.specs.Bounds.{Allows, Exceeds, most_of}
+use Rattle.join_eval.proofs.CollectingLemmas.{exceeds_more, on_too_wide_weaker}
 use Rattle.join_eval.proofs.MovesLemmas.{moves_trans}
 use Rattle.kept_ranges.specs.Notes.{Note, Notes, note_limit, noted}
 use Rattle.kept_ranges.specs.Sound.{KeptRange, IsSoundAt}
 use Rattle.range_state.specs.Held.{HasPlaces, range_kept}
 use Rattle.range_state.specs.Mended.{AreAllBare, steps_for, steps_under, with_pending}
-use Rattle.range_state.specs.Work.{AddsNeeds, mend_notes, needs_under_each}
+use Rattle.range_state.specs.Work.{mend_notes, needs_under_each}
 use Rattle.range_state.proofs.MendLemmas.{pending_copies, mend_step, slots_note, noted_all, noted_room, bare_longer, steps_longer, needs_next, needs_end, steps_end, notes_end}
 use Rattle.range_state.proofs.NotingLemmas.{noted_few, noted_next}
 use Rattle.range_state.proofs.mending.mend_all.Goals as goal
@@ -32,6 +36,28 @@ returns-in_err-mend_slots-clause-moves g c =
 pub returns-in_err-add-clause-moves : goal.returns-in_err-add-clause-moves
 returns-in_err-add-clause-moves g c =
     moves_trans g.R.Reader.list g.R.Reader.floor g.R.Reader.went c.args.reader.now c.loop-slots.reader c.mend_slots.new.reader (g.met.R.Reader.went_trans c.args.reader.now c.loop-slots.reader c.mend_slots.new.reader) c.loop-slots.invariant.moves c.mend_slots.ensures.moves
+
+pub returns-in_err-mend_slots-clause-wide : goal.returns-in_err-mend_slots-clause-wide
+returns-in_err-mend_slots-clause-wide g c =
+    let before = c.loop-slots.invariant in
+    let s = c.args.subject.now in
+    let h = g.R.Reader.list c.args.reader.now in
+    let here = g.R.Reader.list c.loop-slots.reader in
+    let q = c.args.held.now.position in
+    let most = most_of c.args.bound in
+    let given = c.in-Some.slots in
+    let rest = c.next.new.self.rest.items in
+    let had = c.args.held.now.rows.needs in
+    let now = c.loop-slots.held.rows.needs in
+    let table = below (take q h) s.rank in
+    let found = tree s.join given s.range (below (take q here) s.rank) in
+    let all = needs_under_each s.join s.range table c.args.taken.items in
+    let same : length found ≡ length (tree s.join given s.range table) = ap (λ (es : History). length (tree s.join given s.range (below es s.rank))) (take_prefix q h here c.requires.sound.place before.moves.kept) in
+    let parts : length (needs_under_each s.join s.range table c.loop-slots.slots-iterator.rest.items) ≡ length (tree s.join given s.range table) + length (needs_under_each s.join s.range table rest) =
+    ap (λ (ss : List Slots). length (needs_under_each s.join s.range table ss)) c.in-Some.ensures.steps.0 ∙ length-append (tree s.join given s.range table) (needs_under_each s.join s.range table rest) in
+    let p = err_from_is_err_and c.from_residual.result c.from_residual.ensures.1 in
+    rw (p.1, p.2) (on_too_wide_weaker c.in_err-mend_slots.field-0.0
+    (λ (many : Exceeds most (length now + length found)). exceeds_more most (length now + length found) (length had + length all) (omega (arith, before.long, same, parts)) many) c.in_err-mend_slots.ensures.wide)
 
 pub loop-slots-preserved : goal.loop-slots-preserved
 loop-slots-preserved g c =
@@ -66,6 +92,15 @@ loop-slots-preserved g c =
       counted = let one = c.in_ok-mend_slots.ensures.counted in let so_far = before.counted in omega arith;
       needs = needs_next s.join s.range (below (take q h) s.rank) (below (take q here) s.rank) given c.args.taken.items all rest c.args.held.now.rows.needs held.rows.needs c.mend_slots.new.rows.needs
           (ap (λ (es : History). below es s.rank) (take_prefix q h here c.requires.sound.place before.moves.kept)) first c.in_ok-mend_slots.ensures.needs before.needs;
+      long =
+          let one = c.in_ok-mend_slots.ensures.long in
+          let table = below (take q h) s.rank in
+          let same : length (tree s.join given s.range (below (take q here) s.rank)) ≡ length (tree s.join given s.range table) =
+          ap (λ (es : History). length (tree s.join given s.range (below es s.rank))) (take_prefix q h here c.requires.sound.place before.moves.kept) in
+          let parts : length (needs_under_each s.join s.range table all) ≡ length (tree s.join given s.range table) + length (needs_under_each s.join s.range table rest) =
+          ap (λ (ss : List Slots). length (needs_under_each s.join s.range table ss)) first ∙ length-append (tree s.join given s.range table) (needs_under_each s.join s.range table rest) in
+          omega (arith, before.long, one, same, parts);
+      within = λ had. c.in_ok-mend_slots.ensures.few;
       notes = noted_next held.notes c.add.new.self note (mend_notes q rest) added ∙ ap (λ (ss : List Slots). noted held.notes (mend_notes q ss)) (sym first) ∙ before.notes;
       least =
           let one = c.in_ok-mend_slots.ensures.least in
@@ -91,8 +126,13 @@ returns-clause-needs g c =
     let s = c.args.subject.now in
     let table = below (take c.args.held.now.position (g.R.Reader.list c.args.reader.now)) s.rank in
     let none : length c.loop-slots.slots-iterator.rest.items ≡ 0 = sym c.loop-slots.slots-iterator.rest.ok.0 ∙ c.in-None.ensures.steps.0 in
-    subst (λ (r : KeptRows). AddsNeeds (needs_under_each s.join s.range table c.args.taken.items) c.args.held.now.rows.needs r.needs) (sym c.forget_order.ensures)
+    subst (λ (r : KeptRows). AddsEach (needs_under_each s.join s.range table c.args.taken.items) c.args.held.now.rows.needs r.needs) (sym c.forget_order.ensures)
     (needs_end s.join s.range table c.args.taken.items c.loop-slots.slots-iterator.rest.items c.args.held.now.rows.needs c.loop-slots.held.rows.needs none c.loop-slots.invariant.needs)
+
+pub returns-clause-few : goal.returns-clause-few
+returns-clause-few g c =
+    let most = most_of c.args.bound in
+    subst (λ (r : KeptRows). Allows most (length c.args.held.now.rows.needs) → Allows most (length r.needs)) (sym c.forget_order.ensures) c.loop-slots.invariant.within
 
 pub returns-clause-notes : goal.returns-clause-notes
 returns-clause-notes g c =

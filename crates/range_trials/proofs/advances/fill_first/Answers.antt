@@ -1,4 +1,4 @@
-use Rattle.std.proofs.Common.{◌≡◌, ℕ, List, [], Some, take, true, Option, MatchOption, refl, sym, ap, ◌∙◌, subst, arith}
+use Rattle.std.proofs.Common.{◌≡◌, ℕ, List, [], Some, None, take, true, Option, MatchOption, refl, sym, ap, ◌∙◌, subst, arith}
 use Rattle.std.specs.List.{AllByRecursion}
 use Rattle.std.proofs.lemmas.List.{take_all}
 use Rattle.semantics.specs.Texts.{is_range, Range, pairs_within}
@@ -14,6 +14,7 @@ use Rattle.growing_history.proofs.ElementLemmas.{all_from_has, has_of_all}
 use Rattle.growing_history.proofs.EnteredLemmas.{rank_of_place, has_entered_taken, keeps_rules}
 use Rattle.growing_history.proofs.KeyLemmas.{has_keys_below}
 use Rattle.range_evaluation.specs.Trees.{Need, tree}
+use Rattle.join_eval.proofs.CollectingLemmas.{whole_needs}
 use Rattle.join_set.specs.Sets.{Joins}
 use Rattle.kept_ranges.specs.Kept.{Kept, CameBy}
 use Rattle.kept_ranges.proofs.FillLemmas.{filled_is_right}
@@ -50,4 +51,6 @@ returns g c =
     (rank_of_place c.joins-joins.result.now.standing j 0 rank _ refl c.join-join.ensures c.rank-rank.ensures.exact) in
     let binds = ap (λ (k : Join). range_slots k.output range) (sym c.join.view_is) ∙ sym c.range_slots.ensures.exact ∙ c.in-Some.is in
     let fills = tree_can_fill c.need_can_fill.ensures (take p h) j rank range c.in-Some.slots (has_entered_taken p h c.new-reader.ensures.entered) stands (ap is_join (sym c.join.view_is) ∙ c.join.invariant) c.lo-low.ensures.is_range binds in
-    subst (λ (k : Join). AllByRecursion (CanFill k) c.in_ok-rows.rows.needs) (sym c.in_ok-join.ensures) (subst (AllByRecursion (CanFill j)) (sym c.in_ok-rows.ensures.needs) fills)
+    let rows = c.into_rows-rows.result in
+    let needs = whole_needs None (tree j c.in-Some.slots range (below (take p h) rank)) c.in_ok-found.found rows c.into_rows-rows.ensures c.in_ok-found.ensures.needs in
+    subst (λ (k : Join). AllByRecursion (CanFill k) rows.needs) (sym c.in_ok-join.ensures) (subst (AllByRecursion (CanFill j)) (sym needs.0) fills)

@@ -6,7 +6,8 @@ use Rattle.semantics.specs.Outputs.{out}
 use Rattle.semantics.specs.States.{below}
 use Rattle.join_eval.proofs.MovesLemmas.{moves_refl, moves_trans}
 use Rattle.cell_slots.proofs.DeclaredLemmas.{stands_over}
-use Rattle.rank_layers.proofs.JoinLemmas.{flat_map_more, output_over}
+use Rattle.join_eval.proofs.WalkLemmas.{flat_map_more}
+use Rattle.rank_layers.proofs.JoinLemmas.{output_over}
 use Rattle.rank_layers.proofs.outputs.read_each.Goals as goal
 
 pub loop-part-init : goal.loop-part-init

@@ -17,14 +17,14 @@ loop-at-init g c = record {
   counted = omega arith;
 }
 
-pub tell_join-requires-clause-above : goal.tell_join-requires-clause-above
-tell_join-requires-clause-above g c = subst (λ n. n ≤ c.args.p) (sym c.loop-at.invariant.moves.same_floor) c.requires.above
+pub changes_of_join-requires-clause-above : goal.changes_of_join-requires-clause-above
+changes_of_join-requires-clause-above g c = subst (λ n. n ≤ c.args.p) (sym c.loop-at.invariant.moves.same_floor) c.requires.above
 
-pub tell_join-requires-clause-within : goal.tell_join-requires-clause-within
-tell_join-requires-clause-within g c = omega (arith, c.requires.within, prefix_length (g.R.Reader.list c.args.reader.now) (g.R.Reader.list c.loop-at.reader) c.loop-at.invariant.moves.kept)
+pub changes_of_join-requires-clause-within : goal.changes_of_join-requires-clause-within
+changes_of_join-requires-clause-within g c = omega (arith, c.requires.within, prefix_length (g.R.Reader.list c.args.reader.now) (g.R.Reader.list c.loop-at.reader) c.loop-at.invariant.moves.kept)
 
-pub tell_join-requires-clause-stands : goal.tell_join-requires-clause-stands
-tell_join-requires-clause-stands g c =
+pub changes_of_join-requires-clause-stands : goal.changes_of_join-requires-clause-stands
+changes_of_join-requires-clause-stands g c =
     let list = g.R.Reader.list in
     let w = listed_stands (list c.args.reader.now) c.args.p c.args.range.now c.args.rank c.args.ats.now c.loop-at.at-index c.requires.within c.requires.listed c.loop-at-test.true in
     (w.0.join, stands_over (list c.args.reader.now) (list c.loop-at.reader) c.args.p (get_or c.args.ats.now c.loop-at.at-index 0) c.args.rank w.0.join c.requires.within c.loop-at.invariant.moves.kept w.2)
@@ -50,9 +50,9 @@ loop-at-preserved g c =
           c.args.keys.items c.loop-at.all.items c.in-Keys.more.items c.in_ok-all-in-Keys.all.items w.1 before.lists
           (lists_over (list c.args.reader.now) (list c.loop-at.reader) c.args.since c.args.p c.args.rank w.0.join c.args.range.now c.in-Keys.more.items c.requires.order c.requires.within before.moves.kept lists)
           c.in_ok-all-in-Keys.ensures.ascend c.in_ok-all-in-Keys.ensures.same;
-      moves = moves_trans list g.R.Reader.floor (g.C.RangeCache.left (c.args.rank + 1)) c.args.reader.now c.loop-at.reader c.tell_join.new.reader (g.met.C.RangeCache.left_trans (c.args.rank + 1) c.args.reader.now c.loop-at.reader c.tell_join.new.reader) before.moves c.tell_join.ensures.moves;
-      entered = c.tell_join.ensures.moves.entered before.entered;
-      counted = omega (arith, before.counted, c.tell_join.ensures.counted);
+      moves = moves_trans list g.R.Reader.floor (g.C.RangeCache.left (c.args.rank + 1)) c.args.reader.now c.loop-at.reader c.changes_of_join.new.reader (g.met.C.RangeCache.left_trans (c.args.rank + 1) c.args.reader.now c.loop-at.reader c.changes_of_join.new.reader) before.moves c.changes_of_join.ensures.moves;
+      entered = c.changes_of_join.ensures.moves.entered before.entered;
+      counted = omega (arith, before.counted, c.changes_of_join.ensures.counted);
     }
 
 pub returns-clause-told : goal.returns-clause-told
@@ -63,12 +63,12 @@ returns-clause-told g c =
 
 pub returns-in_err-more-clause-moves : goal.returns-in_err-more-clause-moves
 returns-in_err-more-clause-moves g c =
-    moves_trans g.R.Reader.list g.R.Reader.floor (g.C.RangeCache.left (c.args.rank + 1)) c.args.reader.now c.loop-at.reader c.tell_join.new.reader (g.met.C.RangeCache.left_trans (c.args.rank + 1) c.args.reader.now c.loop-at.reader c.tell_join.new.reader) c.loop-at.invariant.moves c.tell_join.ensures.moves
+    moves_trans g.R.Reader.list g.R.Reader.floor (g.C.RangeCache.left (c.args.rank + 1)) c.args.reader.now c.loop-at.reader c.changes_of_join.new.reader (g.met.C.RangeCache.left_trans (c.args.rank + 1) c.args.reader.now c.loop-at.reader c.changes_of_join.new.reader) c.loop-at.invariant.moves c.changes_of_join.ensures.moves
 
 pub returns-in_err-all-in-Keys-clause-moves : goal.returns-in_err-all-in-Keys-clause-moves
 returns-in_err-all-in-Keys-clause-moves g c =
-    moves_trans g.R.Reader.list g.R.Reader.floor (g.C.RangeCache.left (c.args.rank + 1)) c.args.reader.now c.loop-at.reader c.tell_join.new.reader (g.met.C.RangeCache.left_trans (c.args.rank + 1) c.args.reader.now c.loop-at.reader c.tell_join.new.reader) c.loop-at.invariant.moves c.tell_join.ensures.moves
+    moves_trans g.R.Reader.list g.R.Reader.floor (g.C.RangeCache.left (c.args.rank + 1)) c.args.reader.now c.loop-at.reader c.changes_of_join.new.reader (g.met.C.RangeCache.left_trans (c.args.rank + 1) c.args.reader.now c.loop-at.reader c.changes_of_join.new.reader) c.loop-at.invariant.moves c.changes_of_join.ensures.moves
 
 pub returns-in-All-clause-moves : goal.returns-in-All-clause-moves
 returns-in-All-clause-moves g c =
-    moves_trans g.R.Reader.list g.R.Reader.floor (g.C.RangeCache.left (c.args.rank + 1)) c.args.reader.now c.loop-at.reader c.tell_join.new.reader (g.met.C.RangeCache.left_trans (c.args.rank + 1) c.args.reader.now c.loop-at.reader c.tell_join.new.reader) c.loop-at.invariant.moves c.tell_join.ensures.moves
+    moves_trans g.R.Reader.list g.R.Reader.floor (g.C.RangeCache.left (c.args.rank + 1)) c.args.reader.now c.loop-at.reader c.changes_of_join.new.reader (g.met.C.RangeCache.left_trans (c.args.rank + 1) c.args.reader.now c.loop-at.reader c.changes_of_join.new.reader) c.loop-at.invariant.moves c.changes_of_join.ensures.moves

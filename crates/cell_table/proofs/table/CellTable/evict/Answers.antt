@@ -1,4 +1,4 @@
-use Rattle.std.proofs.Common.{◌≡◌, Some, slice_get, refl, ap, sym, subst, ◌∙◌}
+use Rattle.std.proofs.Common.{◌≡◌, Some, slice_get, refl, sym, subst, ◌∙◌}
 use Rattle.std.proofs.lemmas.Option.{same_Some}
 use Rattle.cell_slots.specs.declared.slot.Slot.{Slot}
 use Rattle.cell_slots.specs.declared.slot.Slot.TheVariants.{Held}
@@ -15,4 +15,4 @@ invariant_of-self c =
     let held : slice_get before.slots c.args.id ≡ Some (Held at s) = subst (λ (t : Store). slice_get t.holdings.slots c.args.id ≡ Some (Held at s)) (sym c.self.view_is) c.requires.held in
     let is : c.put-taken.result ≡ Held at s = same_Some c.put-taken.result (Held at s) (sym c.put-taken.ensures.was ∙ held) in
     store_left before.slots c.put-taken.new.self before.used.items before.directory c.leave.new.self before.book c.gone.new.self c.args.id at s.range (Held at s) c.self.invariant held refl c.put-taken.ensures.set
-    (subst (λ (slot : Slot). LeavesPlace slot before.directory c.leave.new.self) is c.leave.ensures) (ap (λ b. b.cells) c.gone.ensures)
+    (subst (λ (slot : Slot). LeavesPlace slot before.directory c.leave.new.self) is c.leave.ensures) c.gone.ensures

@@ -11,4 +11,4 @@ invariant_of-result c =
     let book = c.in_ok-book.book in
     subst (λ (slots : List Slot). IsStore slots c.new-4.result.items c.new-3.result book) (sym c.in_ok-slots.ensures)
     (subst (λ (used : List ℕ). IsStore (replicate c.args.cells Free) used c.new-3.result book) (sym c.new-4.ensures.items)
-    (subst (λ (places : Places). IsStore (replicate c.args.cells Free) [] places book) (sym c.new-3.ensures) (store_free c.args.cells book c.requires.some (ap (λ b. b.cells) c.in_ok-book.ensures))))
+    (subst (λ (places : Places). IsStore (replicate c.args.cells Free) [] places book) (sym c.new-3.ensures) (store_free c.args.cells book c.requires.some (ap (λ b. b.cells) c.in_ok-book.ensures) (ap (λ b. b.used) c.in_ok-book.ensures))))

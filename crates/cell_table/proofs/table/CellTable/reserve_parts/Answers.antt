@@ -3,9 +3,10 @@ use Rattle.std.proofs.lemmas.List.{map-id}
 use Rattle.std.proofs.lemmas.Iterator.Adapters.{YieldsList-from_vec}
 use Rattle.std.proofs.lemmas.Iterator.Consumers.{YieldsList-end, YieldsList-so_far, YieldsList-turn}
 use Rattle.cell_slots.specs.declared.slot.Part.{Part}
+use Rattle.cell_slots.proofs.TurnLemmas.{at_turn}
 use Rattle.cell_table.specs.Stores.{Store}
 use Rattle.cell_table.specs.Moves.{GetCells, ReservesParts}
-use Rattle.cell_table.proofs.CellLemmas.{at_turn, got_more, limit_stays, next_gap, next_table, so_far}
+use Rattle.cell_table.proofs.CellLemmas.{book_stays, got_more, limit_stays, next_gap, next_table, so_far}
 use Rattle.cell_table.proofs.table.CellTable.reserve_parts.Goals as goal
 
 pub give_cell-requires-clause-gap : goal.give_cell-requires-clause-gap
@@ -40,6 +41,10 @@ pub returns-in_err-give_cell-clause-same_limit : goal.returns-in_err-give_cell-c
 returns-in_err-give_cell-clause-same_limit c =
     ap (λ (s : Store). s.limit) c.in_err-give_cell.ensures.err ∙ limit_stays c.args.at c.args.rank c.args.join.now c.loop-part.yielded c.loop-part.made.items c.args.self.now c.loop-part.self c.loop-part.invariant
 
+pub returns-in_err-give_cell-clause-same_book : goal.returns-in_err-give_cell-clause-same_book
+returns-in_err-give_cell-clause-same_book c =
+    ap (λ (s : Store). s.book) c.in_err-give_cell.ensures.err ∙ book_stays c.args.at c.args.rank c.args.join.now c.loop-part.yielded c.loop-part.made.items c.args.self.now c.loop-part.self c.loop-part.invariant
+
 pub loop-part-preserved : goal.loop-part-preserved
 loop-part-preserved c =
     subst (λ (made : List Part). GetCells c.args.at c.args.rank c.args.join.now c.args.self.now (c.loop-part.yielded ++ c.in-Some.part ∷ []) made c.give_cell.new.self) (sym c.in_ok-push.ensures.items)
@@ -62,6 +67,11 @@ returns-in_err-push-clause-same_limit c =
     limit_stays c.args.at c.args.rank c.args.join.now (c.loop-part.yielded ++ c.in-Some.part ∷ []) (c.loop-part.made.items ++ c.in_ok-give_cell.field-0 ∷ []) c.args.self.now c.give_cell.new.self
     (got_more c.args.at c.args.rank c.args.join.now c.args.self.now c.loop-part.self c.give_cell.new.self c.loop-part.yielded c.loop-part.made.items c.in-Some.part c.in_ok-give_cell.field-0 c.loop-part.invariant c.in_ok-give_cell.ensures.got)
 
+pub returns-in_err-push-clause-same_book : goal.returns-in_err-push-clause-same_book
+returns-in_err-push-clause-same_book c =
+    book_stays c.args.at c.args.rank c.args.join.now (c.loop-part.yielded ++ c.in-Some.part ∷ []) (c.loop-part.made.items ++ c.in_ok-give_cell.field-0 ∷ []) c.args.self.now c.give_cell.new.self
+    (got_more c.args.at c.args.rank c.args.join.now c.args.self.now c.loop-part.self c.give_cell.new.self c.loop-part.yielded c.loop-part.made.items c.in-Some.part c.in_ok-give_cell.field-0 c.loop-part.invariant c.in_ok-give_cell.ensures.got)
+
 pub returns-clause-slots : goal.returns-clause-slots
 returns-clause-slots c =
     let all = c.args.parts.items in
@@ -73,3 +83,6 @@ returns-clause-slots c =
 
 pub returns-clause-same_limit : goal.returns-clause-same_limit
 returns-clause-same_limit c = limit_stays c.args.at c.args.rank c.args.join.now c.loop-part.yielded c.loop-part.made.items c.args.self.now c.loop-part.self c.loop-part.invariant
+
+pub returns-clause-same_book : goal.returns-clause-same_book
+returns-clause-same_book c = book_stays c.args.at c.args.rank c.args.join.now c.loop-part.yielded c.loop-part.made.items c.args.self.now c.loop-part.self c.loop-part.invariant

@@ -1,25 +1,30 @@
-use Rattle.std.proofs.Common.{◌≡◌, ◌+◌, ◌≤◌, List, length, take, Option, Some, IfSome, Vec, Global, sym, ap, ◌∙◌, subst, arith}
+use Rattle.std.proofs.Common.{◌≡◌, ◌+◌, ◌≤◌, List, length, take, Option, Some, IfSome, Vec, Global, refl, sym, ap, ◌∙◌, subst, arith}
 use Rattle.std.specs.Option.{IsSomeAnd}
 use Rattle.std.proofs.lemmas.Option.{same_Some}
+use Rattle.std.proofs.lemmas.Result.{err_from_is_err_and}
 use Rattle.semantics.specs.Texts.{Text}
 use Rattle.semantics.specs.Histories.{History, joins_of}
 use Rattle.semantics.specs.States.{below}
 use Rattle.growing_history.specs.Entered.{HasRank}
 use Rattle.growing_history.proofs.PrefixLemmas.{prefix_trans, take_prefix}
 use Rattle.key_space.specs.declared.key.Key.{Key}
+use Rattle.join_eval.specs.Bounds.{Allows, Exceeds, most_of}
 use Rattle.join_eval.specs.Moves.{Moves}
+use Rattle.join_eval.proofs.CollectingLemmas.{on_too_wide_always, on_too_wide_weaker}
 use Rattle.join_eval.proofs.MovesLemmas.{moves_trans}
+use Rattle.kept_ranges.specs.Notes.{note_limit}
 use Rattle.kept_ranges.specs.Sound.{KeptRange, IsSoundAt, IsSound}
 use Rattle.kept_ranges.specs.SoundLaws.{AreReportedBetween}
 use Rattle.kept_ranges.proofs.SoundLemmas.{sound_over_longer}
 use Rattle.source_changes.specs.Asking.{AreBareThroughout, AreListed}
 use Rattle.range_state.specs.Held.{view_of, range_kept, FitsJoin}
-use Rattle.range_state.specs.Work.{advance_steps, TouchesLittle}
+use Rattle.range_state.specs.Work.{advance_steps, fill_needs, StaysWithin, TouchesLittle}
 use Rattle.range_state.specs.declared.holding.Holding.{Holding}
 use Rattle.range_state.proofs.CostLemmas.{same_place, bare_held, cost_held}
 use Rattle.range_state.proofs.CountedLemmas.{counts_filled, counts_asked}
-use Rattle.range_state.proofs.LittleLemmas.{little_held, little_same}
-use Rattle.range_state.proofs.SoundLemmas.{subject_stands}
+use Rattle.range_state.proofs.HeldLemmas.{advanced_few, filled_few}
+use Rattle.range_state.proofs.LittleLemmas.{few_kept, little_held, little_same}
+use Rattle.range_state.proofs.SoundLemmas.{of_subject, subject_stands}
 use Rattle.range_state.proofs.GoneOnLemmas.{held_sound, reported_held, made_sound, reached_sound, refilled_sound, unchecked_pending}
 use Rattle.range_state.proofs.state.RangeState.advance.Goals as goal
 use Rattle.range_state.proofs.state.RangeState.advance.Goals.{in-None+in_ok-advanced-in-None, in-Some-asked+in_ok-advanced-in-Some-asked}
@@ -27,6 +32,32 @@ use Rattle.range_state.proofs.state.RangeState.advance.Goals.{in-None+in_ok-adva
 pub returns-in_err-advanced-in-None-clause-moves : goal.returns-in_err-advanced-in-None-clause-moves
 returns-in_err-advanced-in-None-clause-moves g c =
     moves_trans g.R.Reader.list g.R.Reader.floor g.R.Reader.went c.args.reader.now c.ask_needs.new.reader c.fill_at.new.reader (g.met.R.Reader.went_trans c.args.reader.now c.ask_needs.new.reader c.fill_at.new.reader) c.ask_needs.ensures.moves c.fill_at.ensures.moves
+
+pub returns-in_err-advanced-in-None-clause-wide : goal.returns-in_err-advanced-in-None-clause-wide
+returns-in_err-advanced-in-None-clause-wide g c =
+    let s = c.self.inside.subject in
+    let h = g.R.Reader.list c.args.reader.now in
+    let here = g.R.Reader.list c.ask_needs.new.reader in
+    let most = most_of c.args.bound in
+    let p = err_from_is_err_and c.from_residual-in_err-advanced-in-None.result c.from_residual-in_err-advanced-in-None.ensures.1 in
+    rw (p.1, p.2) (on_too_wide_weaker c.in_err-advanced-in-None.field-0.0
+    (λ (many : Exceeds most (length (fill_needs s.join s.range (below (take c.args.p here) s.rank)))).
+    of_subject (λ j rank range. Exceeds most (length (fill_needs j range (below (take c.args.p h) rank)))) s c.self.inside.held c.args.self.now c.self.view_is
+    (subst (λ (es : History). Exceeds most (length (fill_needs s.join s.range (below es s.rank)))) (take_prefix c.args.p h here c.requires.within c.ask_needs.ensures.moves.kept) many)) c.in_err-advanced-in-None.ensures.wide)
+
+pub returns-in_err-advanced-in-None-clause-known : goal.returns-in_err-advanced-in-None-clause-known
+returns-in_err-advanced-in-None-clause-known g c = λ q stands bare.
+    let s = c.self.inside.subject in
+    let h = g.R.Reader.list c.args.reader.now in
+    let needs = c.needs-needs.result.now in
+    let view : range_kept s c.in-Some.held ≡ c.args.self.now = sym (ap (view_of s) c.in-Some.is) ∙ c.self.view_is in
+    absurd (subst (λ (o : Option (Vec Key Global)). IsSomeAnd o (λ keys. AreListed c.in-Some.held.position c.args.p h needs keys.items)) c.in-None.is
+    (c.in_ok-asked.ensures.bare (bare_held s c.in-Some.held c.args.self.now h q c.args.p needs view stands c.needs-needs.ensures bare)))
+
+pub returns-in_err-advanced-in-None-clause-gone : goal.returns-in_err-advanced-in-None-clause-gone
+returns-in_err-advanced-in-None-clause-gone g c =
+    let p = err_from_is_err_and c.from_residual-in_err-advanced-in-None.result c.from_residual-in_err-advanced-in-None.ensures.1 in
+    rw (p.1, p.2) (on_too_wide_always c.in_err-advanced-in-None.field-0.0 (ap (λ (o : Option Holding). (view_of c.self.inside.subject o).position) c.replace.ensures.after))
 
 pub fill_at-requires-clause-stands : goal.fill_at-requires-clause-stands
 fill_at-requires-clause-stands g c =
@@ -127,10 +158,34 @@ returns-clause-cost g c =
           w.in_ok-advanced-in-Some-asked.ensures.advanced w.in_ok-advanced-in-Some-asked.ensures.cost)
     ]
 
+pub returns-then-held-p-clause-few : goal.returns-then-held-p-clause-few
+returns-then-held-p-clause-few g c =
+    let most = most_of c.args.bound in
+    let here : StaysWithin most c.args.self.now c.args.self.now = λ few. few in
+    let viewed : StaysWithin most c.args.self.now (view_of c.self.inside.subject c.self.inside.held) = subst (λ (w : KeptRange). StaysWithin most c.args.self.now w) (sym c.self.view_is) here in
+    assumption (here, viewed)
+
+pub returns-clause-few : goal.returns-clause-few
+returns-clause-few g c =
+    let s = c.self.inside.subject in
+    let here = g.R.Reader.list c.ask_needs.new.reader in
+    let most = most_of c.args.bound in
+    let view : range_kept s c.in-Some.held ≡ c.args.self.now = sym (ap (view_of s) c.in-Some.is) ∙ c.self.view_is in
+    let same : c.in-Some-replace.held ≡ c.in-Some.held = same_Some _ _ (sym c.in-Some-replace.is ∙ c.replace.ensures.value ∙ c.in-Some.is) in
+    elim c.match-asked.branch [
+      | in-None+in_ok-advanced-in-None w ↦ λ few.
+          subst (λ (a : Holding). Allows most (length a.rows.needs)) (sym w.advanced-is)
+          (filled_few most s (below (take c.args.p here) s.rank) c.args.p w.in_ok-advanced-in-None.advanced w.in_ok-advanced-in-None.ensures.filled w.in_ok-advanced-in-None.ensures.few)
+      | in-Some-asked+in_ok-advanced-in-Some-asked w ↦ λ few.
+          subst (λ (a : Holding). Allows most (length a.rows.needs)) (sym w.advanced-is)
+          (advanced_few most s c.in-Some.held c.in-Some-replace.held w.in_ok-advanced-in-Some-asked.advanced c.args.self.now c.args.p w.as_slice.result.now view same w.in_ok-advanced-in-Some-asked.ensures.advanced few)
+    ]
+
 pub returns-then-held-p-clause-little : goal.returns-then-held-p-clause-little
 returns-then-held-p-clause-little g c = λ q stands bare.
     let h = g.R.Reader.list c.args.reader.now in
-    let here : TouchesLittle h q c.args.p c.args.self.now c.args.self.now = little_same h q c.args.p c.args.self.now in
+    let few = few_kept c.self.inside.subject c.self.inside.held c.args.self.now c.self.view_is c.self.invariant in
+    let here : TouchesLittle h q c.args.p c.args.self.now c.args.self.now = little_same h q c.args.p c.args.self.now few in
     let viewed : TouchesLittle h q c.args.p c.args.self.now (view_of c.self.inside.subject c.self.inside.held) = subst (λ (w : KeptRange). TouchesLittle h q c.args.p c.args.self.now w) (sym c.self.view_is) here in
     assumption (here, viewed)
 
@@ -177,4 +232,17 @@ returns-clause-least g c =
       | in-Some-asked+in_ok-advanced-in-Some-asked w ↦ λ q stands less.
           let asked : old + length needs ≤ mid = subst (λ (o : Option (Vec Key Global)). IfSome o (λ keys. old + length needs ≤ mid)) w.in-Some-asked.is c.in_ok-asked.ensures.least in
           counts_asked s c.in-Some.held v (range_kept s c.match-asked.advanced) (below (take c.args.p h) v.rank) c.args.p needs old mid w.advance_held.new.steps _ view c.needs-needs.ensures w.steps-is asked w.in_ok-advanced-in-Some-asked.ensures.counted
+    ]
+
+pub returns-then-held-p-clause-few_notes : goal.returns-then-held-p-clause-few_notes
+returns-then-held-p-clause-few_notes g c =
+    let here : length c.args.self.now.notes.list ≤ note_limit = few_kept c.self.inside.subject c.self.inside.held c.args.self.now c.self.view_is c.self.invariant in
+    let viewed : length (view_of c.self.inside.subject c.self.inside.held).notes.list ≤ note_limit = subst (λ (v : KeptRange). length v.notes.list ≤ note_limit) (sym c.self.view_is) here in
+    assumption (here, viewed)
+
+pub returns-clause-few_notes : goal.returns-clause-few_notes
+returns-clause-few_notes g c =
+    elim c.match-asked.branch [
+      | in-None+in_ok-advanced-in-None w ↦ subst (λ (a : Holding). length a.notes.list ≤ note_limit) (sym w.advanced-is) w.in_ok-advanced-in-None.ensures.filled.fits.few
+      | in-Some-asked+in_ok-advanced-in-Some-asked w ↦ subst (λ (a : Holding). length a.notes.list ≤ note_limit) (sym w.advanced-is) w.in_ok-advanced-in-Some-asked.ensures.advanced.fits.few
     ]

@@ -1,10 +1,11 @@
 -- What a shard keeps is the fold of a beginning of what its pass has seen, also after each step.
-use Rattle.std.proofs.Common.{◌≡◌, ◌==◌, ℕ, ◌+◌, ◌-◌, ◌%◌, ◌^◌, ◌<◌, ◌≤◌, List, [], ◌++◌, length, take, drop, sum, min, true, eq-eqb, Result, Ok, Err, OnOk, OnErr, refl, sym, ap, ◌∙◌, subst, arith}
+use Rattle.std.proofs.Common.{◌≡◌, ◌==◌, ℕ, ◌+◌, ◌-◌, ◌%◌, ◌^◌, ◌<◌, ◌≤◌, List, [], ◌++◌, length, take, drop, sum, min, true, eq-eqb, Option, Some, None, IfSome, Vec, Global, Result, Ok, Err, OnOk, OnErr, refl, sym, ap, ◌∙◌, subst, arith}
 use Rattle.std.proofs.lemmas.Result.{on_ok_weaker, on_err_weaker}
 use Rattle.std.proofs.lemmas.List.{length-take, length-drop, take_all}
 use Rattle.semantics.specs.Texts.{Text, Table, Range, pairs_within}
 use Rattle.semantics.specs.Histories.{History, base_of}
 use Rattle.growing_history.specs.Changes.{changed_keys}
+use Rattle.key_space.specs.declared.key.Key.{Key}
 use Rattle.growing_history.specs.Entered.{HasEntered}
 use Rattle.growing_history.proofs.PrefixLemmas.{take_prefix, prefix_length}
 use Rattle.base_versions.specs.Kept.{Kept, StandsFor, HasEnteredInPart, has_table, shard_of}
@@ -238,3 +239,9 @@ pub changed_of_view : (history : HistoryId) (base : Kept) (pass : PassView) (q p
 changed_of_view history base pass q p range keys keeps from order inside exact =
     let long : p ≤ length (take base.position pass.view) = omega (arith, length-take base.position pass.view, keeps.reaches) in
     exact base.start (take base.position pass.view) keeps.stands from ∙ sym (changed_prefix q p range (take base.position pass.view) pass.view order long (take_is_prefix base.position pass.view))
+
+-- where some are given
+pub few_of_view : (history : HistoryId) (base : Kept) (pass : PassView) (q p : ℕ) (range : Range) (found : Option (Vec Key Global)) → KeepsBeginning history base pass → base.start ≤ q → q ≤ p → p ≤ base.position →
+    ((start : ℕ) (h : History) → StandsFor start base h → start ≤ q → IfSome found (λ keys. keys.items ≡ changed_keys q p range h)) → IfSome found (λ keys. keys.items ≡ changed_keys q p range pass.view)
+few_of_view history base pass q p range None keeps from order inside exact = tt
+few_of_view history base pass q p range (Some keys) keeps from order inside exact = changed_of_view history base pass q p range keys.items keeps from order inside exact

@@ -1,5 +1,5 @@
 // The base pairs of all tables, in 16 parts with a lock each.
-ghost use Rattle.std.specs.Prelude.{◌≡◌, ◌+◌, ◌<◌, ◌≤◌, IfOk, All, length, take, vec_len};
+ghost use Rattle.std.specs.Prelude.{◌≡◌, ◌+◌, ◌<◌, ◌≤◌, IfOk, IfSome, All, length, take, vec_len};
 ghost use Rattle.std.specs.Arc.{arc_value};
 ghost use Rattle.semantics.specs.Texts.{pairs_within};
 ghost use Rattle.semantics.specs.Histories.{base_of};
@@ -138,7 +138,7 @@ impl<N: Naming> BaseShards<N> {
     {
         let number = shard_of(range.table(), SHARDS);
         let mut shard = self.lock_part(rt, number);
-        shard.bring(rt, &self.history, pass, number, p)?;
+        shard.advance_to(rt, &self.history, pass, number, p)?;
         shard.pairs_at(p, range, steps)
     }
 
@@ -164,7 +164,7 @@ impl<N: Naming> BaseShards<N> {
     {
         let number = shard_of(range.table(), SHARDS);
         let mut shard = self.lock_part(rt, number);
-        shard.bring(rt, &self.history, pass, number, p)?;
+        shard.advance_to(rt, &self.history, pass, number, p)?;
         shard.changed(q, p, range, steps)
     }
 
@@ -204,6 +204,34 @@ impl<N: Naming> BaseShards<N> {
         listed(self.alloc, found)
     }
 
+    /// Lists the keys of the range that are put or removed by the entries after the first q that the pass has seen, up to the p-th:
+    /// in order, each once. None where more than so many changes would be sorted for them. The part of its table is brought to p.
+    /// While another thread has it, this one sleeps.
+    ///
+    /// It costs what `BaseVersions::few_changed` does, and a look-up for each entry of the part up to p that is new to it. No step
+    /// is counted: who asks counts what it hands on. On `OutOfMemory` the part may have come nearer to p.
+    pub fn few_changed<R: Wait>(
+        &self,
+        rt: &R,
+        pass: &mut Pass,
+        q: u64,
+        p: u64,
+        range: &Range,
+        most: usize,
+    ) -> Result<Option<Vec<Key>>, OutOfMemory>
+        requires same_history { pass.old.history ≡ N.history }
+        requires order { q ≤ p }
+        requires within { p ≤ length pass.old.view }
+        requires pinned { ReachesBack pass.old q }
+        ensures reads_on { ReadsOn pass.old pass.new }
+        ensures exact { IfOk result (λ found. IfSome found (λ keys. keys.items ≡ changed_keys q p range.now pass.old.view)) }
+    {
+        let number = shard_of(range.table(), SHARDS);
+        let mut shard = self.lock_part(rt, number);
+        shard.advance_to(rt, &self.history, pass, number, p)?;
+        shard.few_changed(q, p, range, most)
+    }
+
     /// Brings a part to a position that the pass has seen, if it is not there yet. In this and every other call that brings
     /// a part forward, the ids that follow a range with an entry's key are marked before the part takes the entry. While
     /// another thread has the part, this one sleeps. It costs a look-up and the search for these ids for each entry of the part
@@ -224,7 +252,7 @@ impl<N: Naming> BaseShards<N> {
         ensures { ReadsOn pass.old pass.new }
     {
         self.lock_part(rt, shard)
-            .bring(rt, &self.history, pass, shard, p)
+            .advance_to(rt, &self.history, pass, shard, p)
     }
 
     /// Brings a part to a position that the pass has seen and notes it. Where no memory is found it notes nothing.
@@ -235,7 +263,7 @@ impl<N: Naming> BaseShards<N> {
         ensures { ReadsOn pass.old pass.new }
     {
         let mut part = self.lock_part(rt, number);
-        let _ = part.bring_and_note(rt, &self.history, pass, number, p);
+        let _ = part.advance_and_note(rt, &self.history, pass, number, p);
     }
 
     /// Brings each part to a position that the pass has seen and notes it, one after another.

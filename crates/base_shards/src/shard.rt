@@ -1,5 +1,5 @@
 // What lies behind the lock of a shard.
-ghost use Rattle.std.specs.Prelude.{◌≡◌, ◌+◌, ◌^◌, ◌<◌, ◌≤◌, [], ◌∷◌, length, take, replicate, IfOk, OnOk, OnErr, MatchOption, false};
+ghost use Rattle.std.specs.Prelude.{◌≡◌, ◌+◌, ◌^◌, ◌<◌, ◌≤◌, [], ◌∷◌, length, take, replicate, IfOk, IfSome, OnOk, OnErr, MatchOption, false};
 ghost use Rattle.semantics.specs.Texts.{pairs_within, table_of};
 ghost use Rattle.semantics.specs.Histories.{base_of};
 ghost use Rattle.growing_history.specs.Changes.{changed_keys, entries_between};
@@ -16,7 +16,7 @@ use base_versions::BaseVersions;
 use join_types::Pair;
 use key_space::{Key, Range};
 use out_of_memory::OutOfMemory;
-use std::alloc::Global;
+use std::alloc::{AllocError, Global};
 use std::marker::{Model, PhantomData};
 use std::sync::Wait;
 use std::sync::ledger::Ledger;
@@ -112,7 +112,7 @@ impl<N: Naming> Shard<N> {
         if self.number == number {
             return Ok(());
         }
-        Err(OutOfMemory)
+        Err(OutOfMemory::from(AllocError))
     }
 
     /// Takes the next entries that the pass has seen, up to a position, and no more than are copied at a time: those of the part,
@@ -149,7 +149,7 @@ impl<N: Naming> Shard<N> {
         requires history { history.now ≡ N.history }
         requires entered { HasEntered self.old.pass.view }
         requires within { p ≤ length self.old.pass.view }
-        ensures brought { OnOk result (p ≤ self.new.base.position) }
+        ensures advanced { OnOk result (p ≤ self.new.base.position) }
         ensures kept { self.old.base.position ≤ self.new.base.position }
         ensures number { self.new.base.shard ≡ self.old.base.shard }
         ensures start { self.new.base.start ≡ self.old.base.start }
@@ -163,7 +163,7 @@ impl<N: Naming> Shard<N> {
         Ok(())
     }
 
-    /// Brings the base pairs of the part with a number to a position that the pass has seen, if they are not there yet. Both
+    /// Advances the base pairs of the part with a number to a position that the pass has seen, if they are not there yet. Both
     /// passes see then what either has seen. Before an entry is taken, each id is marked that has a range with the key which
     /// it puts or removes, where the key's table is of the part.
     ///
@@ -171,7 +171,7 @@ impl<N: Naming> Shard<N> {
     /// to the shard, and the history's turn once for each 1,024 positions.
     ///
     /// On `OutOfMemory` some first ones of these entries may have been taken, and ids may be marked for others too.
-    pub fn bring<R: Wait>(
+    pub fn advance_to<R: Wait>(
         &mut self,
         rt: &R,
         history: &History,
@@ -187,7 +187,7 @@ impl<N: Naming> Shard<N> {
         ensures own { own pass.new ≡ own pass.old }
         ensures met { self.new.pass.view ≡ pass.new.view }
         ensures number { OnOk result (self.new.base.shard ≡ number) }
-        ensures brought { OnOk result (p ≤ self.new.base.position) }
+        ensures advanced { OnOk result (p ≤ self.new.base.position) }
         ensures kept { self.old.base.position ≤ self.new.base.position }
         ensures start { self.new.base.start ≤ pass.new.floor }
         ensures marked { OnOk result (self.new.index ≡ marked_by number (entries_between self.old.base.position self.new.base.position self.new.pass.view) self.old.index) }
@@ -198,8 +198,8 @@ impl<N: Naming> Shard<N> {
         self.take_all(rt, history, p)
     }
 
-    /// Brings the part with a number to a position as `bring` does, and notes its own. On `OutOfMemory` it notes nothing.
-    pub fn bring_and_note<R: Wait>(
+    /// Advances the part with a number to a position as `advance_to` does, and notes its own. On `OutOfMemory` it notes nothing.
+    pub fn advance_and_note<R: Wait>(
         &mut self,
         rt: &R,
         history: &History,
@@ -214,10 +214,10 @@ impl<N: Naming> Shard<N> {
         ensures goes_on { GoesOn pass.old pass.new }
         ensures own { own pass.new ≡ own pass.old }
         ensures noted { OnOk result (self.new.pass.mark ≡ Noted self.new.base.position) }
-        ensures brought { OnOk result (p ≤ self.new.base.position) }
+        ensures advanced { OnOk result (p ≤ self.new.base.position) }
         ensures kept { self.old.base.position ≤ self.new.base.position }
     {
-        self.bring(rt, history, pass, number, p)?;
+        self.advance_to(rt, history, pass, number, p)?;
         history.note(rt, &mut self.pass, self.base.position());
         Ok(())
     }
@@ -294,6 +294,25 @@ impl<N: Naming> Shard<N> {
         ensures spent { steps.old ≤ steps.new }
     {
         self.base.changed(q, p, range, steps)
+    }
+
+    /// Lists the keys of the range that are put or removed by the entries after the first q that the pass has seen, up to the p-th:
+    /// in order, each once. None where more than so many changes would be sorted for them. It costs what
+    /// `BaseVersions::few_changed` does, and counts no step.
+    pub fn few_changed(
+        &self,
+        q: u64,
+        p: u64,
+        range: &Range,
+        most: usize,
+    ) -> Result<Option<Vec<Key>>, OutOfMemory>
+        requires from { self.now.base.start ≤ q }
+        requires order { q ≤ p }
+        requires within { p ≤ self.now.base.position }
+        requires part { shard_of 16 (table_of range.now.low) ≡ self.now.base.shard }
+        ensures { IfOk result (λ found. IfSome found (λ keys. keys.items ≡ changed_keys q p range.now self.now.pass.view)) }
+    {
+        self.base.few_changed(q, p, range, most)
     }
 
     /// Adds the ranges to those of the id, in order; one that the id has already is not added again. An id that the index

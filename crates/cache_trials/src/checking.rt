@@ -40,8 +40,8 @@ impl Answered {
     }
 }
 
-/// No reply names fewer entries than one before it, but where the request names them, and each write that entered comes behind all of
-/// these.
+/// No reply names fewer entries than one before it, but where the request names them, and each write that entered comes behind all
+/// of these.
 pub fn expect_ascending<R: Abort>(rt: &R, answers: &[Answered]) {
     let mut last = 0;
     for (place, answered) in answers.iter().enumerate() {
@@ -57,8 +57,8 @@ pub fn expect_ascending<R: Abort>(rt: &R, answers: &[Answered]) {
 
 /// What stands after a beginning of the history: the history, which judges its writes, and the writes that its state follows from,
 /// which are the last put at each key where a pair stands, hidden or not, and the declarations of the joins that stand, with their
-/// positions. Reads after this beginning are answered by plain evaluation of a history of these writes alone, which is made once one
-/// is asked after a write.
+/// positions. Reads after this beginning are answered by plain evaluation of a history of these writes alone, which is made once
+/// one is asked after a write.
 #[derive(Drop)]
 pub struct Afresh {
     alloc: Global,

@@ -94,8 +94,8 @@ fn expect_turned<R: Abort>(rt: &R, alloc: Global, seen: Seen) {
     assert!(rt; is_alike);
 }
 
-/// The clients of one cache, who are asked one after another, with plain evaluation beside them, and the position of a join that the
-/// last declaration was told.
+/// The clients of one cache, who are asked one after another, with plain evaluation beside them, and the position of a join that
+/// the last declaration was told.
 #[derive(Drop)]
 struct Trial<S> {
     alloc: Global,
@@ -167,8 +167,8 @@ impl<S: Service> Trial<S> {
     }
 }
 
-/// Plays the history that is drawn from a number with the two clients of a cache, of which the number also says how many rows it may
-/// keep and how many joins are declared first.
+/// Plays the history that is drawn from a number with the two clients of a cache, of which the number also says how many rows it
+/// may keep and how many joins are declared first.
 fn play<N: Naming, R: Wait + Abort>(
     rt: &R,
     alloc: Global,

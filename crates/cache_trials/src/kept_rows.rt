@@ -7,7 +7,7 @@
 pub struct Row {
     /// The cells.
     pub cells: u32,
-    /// How many rows they may keep together, with one more for each range.
+    /// How many rows they may keep together, with one more for each range, and from how many ranges of its sources each may come.
     pub limit: u64,
     /// The lines.
     pub lines: &'static str,
@@ -34,14 +34,13 @@ read 3 t|ann| t|ann}
 const TOO_HEAVY: Row = Row {
     cells: 4,
     limit: 1,
-    lines: "write t|<user>|<time>|<poster> = check s|<user>|<poster> copy p|<poster>|<time>
-write s|ann|bob=1
-write p|bob|100=Hi
-read 3 t|ann| t|ann}
-read 3 t|ann| t|ann}
+    lines: "write b|<x> = copy a|<x>
+write a|1=A
+read 2 b| b}
+read 2 b| b}
 ",
-    wanted: "1: t|ann|100|bob=Hi
-1: t|ann|100|bob=Hi
+    wanted: "1: b|1=A
+1: b|1=A
 ",
 };
 

@@ -1,8 +1,8 @@
 // Clients of a cache, held to worked answers and to plain evaluation, and what a cache keeps, evicts and reads again, seen by gates
 // that count and by the steps of reads: tests alone, with nothing for other crates.
 //
-// A client that is alone, of a cache with many cells or few, is asked what is drawn, and answers each request byte for byte as plain
-// evaluation does. Among what is drawn are declarations and drops of joins, scans at earlier positions and change feeds.
+// A client that is alone, of a cache with many cells or few, is asked what is drawn, and answers each request byte for byte as
+// plain evaluation does. Among what is drawn are declarations and drops of joins, scans at earlier positions and change feeds.
 //
 // Small histories are drawn by the thousands. Between the writes, ranges are looked at as they stood at a drawn position, with what
 // changed since and as they stand: each is what plain evaluation gives at both positions, and setting and taking out what changed
@@ -13,8 +13,8 @@
 // what evaluating the joins afresh gives after the entries that it names, and no client is answered at a position below one
 // that it was told before, but where it names an earlier one. What is held against the replies knows nothing of what a cache keeps.
 //
-// What is let go of old entries is seen only past 65,536 of them. So some tests write as many and more: four clients that are asked as
-// before, a client that is held in a read meanwhile, and reads of cells that stand just near enough or too far behind.
+// What is let go of old entries is seen only past 65,536 of them. So some tests write as many and more: four clients that are asked
+// as before, a client that is held in a read meanwhile, and reads of cells that stand just near enough or too far behind.
 #![tactic(auto)]
 
 #[cfg(test)]
@@ -53,3 +53,5 @@ mod seated;
 mod threads;
 #[cfg(test)]
 mod together;
+#[cfg(test)]
+mod wide_rows;

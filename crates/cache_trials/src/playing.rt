@@ -9,6 +9,7 @@ use crate::feed_cost::feed_since;
 use crate::kept::{Kept, Seen, keep_seats, pop_pass, read_at, turn_at_end, write};
 use crate::kept_rows::{ROWS, Row};
 use crate::seated::make_seats;
+use crate::wide_rows::WIDE_ROWS;
 use base_shards::Naming;
 use change_lists::Change;
 use join_types::Pair;
@@ -53,8 +54,11 @@ fn show_turn(alloc: Global, text: &mut String, turn: Turn) -> Result<(), Fail> {
             Some(at) => text.push_str(format!(in alloc; "brought {id} to {at}\n")?.as_str())?,
             None => text.push_str(format!(in alloc; "brought {id}\n")?.as_str())?,
         },
+        Turn::TooWide { id } => {
+            text.push_str(format!(in alloc; "too wide {id}\n")?.as_str())?;
+        }
         Turn::Idle => text.push_str("idle\n")?,
-        Turn::OutOfMemory => text.push_str("memory\n")?,
+        Turn::OutOfMemory(_) => text.push_str("memory\n")?,
     }
     Ok(())
 }
@@ -271,4 +275,9 @@ fn one_thread_reads_what_is_far_behind(rt: HostRuntime) -> Result<(), Fail> {
 #[test]
 fn one_thread_is_told_what_changed(rt: HostRuntime) -> Result<(), Fail> {
     play_all(&rt, rt.alloc(), &FED_ROWS)
+}
+
+#[test]
+fn one_thread_reads_wide_ranges(rt: HostRuntime) -> Result<(), Fail> {
+    play_all(&rt, rt.alloc(), &WIDE_ROWS)
 }

@@ -3,3 +3,5 @@ pub mod JoinsLemmas
 pub mod ClientLemmas
 pub mod SeatLemmas
 pub mod EarlierLemmas
+pub mod AddingLemmas
+pub mod MeetLemmas

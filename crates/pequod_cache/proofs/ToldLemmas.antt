@@ -23,7 +23,7 @@ others_by : (number : ℕ) (e : Entry) (mine : History) (own : Bool) → (e.clie
 others_by number e mine true is none = absurd (cc)
 others_by number e mine false is none = (is, none)
 
-others_of : (number : ℕ) (es : History) → written_by number es ≡ [] → AllByRecursion (λ e. (e.client == number) ≡ false) es
+pub others_of : (number : ℕ) (es : History) → written_by number es ≡ [] → AllByRecursion (λ e. (e.client == number) ≡ false) es
 others_of number [] none = tt
 others_of number (e ∷ es) none =
     let first = others_by number e (written_by number es) (e.client == number) refl none in

@@ -17,7 +17,8 @@ abbrev pub pass_of : HistoryId → Option PassView → PassView
 pass_of history (Some pass) = pass
 pass_of history None = new_pass history 0
 
--- the joins are those that stood when the last of them had been declared or dropped, which the pass has seen; of dropped ones they tell from where a pin at all that it has seen reaches
+-- the joins are those that stood when the last of them had been declared or dropped, which the pass has seen; from the position
+-- 65,536 below what it has seen on they tell which tables are bare
 pub record KeepsJoins (joins : Joins) (view : History) : Type 0 where
   pub within : joins.changed ≤ length view
   pub are : AreJoins (before (length view)) joins (take joins.changed view)

@@ -2,3 +2,5 @@ pub mod Clients
 pub mod Questions
 pub mod Sitting
 pub mod Alone
+pub mod Adding
+pub mod Meeting

@@ -1,6 +1,6 @@
 // The client of a cache that has no other.
 ghost use Rattle.std.specs.Prelude.{◌≡◌, ◌≤◌, [], IfOk, length};
-ghost use Rattle.pequod_cache.specs.Alone.{AreOwn};
+ghost use Rattle.protocol.specs.Own.{AreOwn};
 ghost use Rattle.pequod_cache.specs.Sitting.{AreOf, AreOfParts, AreWriters};
 
 use crate::cache::Cache;

@@ -118,7 +118,7 @@ impl<'g, N: Naming, G: Gate> Client<'g, N, G> {
         match self.cache.history.append(rt, pass, change) {
             Ok(position) => Reply::Done(position),
             Err(AppendFault::Refused(position, cause)) => Reply::Refused(position, cause),
-            Err(AppendFault::OutOfMemory) => Reply::Memory,
+            Err(AppendFault::OutOfMemory(memory)) => Reply::Memory(memory),
         }
     }
 
@@ -215,9 +215,12 @@ impl<'g, N: Naming, G: Gate> Client<'g, N, G> {
             unreachable!()
         };
         let looked = self.cache.look(rt, &mut pass, &mut self.joins);
-        let Ok(position) = looked else {
-            self.pass = Some(pass);
-            return Err(OutOfMemory);
+        let position = match looked {
+            Err(memory) => {
+                self.pass = Some(pass);
+                return Err(memory);
+            }
+            Ok(position) => position,
         };
         let mut steps: Steps<L> = Steps::open(blank);
         let joins = &self.joins;
@@ -239,7 +242,7 @@ impl<'g, N: Naming, G: Gate> Client<'g, N, G> {
     {
         match self.try_get(rt, key) {
             Ok(reply) => reply,
-            Err(OutOfMemory) => Reply::Memory,
+            Err(memory) => Reply::Memory(memory),
         }
     }
 
@@ -264,12 +267,12 @@ impl<'g, N: Naming, G: Gate> Client<'g, N, G> {
     {
         match self.read(rt, range) {
             Ok(Found { position, pairs }) => Reply::Pairs(position, pairs),
-            Err(OutOfMemory) => Reply::Memory,
+            Err(memory) => Reply::Memory(memory),
         }
     }
 
-    /// Asks a question about an earlier position: it looks, brings its joins to where it looked, is pinned there while the question is
-    /// answered, and lets go of the pin. The counter is one that nobody looks at.
+    /// Asks a question about an earlier position: it looks, brings its joins to where it looked, is pinned there while the question
+    /// is answered, and lets go of the pin. The counter is one that nobody looks at.
     fn ask_counted<L: Ledger, R: Wait>(
         &mut self,
         rt: &R,
@@ -289,9 +292,12 @@ impl<'g, N: Naming, G: Gate> Client<'g, N, G> {
             unreachable!()
         };
         let seen = self.cache.look(rt, &mut pass, &mut self.joins);
-        let Ok(position) = seen else {
-            self.pass = Some(pass);
-            return Err(OutOfMemory);
+        let position = match seen {
+            Err(memory) => {
+                self.pass = Some(pass);
+                return Err(memory);
+            }
+            Ok(position) => position,
         };
         let mut steps: Steps<L> = Steps::open(blank);
         let joins = &self.joins;
@@ -313,13 +319,13 @@ impl<'g, N: Naming, G: Gate> Client<'g, N, G> {
     {
         match self.ask_counted::<Brand, R>(rt, range, question, at, Blank::new(1)) {
             Ok(reply) => reply,
-            Err(OutOfMemory) => Reply::Memory,
+            Err(memory) => Reply::Memory(memory),
         }
     }
 
-    /// The pairs of the range in the state after the first so many entries: `Pairs` with that number, `Gone` exactly where there are
-    /// more than 65,536 entries after them now, `Ahead` exactly where there are not so many, both with the number of entries, or
-    /// `Memory`. While it reads, it is pinned where it looked. While another thread has what it needs, this one sleeps.
+    /// The pairs of the range in the state after the first so many entries: `Pairs` with that number, `Gone` exactly where there
+    /// are more than 65,536 entries after them now, `Ahead` exactly where there are not so many, both with the number of entries,
+    /// or `Memory`. While it reads, it is pinned where it looked. While another thread has what it needs, this one sleeps.
     ///
     /// What is kept past the position is not brought back, but evaluated beside it.
     pub fn scan_at<R: Wait>(&mut self, rt: &R, range: &Range, at: u64) -> Reply

@@ -9,7 +9,7 @@ ghost use Rattle.write_history.specs.Marks.{reach};
 ghost use Rattle.write_history.specs.declared.known.Mark.TheVariants.{Pinned};
 ghost use Rattle.base_shards.specs.Reading.{ReachesBack, ReadsOn};
 ghost use Rattle.request_codec.specs.Plain.{plain_reply};
-ghost use Rattle.request_codec.specs.Reach.{IsOutOfReach};
+ghost use Rattle.request_codec.specs.Reach.{TellsReach};
 ghost use Rattle.pequod_cache.specs.Questions.{asked};
 
 use crate::cache::Cache;
@@ -51,7 +51,7 @@ pub(crate) struct ToldBack {
 /// Why a position cannot be asked for where there are so many entries: it lies ahead, or too far back. None where it lies within
 /// reach.
 fn out_of_reach(at: u64, position: u64) -> Option<Reply>
-    ensures { IsOutOfReach at position result }
+    ensures { TellsReach at position result }
 {
     if position < at {
         return Some(Reply::Ahead(position));
@@ -164,8 +164,8 @@ impl<N: Naming> Cache<N> {
             Ok(old) => self.tell(
                 rt, pass, &old, joins, position, question, at, range, gate, steps,
             ),
-            Err(OutOfMemory) => {
-                let reply = Err(OutOfMemory);
+            Err(memory) => {
+                let reply = Err(memory);
                 ToldBack { pass, reply }
             }
         }

@@ -66,7 +66,8 @@ impl<'g, N: Naming, G: Gate> Updater<'g, N, G> {
     /// Takes one turn: it looks, brings its joins there, and brings a marked cell forward, as `RangeCells::turn` does. While
     /// another thread has what it needs, this one sleeps.
     ///
-    /// `Idle` comes only where no cell was found marked for what was written before the look.
+    /// `Idle` comes only where no cell was found marked for what was written before the look. `TooWide`: the cell's range takes
+    /// more needs than may be kept, and it is evicted.
     pub fn turn<R: Wait>(&mut self, rt: &R) -> Turn
         ensures within { IsWithinView result self.new.view }
         ensures goes_on { GoesOn self.old self.new }
@@ -88,9 +89,12 @@ impl<'g, N: Naming, G: Gate> Updater<'g, N, G> {
             unreachable!()
         };
         let looked = self.cache.look(rt, &mut pass, &mut self.joins);
-        let Ok(position) = looked else {
-            self.pass = Some(pass);
-            return Turn::OutOfMemory;
+        let position = match looked {
+            Err(memory) => {
+                self.pass = Some(pass);
+                return Turn::OutOfMemory(memory);
+            }
+            Ok(position) => position,
         };
         let mut steps: Steps<L> = Steps::open(blank);
         let joins = &self.joins;

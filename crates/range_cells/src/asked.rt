@@ -22,7 +22,7 @@ const FEW: usize = 256;
 
 /// Which keys of a range may have changed, and its pairs at these keys, or all of them where it is not said which.
 #[derive(Drop)]
-pub struct Asked {
+pub struct Touched {
     /// The keys.
     pub touched: Changed,
     /// The pairs, in key order.
@@ -96,7 +96,7 @@ pub fn ask<'a, N: Naming, W: Wait, G: Gate, L: Ledger>(
     p: u64,
     range: &Range,
     steps: &mut Steps<L>,
-) -> Result<Asked, OutOfMemory>
+) -> Result<Touched, OutOfMemory>
     requires order { q ≤ p }
     requires within { p ≤ length stack.old.view }
     requires above { reach stack.old.mark ≤ q }
@@ -108,5 +108,5 @@ pub fn ask<'a, N: Naming, W: Wait, G: Gate, L: Ledger>(
     let told = stack.changed(q, p, range, steps)?;
     let touched = few_of(told);
     let pairs = read_asked(alloc, stack, p, range, &touched, steps)?;
-    Ok(Asked { touched, pairs })
+    Ok(Touched { touched, pairs })
 }

@@ -8,7 +8,7 @@ ghost use Rattle.write_history.specs.Marks.{reach};
 ghost use Rattle.base_shards.specs.Reading.{ReachesBack, ReadsOn};
 ghost use Rattle.range_cells.specs.Asked.{TellsTouched, pairs_asked};
 
-use crate::asked::{Asked, ask};
+use crate::asked::{Touched, ask};
 use crate::comparing::compare;
 use crate::range_cells::{RangeCells, Reading};
 use base_shards::Naming;
@@ -35,7 +35,7 @@ pub struct Feed {
 #[derive(Drop)]
 struct Later {
     pass: Pass,
-    found: Result<Asked, OutOfMemory>,
+    found: Result<Touched, OutOfMemory>,
 }
 
 impl<N: Naming> RangeCells<N> {
@@ -112,15 +112,21 @@ impl<N: Naming> RangeCells<N> {
         }
         let later = self.read_later(rt, pass, new, q, p, range, gate, steps);
         let Later { pass, found } = later;
-        let Ok(asked) = found else {
-            let found = Err(OutOfMemory);
-            return Feed { pass, found };
+        let asked = match found {
+            Ok(asked) => asked,
+            Err(memory) => {
+                let found = Err(memory);
+                return Feed { pass, found };
+            }
         };
         let earlier = self.read_asked(rt, pass, old, q, range, &asked.touched, gate, steps);
         let Reading { pass, found } = earlier;
-        let Ok(before) = found else {
-            let found = Err(OutOfMemory);
-            return Feed { pass, found };
+        let before = match found {
+            Ok(before) => before,
+            Err(memory) => {
+                let found = Err(memory);
+                return Feed { pass, found };
+            }
         };
         let found = compare(self.alloc, before.as_slice(), asked.pairs.as_slice());
         Feed { pass, found }

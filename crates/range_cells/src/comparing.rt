@@ -19,7 +19,7 @@ fn gone(pair: &Pair) -> Result<Change, OutOfMemory>
     })
 }
 
-/// A pair that has come, as a change, whose texts are shared.
+/// A pair that has come, as a change, whose long texts are shared.
 fn come(pair: &Pair) -> Result<Change, OutOfMemory>
     ensures { IfOk result (λ change. change ≡ new_pair pair.now) }
 {
@@ -61,7 +61,7 @@ fn push_both(changes: &mut Vec<Change>, first: &Pair, next: &Pair) -> Result<(),
 }
 
 /// Lists what changed between two lists of pairs whose keys ascend, in key order: each key at which they have not the same pair,
-/// with the value of the second or none. Linear in both; texts are shared.
+/// with the value of the second or none. Linear in both; long texts are shared.
 pub fn compare(alloc: Global, before: &[Pair], after: &[Pair]) -> Result<Vec<Change>, OutOfMemory>
     requires ascends { Ascends before.now }
     requires other_ascends { Ascends after.now }

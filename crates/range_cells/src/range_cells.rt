@@ -48,12 +48,15 @@ pub struct RangeCells<N: Naming> {
     pub(crate) history: Arc<History>,
     pub(crate) shards: Arc<BaseShards<N>>,
     pub(crate) cells: SharedCells<N>,
+    /// How many needs a kept range may have at most.
+    pub(crate) most: u64,
     ghost named: { arc_value history ≡ N.history },
 }
 
 impl<N: Naming> RangeCells<N> {
     /// No cells, and as many as there are passes at most, whose rows and one more for each are at most the limit together, as
-    /// they were when they were last read. What is read and kept is allocated by this allocator. Linear in the passes.
+    /// they were when they were last read. The needs of each are at most the limit too. What is read and kept is allocated by this
+    /// allocator. Linear in the passes.
     pub fn new(
         alloc: Global,
         history: Arc<History>,
@@ -73,6 +76,7 @@ impl<N: Naming> RangeCells<N> {
             history,
             shards,
             cells,
+            most: limit,
         })
     }
 
@@ -82,9 +86,9 @@ impl<N: Naming> RangeCells<N> {
     /// of the base pairs, that this one needs, this one sleeps.
     ///
     /// What cells keep is read, brought forward or mended; what they lack is evaluated and, for a push join, kept while a cell is
-    /// free. A cell that stands more than 65,536 entries before the pin is filled anew. Of the cells of a join those are used that
-    /// are for the rank that it has after p entries. Then the least recently used cells are evicted, until what is kept is within
-    /// the limit.
+    /// free and its needs are at most the limit. A cell that stands more than 65,536 entries before the pin is filled anew. Of the
+    /// cells of a join those are used that are for the rank that it has after p entries. Then the least recently used cells are
+    /// evicted, until what is kept is within the limit.
     ///
     /// Where a join was declared or dropped after the joins of all reads and turns before, the cells are evicted first whose
     /// joins do not stand any more or have another rank.
@@ -118,6 +122,7 @@ impl<N: Naming> RangeCells<N> {
             rt,
             gate,
             cells: &self.cells,
+            most: self.most,
         }
     }
 
@@ -179,9 +184,9 @@ impl<N: Naming> RangeCells<N> {
         self.cells.evict(rt, &self.shards, id);
     }
 
-    /// Evicts the least recently used cells, as `SharedCells::make_room` does: one at least, where there is one. It says whether one
-    /// went. What they keep is let go, and they are not marked. It is linear in the cells that there may be, and takes no memory.
-    /// While another thread has such a cell, or a part of the base pairs, this one sleeps.
+    /// Evicts the least recently used cells, as `SharedCells::make_room` does: one at least, where there is one. It says whether
+    /// one went. What they keep is let go, and they are not marked. It is linear in the cells that there may be, and takes no
+    /// memory. While another thread has such a cell, or a part of the base pairs, this one sleeps.
     pub fn make_room<W: Wait>(&self, rt: &W) -> bool {
         self.cells.make_room(rt, &self.shards)
     }

@@ -1,16 +1,18 @@
 // The reader of all ranks, where threads share the history.
-ghost use Rattle.std.specs.Prelude.{◌≡◌, ◌≤◌, length, take, IfOk, IfSome};
+ghost use Rattle.std.specs.Prelude.{◌≡◌, ◌≤◌, length, take, IfErr, IfOk, IfSome};
 ghost use Rattle.semantics.specs.Texts.{pairs_within};
 ghost use Rattle.semantics.specs.States.{state};
 ghost use Rattle.write_history.specs.Marks.{reach};
 ghost use Rattle.base_shards.specs.Reading.{ReadsOn};
 ghost use Rattle.join_eval.specs.Answers.{AnswersChanges};
+ghost use Rattle.join_eval.specs.Bounds.{OnTooWide};
 ghost use Rattle.join_eval.specs.Moves.{Moves};
 ghost use Rattle.cell_slots.specs.Slots.{IsRankAt};
-ghost use Rattle.shared_cells.specs.Bringing.{BringsCell};
+ghost use Rattle.shared_cells.specs.Advancing.{AdvancesCell};
+ghost use Rattle.shared_cells.specs.Cells.{IsWideCell};
 
 use base_shards::Naming;
-use join_eval::{Changed, Reader};
+use join_eval::{Changed, KeepFault, Reader, TooMany};
 use join_types::Pair;
 use key_space::Range;
 use out_of_memory::OutOfMemory;
@@ -173,122 +175,134 @@ fn changed_lower<'a, N: Naming, W: Wait, G: Gate, R: Stacked<N>, L: Ledger>(
     changed_middle(tower, q, p, range, steps)
 }
 
-/// Brings what a cell keeps to where the first p entries stand, by a reader, if the cell is for the rank. The cell follows the
+/// Advances what a cell keeps to where the first p entries stand, by a reader, if the cell is for the rank. The cell follows the
 /// ranges of base pairs that are read for it.
-fn bring_by<N: Naming, R: Stacked<N>, G: Gate, L: Ledger>(
+///
+/// `TooWide` comes only where the cell's range is filled for that and takes more than `most` needs; then it is forgotten.
+fn advance_by<N: Naming, R: Stacked<N>, G: Gate, L: Ledger>(
     reader: &mut R,
     cell: &mut Cell<N>,
     id: u32,
     p: u64,
     rank: Option<u8>,
+    most: u64,
     gate: &G,
     steps: &mut Steps<L>,
-) -> Result<(), OutOfMemory>
+) -> Result<(), KeepFault<TooMany>>
     requires within { p ≤ length (R.list reader.old) }
     requires above { R.floor reader.old ≤ p }
     requires rank { IsRankAt (R.list reader.old) p cell.old.at rank }
     requires ranked { IfSome rank (λ r. r ≤ R.top) }
-    ensures brings { BringsCell (R.floor reader.old) p rank result cell.old cell.new }
+    ensures advances { AdvancesCell (R.floor reader.old) p rank result cell.old cell.new }
+    ensures wide { IfErr result (OnTooWide (IsWideCell most (R.list reader.old) p cell.new)) }
     ensures met { cell.new.pass.view ≡ R.list reader.new }
     ensures moves { Moves R.list R.floor R.went reader.old reader.new }
     ensures counted { steps.old ≤ steps.new }
 {
     let since = reader.start_noting();
-    let brought = cell.bring(p, rank, gate, reader, steps);
-    cell.follow(id, since, reader);
-    brought
+    let advanced = cell.advance_to(p, rank, most, gate, reader, steps);
+    cell.follow(id, Some(since), reader);
+    advanced
 }
 
-/// Brings what a cell keeps to where the first p entries stand, by two layers over a reader of the first six ranks.
-fn bring_top<'a, N: Naming, W: Wait, G: Gate, R: Stacked<N>, L: Ledger>(
+/// Advances what a cell keeps to where the first p entries stand, by two layers over a reader of the first six ranks.
+fn advance_top<'a, N: Naming, W: Wait, G: Gate, R: Stacked<N>, L: Ledger>(
     two: &mut Two<'a, N, W, G, R>,
     cell: &mut Cell<N>,
     id: u32,
     p: u64,
     rank: Option<u8>,
+    most: u64,
     gate: &G,
     steps: &mut Steps<L>,
-) -> Result<(), OutOfMemory>
+) -> Result<(), KeepFault<TooMany>>
     requires top { R.top ≡ 6 }
     requires within { p ≤ length (R.list two.old.inner.inner) }
     requires above { R.floor two.old.inner.inner ≤ p }
     requires rank { IsRankAt (R.list two.old.inner.inner) p cell.old.at rank }
     requires ranked { IfSome rank (λ r. r ≤ 7) }
-    ensures brings { BringsCell (R.floor two.old.inner.inner) p rank result cell.old cell.new }
+    ensures advances { AdvancesCell (R.floor two.old.inner.inner) p rank result cell.old cell.new }
+    ensures wide { IfErr result (OnTooWide (IsWideCell most (R.list two.old.inner.inner) p cell.new)) }
     ensures met { cell.new.pass.view ≡ R.list two.new.inner.inner }
     ensures went { R.went two.old.inner.inner two.new.inner.inner }
     ensures counted { steps.old ≤ steps.new }
 {
-    bring_by(two, cell, id, p, rank, gate, steps)
+    advance_by(two, cell, id, p, rank, most, gate, steps)
 }
 
-/// Brings what a cell keeps to where the first p entries stand, by four layers over a reader of the first four ranks.
-fn bring_upper<'a, N: Naming, W: Wait, G: Gate, R: Stacked<N>, L: Ledger>(
+/// Advances what a cell keeps to where the first p entries stand, by four layers over a reader of the first four ranks.
+fn advance_upper<'a, N: Naming, W: Wait, G: Gate, R: Stacked<N>, L: Ledger>(
     four: &mut Four<'a, N, W, G, R>,
     cell: &mut Cell<N>,
     id: u32,
     p: u64,
     rank: Option<u8>,
+    most: u64,
     gate: &G,
     steps: &mut Steps<L>,
-) -> Result<(), OutOfMemory>
+) -> Result<(), KeepFault<TooMany>>
     requires top { R.top ≡ 4 }
     requires within { p ≤ length (R.list four.old.inner.inner.inner.inner) }
     requires above { R.floor four.old.inner.inner.inner.inner ≤ p }
     requires rank { IsRankAt (R.list four.old.inner.inner.inner.inner) p cell.old.at rank }
     requires ranked { IfSome rank (λ r. r ≤ 7) }
-    ensures brings { BringsCell (R.floor four.old.inner.inner.inner.inner) p rank result cell.old cell.new }
+    ensures advances { AdvancesCell (R.floor four.old.inner.inner.inner.inner) p rank result cell.old cell.new }
+    ensures wide { IfErr result (OnTooWide (IsWideCell most (R.list four.old.inner.inner.inner.inner) p cell.new)) }
     ensures met { cell.new.pass.view ≡ R.list four.new.inner.inner.inner.inner }
     ensures went { R.went four.old.inner.inner.inner.inner four.new.inner.inner.inner.inner }
     ensures counted { steps.old ≤ steps.new }
 {
-    bring_top(four, cell, id, p, rank, gate, steps)
+    advance_top(four, cell, id, p, rank, most, gate, steps)
 }
 
-/// Brings what a cell keeps to where the first p entries stand, by six layers over a reader of the first two ranks.
-fn bring_middle<'a, N: Naming, W: Wait, G: Gate, R: Stacked<N>, L: Ledger>(
+/// Advances what a cell keeps to where the first p entries stand, by six layers over a reader of the first two ranks.
+fn advance_middle<'a, N: Naming, W: Wait, G: Gate, R: Stacked<N>, L: Ledger>(
     six: &mut Four<'a, N, W, G, Two<'a, N, W, G, R>>,
     cell: &mut Cell<N>,
     id: u32,
     p: u64,
     rank: Option<u8>,
+    most: u64,
     gate: &G,
     steps: &mut Steps<L>,
-) -> Result<(), OutOfMemory>
+) -> Result<(), KeepFault<TooMany>>
     requires top { R.top ≡ 2 }
     requires within { p ≤ length (R.list six.old.inner.inner.inner.inner.inner.inner) }
     requires above { R.floor six.old.inner.inner.inner.inner.inner.inner ≤ p }
     requires rank { IsRankAt (R.list six.old.inner.inner.inner.inner.inner.inner) p cell.old.at rank }
     requires ranked { IfSome rank (λ r. r ≤ 7) }
-    ensures brings { BringsCell (R.floor six.old.inner.inner.inner.inner.inner.inner) p rank result cell.old cell.new }
+    ensures advances { AdvancesCell (R.floor six.old.inner.inner.inner.inner.inner.inner) p rank result cell.old cell.new }
+    ensures wide { IfErr result (OnTooWide (IsWideCell most (R.list six.old.inner.inner.inner.inner.inner.inner) p cell.new)) }
     ensures met { cell.new.pass.view ≡ R.list six.new.inner.inner.inner.inner.inner.inner }
     ensures went { R.went six.old.inner.inner.inner.inner.inner.inner six.new.inner.inner.inner.inner.inner.inner }
     ensures counted { steps.old ≤ steps.new }
 {
-    bring_upper(six, cell, id, p, rank, gate, steps)
+    advance_upper(six, cell, id, p, rank, most, gate, steps)
 }
 
-/// Brings what a cell keeps to where the first p entries stand, by eight layers over a reader of no rank.
-fn bring_lower<'a, N: Naming, W: Wait, G: Gate, R: Stacked<N>, L: Ledger>(
+/// Advances what a cell keeps to where the first p entries stand, by eight layers over a reader of no rank.
+fn advance_lower<'a, N: Naming, W: Wait, G: Gate, R: Stacked<N>, L: Ledger>(
     tower: &mut Tower<'a, N, W, G, R>,
     cell: &mut Cell<N>,
     id: u32,
     p: u64,
     rank: Option<u8>,
+    most: u64,
     gate: &G,
     steps: &mut Steps<L>,
-) -> Result<(), OutOfMemory>
+) -> Result<(), KeepFault<TooMany>>
     requires top { R.top ≡ 0 }
     requires within { p ≤ length (R.list tower.old.inner.inner.inner.inner.inner.inner.inner.inner) }
     requires above { R.floor tower.old.inner.inner.inner.inner.inner.inner.inner.inner ≤ p }
     requires rank { IsRankAt (R.list tower.old.inner.inner.inner.inner.inner.inner.inner.inner) p cell.old.at rank }
     requires ranked { IfSome rank (λ r. r ≤ 7) }
-    ensures brings { BringsCell (R.floor tower.old.inner.inner.inner.inner.inner.inner.inner.inner) p rank result cell.old cell.new }
+    ensures advances { AdvancesCell (R.floor tower.old.inner.inner.inner.inner.inner.inner.inner.inner) p rank result cell.old cell.new }
+    ensures wide { IfErr result (OnTooWide (IsWideCell most (R.list tower.old.inner.inner.inner.inner.inner.inner.inner.inner) p cell.new)) }
     ensures met { cell.new.pass.view ≡ R.list tower.new.inner.inner.inner.inner.inner.inner.inner.inner }
     ensures went { R.went tower.old.inner.inner.inner.inner.inner.inner.inner.inner tower.new.inner.inner.inner.inner.inner.inner.inner.inner }
     ensures counted { steps.old ≤ steps.new }
 {
-    bring_middle(tower, cell, id, p, rank, gate, steps)
+    advance_middle(tower, cell, id, p, rank, most, gate, steps)
 }
 
 impl<'a, N: Naming, W, G> Stack<'a, N, W, G> {
@@ -354,28 +368,33 @@ impl<'a, N: Naming, W: Wait, G: Gate> Stack<'a, N, W, G> {
         changed_lower(&mut self.tower, q, p, range, steps)
     }
 
-    /// Brings what a cell with a number keeps to where the first p entries that the pass has seen stand, where it stands below. The
-    /// rank is the one that its join has then, and none where the join does not stand; where it is not the cell's, what it keeps
-    /// stays as it is. What stands below where the pin reaches back to is let go and filled there; the gate is passed before. The
-    /// cell follows the ranges of base pairs that are read for it; its pass and this one see what either has seen.
-    pub fn bring<L: Ledger>(
+    /// Advances what a cell with a number keeps to where the first p entries that the pass has seen stand, where it stands below.
+    /// The rank is the one that its join has then, and none where the join does not stand; where it is not the cell's, what it
+    /// keeps stays as it is. What stands below where the pin reaches back to is let go and filled there; the gate is passed before.
+    /// The cell follows the ranges of base pairs that are read for it; its pass and this one see what either has seen.
+    ///
+    /// On a fault what is kept is as it was, or it is forgotten. `TooWide` comes only where the cell's range is filled and that
+    /// takes more than `most` needs; then it is forgotten.
+    pub fn advance_to<L: Ledger>(
         &mut self,
         cell: &mut Cell<N>,
         id: u32,
         p: u64,
         rank: Option<u8>,
+        most: u64,
         gate: &G,
         steps: &mut Steps<L>,
-    ) -> Result<(), OutOfMemory>
+    ) -> Result<(), KeepFault<TooMany>>
         requires within { p ≤ length self.old.view }
         requires above { reach self.old.mark ≤ p }
         requires rank { IsRankAt self.old.view p cell.old.at rank }
         requires ranked { IfSome rank (λ r. r ≤ 7) }
-        ensures brings { BringsCell (reach self.old.mark) p rank result cell.old cell.new }
+        ensures advances { AdvancesCell (reach self.old.mark) p rank result cell.old cell.new }
+        ensures wide { IfErr result (OnTooWide (IsWideCell most self.old.view p cell.new)) }
         ensures met { cell.new.pass.view ≡ self.new.view }
         ensures reads_on { ReadsOn self.old self.new }
         ensures counted { steps.old ≤ steps.new }
     {
-        bring_lower(&mut self.tower, cell, id, p, rank, gate, steps)
+        advance_lower(&mut self.tower, cell, id, p, rank, most, gate, steps)
     }
 }

@@ -6,12 +6,13 @@ ghost use Rattle.write_history.specs.Marks.{reach};
 ghost use Rattle.base_shards.specs.Reading.{ReachesBack, ReadsOn};
 ghost use Rattle.write_history.specs.declared.known.Mark.TheVariants.{Pinned};
 ghost use Rattle.cell_slots.specs.Slots.{IsRankAt};
-ghost use Rattle.shared_cells.specs.Bringing.{BringsCell};
+ghost use Rattle.shared_cells.specs.Advancing.{AdvancesCell};
 ghost use Rattle.range_cells.specs.Turns.{IsWithinView, TellsCell, done};
 
 use crate::range_cells::RangeCells;
 use base_reader::reaching::rank_of;
 use base_shards::{Naming, SHARDS};
+use join_eval::KeepFault;
 use join_set::JoinSet;
 use out_of_memory::OutOfMemory;
 use pq_io::Gate;
@@ -23,7 +24,7 @@ use steps::Steps;
 use write_history::Pass;
 
 /// What a turn did.
-#[derive(Clone, Copy, Debug, PartialEq, Eq)]
+#[derive(Debug, Drop, PartialEq, Eq)]
 pub enum Turn {
     /// The cell with this number was marked first of those of the first part that had a marked one, and was brought forward if
     /// it is for the rank that its join has.
@@ -33,10 +34,16 @@ pub enum Turn {
         /// Where the cell stood when its lock was let go: after how many entries. None where nothing is kept there.
         position: Option<u64>,
     },
+    /// The cell with this number was marked first of those of the first part that had a marked one, and its range takes more needs
+    /// than may be kept: it is evicted.
+    TooWide {
+        /// The number.
+        id: u32,
+    },
     /// No cell was marked.
     Idle,
     /// No memory was found. Where a cell was marked first, it is not marked any more.
-    OutOfMemory,
+    OutOfMemory(OutOfMemory),
 }
 
 /// What a turn gives back: the pass that it was given, and what it did.
@@ -49,10 +56,10 @@ pub struct Turned {
 }
 
 impl<N: Naming> RangeCells<N> {
-    /// Brings each part of the base pairs to where the first p entries stand, so that cells are marked for them.
+    /// Advances each part of the base pairs to where the first p entries stand, so that cells are marked for them.
     ///
     /// On `OutOfMemory` some parts may have come there, and one nearer.
-    fn bring_parts<W: Wait>(&self, rt: &W, pass: &mut Pass, p: u64) -> Result<(), OutOfMemory>
+    fn advance_parts<W: Wait>(&self, rt: &W, pass: &mut Pass, p: u64) -> Result<(), OutOfMemory>
         requires same_history { pass.old.history ≡ N.history }
         requires within { p ≤ length pass.old.view }
         ensures { ReadsOn pass.old pass.new }
@@ -63,12 +70,13 @@ impl<N: Naming> RangeCells<N> {
         Ok(())
     }
 
-    /// Brings a cell to where the first p entries stand, says where it stands then, and which cells of lower ranks were used
+    /// Advances a cell to where the first p entries stand, says where it stands then, and which cells of lower ranks were used
     /// for it, in order. The rank is the one that its join has after p entries, and none where it does not stand then; a cell for
     /// another rank keeps what it keeps.
     ///
-    /// On `OutOfMemory` what is kept is as it was, or it is forgotten.
-    fn bring_cell<W: Wait, G: Gate, L: Ledger>(
+    /// On a fault what is kept is as it was, or it is forgotten. Where that fills the cell's range and takes more needs than may be
+    /// kept, it is forgotten, and the turn says so.
+    fn advance_cell<W: Wait, G: Gate, L: Ledger>(
         &self,
         rt: &W,
         pass: Pass,
@@ -87,33 +95,37 @@ impl<N: Naming> RangeCells<N> {
         requires joins { AreJoins (reach pass.mark) joins.now (take p pass.view) }
         requires rank { IsRankAt pass.view p cell.old.at rank }
         requires ranked { IfSome rank (λ r. r ≤ 7) }
-        ensures told { TellsCell id cell.new result.0.turn }
-        ensures brings { BringsCell (reach pass.mark) p rank (done result.0.turn) cell.old cell.new }
+        ensures told { TellsCell self.now.most pass.view p id cell.new result.0.turn }
+        ensures advances { AdvancesCell (reach pass.mark) p rank (done result.0.turn) cell.old cell.new }
         ensures within { IsWithinView result.0.turn result.0.pass.view }
         ensures reads_on { ReadsOn pass result.0.pass }
         ensures counted { steps.old ≤ steps.new }
     {
         let room = self.room(rt, gate);
         let mut stack = self.stack(&room, joins, p, pass);
-        let brought = stack.bring(cell, id, p, rank, gate, steps);
+        let advanced = stack.advance_to(cell, id, p, rank, self.most, gate, steps);
         let (pass, used) = stack.into_parts();
         let position = cell.position();
-        match brought {
+        match advanced {
             Ok(()) => {
                 let turn = Turn::Brought { id, position };
                 (Turned { pass, turn }, used)
             }
-            Err(OutOfMemory) => {
-                let turn = Turn::OutOfMemory;
+            Err(KeepFault::TooWide(_many)) => {
+                let turn = Turn::TooWide { id };
+                (Turned { pass, turn }, used)
+            }
+            Err(KeepFault::OutOfMemory(memory)) => {
+                let turn = Turn::OutOfMemory(memory);
                 (Turned { pass, turn }, used)
             }
         }
     }
 
-    /// Brings what lies behind a cell's lock to where the first p entries stand, if the cell is for the rank that its join has
+    /// Advances what lies behind a cell's lock to where the first p entries stand, if the cell is for the rank that its join has
     /// there, says where it stands then, and which cells of lower ranks were used for it, in order. While another thread has the
     /// cell, this one sleeps.
-    fn bring_locked<W: Wait, G: Gate, L: Ledger>(
+    fn advance_locked<W: Wait, G: Gate, L: Ledger>(
         &self,
         rt: &W,
         pass: Pass,
@@ -137,7 +149,7 @@ impl<N: Naming> RangeCells<N> {
         match &mut *guard {
             Some(cell) => {
                 let rank = rank_of(joins, cell.at());
-                self.bring_cell(rt, pass, joins, p, rank, gate, steps, id, cell)
+                self.advance_cell(rt, pass, joins, p, rank, gate, steps, id, cell)
             }
             None => {
                 let position = None;
@@ -147,9 +159,10 @@ impl<N: Naming> RangeCells<N> {
         }
     }
 
-    /// Brings the cell with a number to where the first p entries stand, if there is one, says where it stands then, and
-    /// tells the book of the cells of lower ranks that were used for it.
-    fn bring_marked<W: Wait, G: Gate, L: Ledger>(
+    /// Advances the cell with a number to where the first p entries stand, if there is one, says where it stands then, and
+    /// tells the book of the cells of lower ranks that were used for it. Where its range takes more needs than may be kept, it is
+    /// evicted.
+    fn advance_marked<W: Wait, G: Gate, L: Ledger>(
         &self,
         rt: &W,
         pass: Pass,
@@ -168,19 +181,23 @@ impl<N: Naming> RangeCells<N> {
         ensures reads_on { ReadsOn pass result.pass }
         ensures counted { steps.old ≤ steps.new }
     {
-        let Ok(found) = self.cells.find(rt, id) else {
-            return Turned {
-                pass,
-                turn: Turn::OutOfMemory,
-            };
+        let found = match self.cells.find(rt, id) {
+            Ok(found) => found,
+            Err(memory) => {
+                let turn = Turn::OutOfMemory(memory);
+                return Turned { pass, turn };
+            }
         };
         let Some(shared) = found else {
             let position = None;
             let turn = Turn::Brought { id, position };
             return Turned { pass, turn };
         };
-        let (turned, used) = self.bring_locked(rt, pass, joins, p, gate, steps, id, &shared);
+        let (turned, used) = self.advance_locked(rt, pass, joins, p, gate, steps, id, &shared);
         self.cells.settle(rt, &self.shards, used.as_slice());
+        if matches!(turned.turn, Turn::TooWide { .. }) {
+            self.cells.evict(rt, &self.shards, id);
+        }
         turned
     }
 
@@ -190,11 +207,12 @@ impl<N: Naming> RangeCells<N> {
     /// are the joins that stand then, and the pass is pinned there.
     ///
     /// What is pending in the cell then stays so, what is forgotten stays so, what stands more than 65,536 entries before the end
-    /// is let go and filled at the end, and a cell for another rank than its join has keeps what it keeps. Before it or a range of
-    /// a lower rank is filled, and before one of a lower rank is mended for it, the gate is passed. While another thread has a part
-    /// or a cell that this one needs, this one sleeps. That the cell was brought forward is no use of it; of the cells of lower
-    /// ranks that were read for it the book is told as after a read, and the least recently used are evicted. First of all the
-    /// cells are evicted whose joins do not stand any more or have another rank, as by a read.
+    /// is let go and filled at the end, and a cell for another rank than its join has keeps what it keeps. A cell whose range is
+    /// filled and takes more needs than may be kept is evicted. Before it or a range of a lower rank is filled, and before one of a
+    /// lower rank is mended for it, the gate is passed. While another thread has a part or a cell that this one needs, this one
+    /// sleeps. That the cell was brought forward is no use of it; of the cells of lower ranks that were read for it the book is
+    /// told as after a read, and the least recently used are evicted. First of all the cells are evicted whose joins do not stand
+    /// any more or have another rank, as by a read.
     ///
     /// `Idle` comes only where no part had a marked cell when its lock was taken.
     pub fn turn<W: Wait, G: Gate, L: Ledger>(
@@ -217,14 +235,12 @@ impl<N: Naming> RangeCells<N> {
     {
         self.cells.follow(rt, &self.shards, joins);
         let mut pass = pass;
-        if self.bring_parts(rt, &mut pass, p).is_err() {
-            return Turned {
-                pass,
-                turn: Turn::OutOfMemory,
-            };
+        if let Err(memory) = self.advance_parts(rt, &mut pass, p) {
+            let turn = Turn::OutOfMemory(memory);
+            return Turned { pass, turn };
         }
         match self.shards.next_marked(rt) {
-            Some(id) => self.bring_marked(rt, pass, joins, p, gate, steps, id),
+            Some(id) => self.advance_marked(rt, pass, joins, p, gate, steps, id),
             None => Turned {
                 pass,
                 turn: Turn::Idle,

@@ -1,5 +1,5 @@
 -- What a cell keeps, over longer histories, and as the join's that is asked for.
-use Rattle.std.proofs.Common.{◌≡◌, ℕ, ◌<◌, ◌≤◌, length, take, Option, IfSome, Some, None, refl, sym, ◌∙◌, subst, arith}
+use Rattle.std.proofs.Common.{◌≡◌, ℕ, ◌<◌, ◌≤◌, ◌⊎◌, length, take, Option, IfSome, Some, None, Result, Ok, Err, IfErr, refl, sym, ap, ◌∙◌, subst, inl, inr, ⊎_elim, arith}
 use Rattle.std.specs.Option.{IsSomeAnd}
 use Rattle.semantics.specs.Texts.{Table, Range, value_at, pairs_within}
 use Rattle.semantics.specs.Joins.{Join}
@@ -11,19 +11,26 @@ use Rattle.growing_history.proofs.PrefixLemmas.{take_prefix}
 use Rattle.layering.specs.Parts.{IsWithin}
 use Rattle.layering.proofs.PartLemmas.{part_of_range, within_is_kept}
 use Rattle.write_history.specs.Passes.{HistoryId, PassView, GoesOn}
+use Rattle.join_eval.specs.Bounds.{OnTooWide}
+use Rattle.join_eval.specs.declared.bounds.KeepFault.{KeepFault}
+use Rattle.join_eval.specs.declared.bounds.KeepFault.TheVariants.{TooWide, OutOfMemory}
 use Rattle.join_eval.specs.declared.reading.Changed.{Changed}
 use Rattle.join_eval.specs.declared.reading.Changed.TheVariants.{Keys, All}
 use Rattle.kept_ranges.specs.Sound.{KeptRange, IsSound, IsSoundAt}
 use Rattle.kept_ranges.proofs.SoundLemmas.{sound_over_longer}
 use Rattle.range_state.specs.Held.{forgotten}
-use Rattle.range_state.specs.Ready.{IsReady}
-use Rattle.range_serving.specs.Serving.{IsPast, StandsFrom, output_within}
+use Rattle.range_state.specs.Ready.{HasSameSubject, IsReady, StandsAt}
+use Rattle.range_state.specs.Work.{TakesTooMany}
+use Rattle.range_serving.specs.Serving.{IsLeftOrStandsAt, IsPast, IsTooWide, StandsFrom, output_within}
 use Rattle.range_serving.specs.Telling.{TellsOutput}
+use Rattle.range_serving.proofs.LongerLemmas.{bare_all}
+use Rattle.range_serving.proofs.UpToLemmas.{gone_is_wide, wide_over}
 use Rattle.cell_slots.specs.Slots.{IsDeclared, IsOutput, IsRightFor, StandsAs, IsRankIn, IsRankAt}
 use Rattle.cell_slots.proofs.DeclaredLemmas.{declared_over_longer, declared_once, has_rank, stands_ranked, stands_over}
 use Rattle.rank_layers.specs.Telling.{TellsJoin}
-use Rattle.shared_cells.specs.Bringing.{IsKeptBy}
-use Rattle.shared_cells.specs.Cells.{CellView, IsRightIn, IsCell, HasSamePlace, IsCellFor, IsLentFor, CanServe, IsReadyCell}
+use Rattle.rank_layers.proofs.PartLemmas.{not_past}
+use Rattle.shared_cells.specs.Advancing.{IsKeptBy, StandsBare}
+use Rattle.shared_cells.specs.Cells.{CellView, IsRightIn, IsCell, HasSamePlace, IsCellFor, IsHeldOrEmpty, IsHeldOrStandsAt, IsLentFor, CanServe, IsReadyCell, IsWideCell, KeepsWithin}
 
 -- ---- over longer histories
 
@@ -45,6 +52,11 @@ cell_goes_on name held at rank range old new on cell = record {
   same_history = on.same_history ∙ cell.same_history;
   right = kept_over_longer held at rank range old new on.begins cell.right;
 }
+
+-- what stands with bare ranges does so over the longer list, by whatever name it goes
+pub stands_longer : (h more : History) (q p : ℕ) (s t : KeptRange) → IsPrefix h more → p ≤ length h → t ≡ s → StandsBare h q p s → StandsBare more q p t
+stands_longer h more q p s t prefix within same is =
+    subst (StandsBare more q p) (sym same) (record { stands = is.stands; behind = is.behind; bare = bare_all h more q p s.kept.needs prefix within is.bare })
 
 -- what keeps nothing yet, in a cell that has the place for which it was made
 pub new_is_right : (h : History) (cell : CellView) (at rank : ℕ) (range : Range) (j : Join) (s : KeptRange) → IsPrefix h cell.pass.view → cell.at ≡ at → cell.rank ≡ rank → cell.range ≡ range → IsDeclared h at j → s ≡ forgotten j rank range →
@@ -105,7 +117,7 @@ told_of_lent cell h more at rank q p part s j (Keys keys) order within prefix me
 }
 told_of_lent cell h more at rank q p part s j All order within prefix met lent stands told = tt
 
--- ---- bringing forward
+-- ---- advancing
 
 within_by : (o : Option ℕ) (s : KeptRange) (h : History) → IfSome o (IsSoundAt s h) → IfSome o (λ q. q ≤ length h)
 within_by None s h sound = tt
@@ -162,17 +174,11 @@ serves_same old new at rank p part same held can = record {
   upto = subst (λ (o : Option KeptRange). IfSome o (λ s. IsPast p s → ⊥)) (sym held) can.upto;
 }
 
--- what is ready stands past no position
-ready_is_not_past : (p : ℕ) (part : Range) (s : KeptRange) → IsReady p part s → IsPast p s → ⊥
-ready_is_not_past p part s ready past =
-    let later : p < p = subst (λ (o : Option ℕ). IsSomeAnd o (λ q. p < q)) ready.stands past in
-    absurd (omega (arith, later))
-
 -- a cell that can be read over a part at once can serve it
 pub ready_serves : (cell : CellView) (at rank p : ℕ) (part : Range) → IsReadyCell cell at rank p part → CanServe cell at rank p part
 ready_serves cell at rank p part ready = record {
   is_for = ready.is_for;
-  upto = subst (λ (o : Option KeptRange). IfSome o (λ s. IsPast p s → ⊥)) (sym ready.holds) (ready_is_not_past p part ready.state ready.ready);
+  upto = subst (λ (o : Option KeptRange). IfSome o (λ s. IsPast p s → ⊥)) (sym ready.holds) (not_past p ready.state ready.ready.stands);
 }
 
 -- what a cell that can serve a part keeps can be read over it, once it is taken out
@@ -217,3 +223,34 @@ nowhere_from floor s is = subst (λ (o : Option ℕ). IfSome o (λ q. floor ≤ 
 -- what a cell keeps is taken out of it, where it does not stand below a floor
 pub taken_from : (floor : ℕ) (held taken : Option KeptRange) (s : KeptRange) → held ≡ Some s → StandsFrom floor s → (IfSome held (StandsFrom floor) → taken ≡ held) → taken ≡ Some s
 taken_from floor held taken s holds from takes = takes (subst (λ (o : Option KeptRange). IfSome o (StandsFrom floor)) (sym holds) from) ∙ holds
+
+-- ---- what is given back
+
+-- what is taken out of a cell has no more than so many needs, where what the cell kept has no more
+pub lent_within : (most : ℕ) (held : Option KeptRange) (s : KeptRange) → IsHeldOrEmpty held s → KeepsWithin most held → length s.kept.needs ≤ most
+lent_within most held s (inl is) few = subst (KeepsWithin most) is few
+lent_within most held s (inr empty) few = let none : length s.kept.needs ≡ 0 = ap length empty.1 in omega (arith, none)
+
+-- what was taken out of a cell, and is given back as it was, at a position or forgotten, is what the cell kept, or stands so
+pub held_there : (p : ℕ) (old new : Option KeptRange) (s t : KeptRange) → IsHeldOrEmpty old s → new ≡ Some t → IsLeftOrStandsAt p s t → IsHeldOrStandsAt p old new
+held_there p old new s t whose holds left = subst (IsHeldOrStandsAt p old) (sym holds) (by_place whose left)
+  where
+    by_place : IsHeldOrEmpty old s → IsLeftOrStandsAt p s t → (old ≡ Some t) ⊎ ((t.position ≡ None) ⊎ StandsAt p t)
+    by_place any (inr at) = inr (inr at)
+    by_place any (inl (inr gone)) = inr (inl gone)
+    by_place (inl is) (inl (inl same)) = inl (is ∙ ap (λ (k : KeptRange). Some k) (sym same))
+    by_place (inr empty) (inl (inl same)) = inr (inl (ap (λ (k : KeptRange). k.position) same ∙ empty.0))
+
+-- what is given back after it was served makes the cell one that can be read so, or one that is too wide
+pub served_cell : (lent after : CellView) (h more : History) (at rank p most : ℕ) (part : Range) (s t : KeptRange) → p ≤ length h → IsPrefix h more → IsLentFor lent at rank p part s → HasSamePlace lent after → after.held ≡ Some t
+    → IsReady p part t ⊎ IsTooWide most more p t → IsReadyCell after at rank p part ⊎ IsWideCell most h p after
+served_cell lent after h more at rank p most part s t within prefix taken same holds kept =
+    ⊎_elim (λ (ready : IsReady p part t). inl (record { is_for = is_for_same lent after at rank part same taken.is_for; state = t; holds = holds; ready = ready }))
+    (λ (wide : IsTooWide most more p t). inr (record { state = t; holds = holds; wide = wide_over most p h more t within prefix wide })) kept
+
+-- what is given back after a fault that there are too many needs makes the cell one that is too wide
+pub wide_cell : {T E : Type 0} (r : Result T (KeepFault E)) (after : CellView) (h more : History) (p most : ℕ) (s t : KeptRange) → p ≤ length h → IsPrefix h more → after.held ≡ Some t → HasSameSubject s t
+    → IfErr r (OnTooWide (TakesTooMany (Some most) more p s)) → IfErr r (OnTooWide (t.position ≡ None)) → IfErr r (OnTooWide (IsWideCell most h p after))
+wide_cell (Ok x) after h more p most s t within prefix holds same many gone = tt
+wide_cell (Err (TooWide word)) after h more p most s t within prefix holds same many gone = record { state = t; holds = holds; wide = wide_over most p h more t within prefix (gone_is_wide most p more s t same gone many) }
+wide_cell (Err (OutOfMemory memory)) after h more p most s t within prefix holds same many gone = tt

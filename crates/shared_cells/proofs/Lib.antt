@@ -1,3 +1,5 @@
 pub mod ListingLemmas
+pub mod SpotLemmas
 pub mod PartLemmas
+pub mod DirectoryLemmas
 pub mod CellLemmas

@@ -1,11 +1,12 @@
 -- A cell as contracts see it, and what is true of it whenever its lock is free.
-use Rattle.std.specs.Prelude.{◌≡◌, ℕ, Option, IfSome, Some}
+use Rattle.std.specs.Prelude.{◌≡◌, ℕ, ◌≤◌, ◌⊎◌, [], length, Option, IfSome, Some, None}
 use Rattle.semantics.specs.Texts.{Range}
+use Rattle.semantics.specs.Histories.{History}
 use Rattle.layering.specs.Parts.{IsWithin}
 use Rattle.write_history.specs.Passes.{HistoryId, PassView}
 use Rattle.kept_ranges.specs.Sound.{KeptRange}
-use Rattle.range_state.specs.Ready.{IsReady}
-use Rattle.range_serving.specs.Serving.{IsPast, StandsFrom}
+use Rattle.range_state.specs.Ready.{IsReady, StandsAt}
+use Rattle.range_serving.specs.Serving.{IsPast, IsTooWide, StandsFrom}
 use Rattle.cell_slots.specs.Slots.{IsRightFor}
 
 -- the position of the join's declaration, the rank and the range that the cell is for, what is kept of it, and the cell's pass
@@ -39,6 +40,18 @@ pub record IsCellFor (cell : CellView) (at rank : ℕ) (part : Range) : Type 0 w
   pub ranked : cell.rank ≡ rank
   pub whole : IsWithin part cell.range
 
+-- what a cell keeps has no more than so many needs, if it keeps something
+abbrev pub KeepsWithin : ℕ → Option KeptRange → Type 0
+KeepsWithin most held = IfSome held (λ s. length s.kept.needs ≤ most)
+
+-- what is taken out of a cell is what the cell kept, or keeps nothing yet
+abbrev pub IsHeldOrEmpty : Option KeptRange → KeptRange → Type 0
+IsHeldOrEmpty held s = (held ≡ Some s) ⊎ ((s.position ≡ None) × (s.kept.needs ≡ []))
+
+-- what a cell keeps is what it kept, or stands at a position, or nothing is kept
+abbrev pub IsHeldOrStandsAt : ℕ → Option KeptRange → Option KeptRange → Type 0
+IsHeldOrStandsAt p old new = IfSome new (λ s. (old ≡ Some s) ⊎ ((s.position ≡ None) ⊎ StandsAt p s))
+
 -- what is taken out of a cell can be read over a part of its range, for the join that was declared at a position, with this rank: it is right, and does not stand past a position
 pub record IsLentFor (cell : CellView) (at rank p : ℕ) (part : Range) (s : KeptRange) : Type 0 where
   pub is_for : IsCellFor cell at rank part
@@ -62,3 +75,9 @@ pub record IsReadyCell (cell : CellView) (at rank p : ℕ) (part : Range) : Type
   pub state : KeptRange
   pub holds : cell.held ≡ Some state
   pub ready : IsReady p part state
+
+-- the cell is too wide at a position: it keeps nothing, and filling its range takes more than so many needs there
+pub record IsWideCell (most : ℕ) (h : History) (p : ℕ) (cell : CellView) : Type 0 where
+  pub state : KeptRange
+  pub holds : cell.held ≡ Some state
+  pub wide : IsTooWide most h p state

@@ -1,2 +1,5 @@
 pub mod Cells
-pub mod Bringing
+pub mod Advancing
+pub mod Spots
+pub mod Listings
+pub mod Directories

@@ -1,31 +1,36 @@
 // What lies behind the lock of a cell.
-ghost use Rattle.std.specs.Prelude.{◌≡◌, ℕ, ◌+◌, ◌≤◌, length, take, false, true, IfOk, IfSome, MatchOption, OnOk, Some, None};
+ghost use Rattle.std.specs.Prelude.{◌≡◌, ℕ, ◌+◌, ◌≤◌, ◌⊎◌, [], length, take, false, true, IfErr, IfOk, IfSome, MatchOption, OnErr, OnOk, Some, None};
 ghost use Rattle.std.specs.Option.{IsSomeAnd};
 ghost use Rattle.semantics.specs.Joins.{Join as PlainJoin};
 ghost use Rattle.growing_history.specs.Entered.{HasEntered};
-ghost use Rattle.layering.specs.Parts.{IsWithin};
+ghost use Rattle.join_eval.specs.Bounds.{OnTooWide};
 ghost use Rattle.join_eval.specs.Moves.{Moves};
 ghost use Rattle.kept_ranges.specs.Sound.{KeptRange};
-ghost use Rattle.range_state.specs.Since.{AnswersSince};
-ghost use Rattle.range_serving.specs.Serving.{IsBroughtTo, IsPast, StandsFrom};
+ghost use Rattle.range_state.specs.Ready.{StandsAt, pending_meets};
+ghost use Rattle.range_state.specs.Since.{AnswersSince, told_count};
+ghost use Rattle.range_state.specs.Work.{advance_steps, TouchesLittle};
+ghost use Rattle.range_serving.specs.Serving.{HasTooMany, IsCaughtUp, IsPast, StandsFrom, WasAdvanced, WasMended};
 ghost use Rattle.cell_slots.specs.Slots.{IsOutput, IsRankAt, IsRightFor, StandsAs};
 ghost use Rattle.rank_layers.specs.Telling.{TellsJoin};
-ghost use Rattle.shared_cells.specs.Bringing.{BringsCell};
-ghost use Rattle.shared_cells.specs.Cells.{CanBeLent, CanServe, HasSamePlace, IsLentFor, IsReadyCell, IsRightIn};
+ghost use Rattle.shared_cells.specs.Advancing.{AdvancesCell, CanAdvance, StandsBare};
+ghost use Rattle.shared_cells.specs.Cells.{CanBeLent, CanServe, HasSamePlace, IsHeldOrEmpty, IsHeldOrStandsAt, IsLentFor, IsReadyCell, IsRightIn, IsWideCell};
+ghost use Rattle.shared_cells.specs.Cells.{KeepsWithin};
 
-use crate::bringing::bring;
+use crate::advancing::advance_to;
 use crate::ranked_join::RankedJoin;
 use base_shards::Naming;
-use join_eval::Changed;
+use join_eval::{Changed, KeepFault, NeedBound, TooMany};
 use join_types::Pair;
 use key_space::Range;
 use out_of_memory::OutOfMemory;
 use pq_io::Gate;
-use range_serving::{is_past, serve, stands_from, tell};
+use range_serving::{changes_since, is_past, serve_up_to, stands_from};
 use range_state::RangeState;
 use rank_layers::Query;
+use shared_reader::followed::is_within;
 use shared_reader::{Followed, Stacked};
 use std::alloc::Global;
+use std::convert::Infallible;
 use std::marker::{Model, PhantomData};
 use std::sync::ledger::Ledger;
 use steps::Steps;
@@ -56,17 +61,9 @@ impl<N: Naming> Model for Cell<N> {
     ghost invariant = { λ c. IsCell N.history c.at c.rank c.range c.held c.pass };
 }
 
-/// Whether the second range begins at or before the first, and ends at or after it.
-fn is_within(part: &Range, range: &Range) -> bool
-    ensures yes { result ≡ true → IsWithin part.now range.now }
-    ensures no { IsWithin part.now range.now → result ≡ true }
-{
-    range.lo() <= part.lo() && part.hi() <= range.hi()
-}
-
 impl<N: Naming> Cell<N> {
-    /// A cell with a pass, for a range of the output of a join while it has its rank. Nothing is kept yet, and the cell follows
-    /// no range. Nothing is allocated.
+    /// Makes a cell with a pass, for a range of the output of a join while it has its rank. Nothing is kept yet, and the cell
+    /// follows no range. Nothing is allocated.
     pub fn new(alloc: Global, join: RankedJoin, range: Range, pass: Pass) -> Cell<N>
         requires { pass.history ≡ N.history }
         ensures at { result.at ≡ join.at }
@@ -86,7 +83,7 @@ impl<N: Naming> Cell<N> {
         }
     }
 
-    /// The pass; what is kept is let go.
+    /// Gives the pass; what is kept is let go.
     pub fn into_pass(self) -> Pass
         ensures pass { result ≡ self.pass }
         ensures same_history { result.history ≡ N.history }
@@ -94,14 +91,14 @@ impl<N: Naming> Cell<N> {
         self.pass
     }
 
-    /// The position of its join's declaration.
+    /// Gives the position of its join's declaration.
     pub fn at(&self) -> u64
         ensures { result ≡ self.now.at }
     {
         self.at
     }
 
-    /// Where what is kept stands: after how many entries. None where nothing is kept.
+    /// Tells where what is kept stands: after how many entries. None where nothing is kept.
     pub fn position(&self) -> Option<u64>
         ensures position { MatchOption self.now.held (result ≡ None) (λ s. result ≡ s.position) }
         ensures within { IfSome result (λ q. q ≤ length self.now.pass.view) }
@@ -112,16 +109,16 @@ impl<N: Naming> Cell<N> {
         }
     }
 
-    /// The work on the cell ends: under its number it follows the ranges of base pairs that the reader noted since so many
-    /// were noted.
-    pub fn follow<R: Stacked<N>>(&mut self, id: u32, since: usize, reader: &mut R)
+    /// Ends the work on the cell: under its number it follows the ranges of base pairs that the reader noted since so many were
+    /// noted, or none of them where it is not said since when.
+    pub fn follow<R: Stacked<N>>(&mut self, id: u32, since: Option<usize>, reader: &mut R)
         ensures same { self.new ≡ self.old }
         ensures reader { reader.new ≡ reader.old }
     {
         reader.follow_noted(id, since, &mut self.followed);
     }
 
-    /// How many rows are kept.
+    /// Tells how many rows are kept.
     pub fn rows(&self) -> u64
         ensures { MatchOption self.now.held (result ≡ 0) (λ s. result ≡ length s.kept.rows) }
     {
@@ -131,7 +128,7 @@ impl<N: Naming> Cell<N> {
         }
     }
 
-    /// Whether what is kept stands past a position.
+    /// Says whether what is kept stands past a position.
     fn is_past(&self, p: u64) -> bool
         ensures yes { result ≡ true → IsSomeAnd self.now.held (IsPast p) }
         ensures no { result ≡ false → IfSome self.now.held (λ s. IsPast p s → ⊥) }
@@ -142,7 +139,7 @@ impl<N: Naming> Cell<N> {
         }
     }
 
-    /// Whether it is for the join that is asked for and for its rank, for a range that has the whole part, and keeps nothing
+    /// Says whether it is for the join that is asked for and for its rank, for a range that has the whole part, and keeps nothing
     /// that stands past the position.
     fn can_serve(&self, query: Query, part: &Range) -> bool
         ensures yes { result ≡ true → CanServe self.now query.at query.rank query.p part.now }
@@ -154,7 +151,7 @@ impl<N: Naming> Cell<N> {
             && !self.is_past(query.p)
     }
 
-    /// The pass and the reader see what either has seen.
+    /// Lets the pass and the reader see what either has seen.
     fn meet<R: Stacked<N>>(&mut self, reader: &mut R)
         ensures held { self.new.held ≡ self.old.held }
         ensures same_place { HasSamePlace self.old self.new }
@@ -165,8 +162,8 @@ impl<N: Naming> Cell<N> {
         reader.meet(&mut self.pass);
     }
 
-    /// What keeps nothing yet of the cell's range, for its join, which stands after p entries, and its rank. The pass and the
-    /// reader see what either has seen.
+    /// Makes what keeps nothing yet of the cell's range, for its join, which stands after p entries, and its rank. The pass and
+    /// the reader see what either has seen.
     fn begin<R: Stacked<N>>(
         &mut self,
         alloc: Global,
@@ -178,6 +175,7 @@ impl<N: Naming> Cell<N> {
         requires stands { (rank : ℕ) × (j : PlainJoin) × StandsAs (R.list reader.old) p self.old.at rank j }
         ensures right { IfOk result (IsRightIn self.new.at self.new.rank self.new.range self.new.pass) }
         ensures fresh { IfOk result (λ state. state.position ≡ None) }
+        ensures empty { IfOk result (λ state. state.kept.needs ≡ []) }
         ensures held { self.new.held ≡ self.old.held }
         ensures same_place { HasSamePlace self.old self.new }
         ensures met { self.new.pass.view ≡ R.list reader.new }
@@ -191,7 +189,7 @@ impl<N: Naming> Cell<N> {
         Ok(RangeState::new(alloc, join?, rank, range?))
     }
 
-    /// Whether it is for this rank. Where none is given, it is not.
+    /// Says whether it is for this rank. Where none is given, it is not.
     fn is_for(&self, rank: Option<u8>) -> bool
         ensures yes { result ≡ true → rank ≡ Some self.now.rank }
         ensures no { rank ≡ Some self.now.rank → result ≡ true }
@@ -228,8 +226,8 @@ impl<N: Naming> Cell<N> {
     }
 
     /// Takes out what is kept, to read it over a part. None exactly where the cell cannot serve the part at the position: then
-    /// what is kept stays. Where nothing is kept, or what stands below the reader's floor, what is given keeps nothing yet. The pass
-    /// and the reader see what either has seen.
+    /// what is kept stays. Where nothing is kept, or what stands below the reader's floor, what is given keeps nothing yet. The
+    /// pass and the reader see what either has seen.
     ///
     /// On `OutOfMemory` nothing is kept.
     fn lend<R: Stacked<N>>(
@@ -243,11 +241,13 @@ impl<N: Naming> Cell<N> {
         requires above { R.floor reader.old ≤ query.p }
         requires stands { (j : PlainJoin) × StandsAs (R.list reader.old) query.p query.at query.rank j }
         ensures lent { IfOk result (λ found. IfSome found (IsLentFor self.new query.at query.rank query.p part.now)) }
+        ensures whose { IfOk result (λ found. IfSome found (IsHeldOrEmpty self.old.held)) }
         ensures from { IfOk result (λ found. IfSome found (StandsFrom (R.floor reader.new))) }
         ensures kept { (s : KeptRange) → CanBeLent self.old query.at query.rank query.p (R.floor reader.old) part.now s → IfOk result (λ found. found ≡ Some s) }
         ensures served { CanServe self.old query.at query.rank query.p part.now → IfOk result (λ found. found ≡ None → ⊥) }
         ensures none { (CanServe self.old query.at query.rank query.p part.now → ⊥) → IfOk result (λ found. found ≡ None) }
         ensures left { (CanServe self.old query.at query.rank query.p part.now → ⊥) → self.new.held ≡ self.old.held }
+        ensures err { OnErr result (self.new.held ≡ None) }
         ensures ready { IsReadyCell self.old query.at query.rank query.p part.now → IfOk result (λ found. found ≡ self.old.held) }
         ensures same_place { HasSamePlace self.old self.new }
         ensures met { self.new.pass.view ≡ R.list reader.new }
@@ -279,22 +279,30 @@ impl<N: Naming> Cell<N> {
         self.held = Some(state);
     }
 
-    /// What the join gives in a part after p entries, from what is kept. None, and then what is kept stays, exactly where the cell
-    /// is for another join or for another rank of it or has not the whole part, and where what is kept stands past p. Where nothing
-    /// is kept the cell's whole range is filled, and so where it stands below the reader's floor: then it is let go first; where it
-    /// stands below p it is advanced, and where something pending meets the part it is mended there. The gate is passed before a
-    /// fill and before a mend.
+    /// Gives what the join gives in a part after p entries, from what is kept. None, and then what is kept stays, exactly where
+    /// the cell is for another join or for another rank of it or has not the whole part, and where what is kept stands past p.
+    /// Where nothing is kept the cell's whole range is filled, and so where it stands below the reader's floor: then it is let go
+    /// first; where it stands below p it is advanced, and where something pending meets the part it is mended there. The gate is
+    /// passed before a fill and before a mend.
+    ///
+    /// It keeps no more than `most` needs, if it kept no more before. What would have more once it is brought there and mended is let
+    /// go and filled. Where filling takes more, nothing is kept, and what was found is given all the same; no more than `most` are
+    /// held meanwhile.
     ///
     /// The cell's pass and the reader see what either has seen. Where the cell can be read over the part at once, it takes one
-    /// step and one for each pair; where it gave pairs, it can be so read afterwards. Where it cannot serve, it takes no step,
-    /// so that the reader reads nothing below a rank that is not the cell's.
+    /// step and one for each pair, and what it keeps stays as it is; where it gave pairs, it can be so read afterwards, or its range
+    /// takes too many needs. Where what it keeps stands from the floor on, below p with bare ranges, or at p with something pending
+    /// that meets the part, it is not filled again unless it would have more than `most` needs, and takes these steps and no more
+    /// than those of an advance and a mend. Where it cannot serve, it takes no step, so that the reader reads nothing below a rank
+    /// that is not the cell's.
     ///
-    /// On `OutOfMemory` what is kept stands where it stood, or at p, or nothing is kept.
+    /// On `OutOfMemory` what is kept is as it was, or stands at p, or nothing is kept.
     pub fn serve<R: Stacked<N>, G: Gate, L: Ledger>(
         &mut self,
         alloc: Global,
         query: Query,
         part: &Range,
+        most: u64,
         gate: &G,
         reader: &mut R,
         steps: &mut Steps<L>,
@@ -308,41 +316,55 @@ impl<N: Naming> Cell<N> {
         ensures none { (CanServe self.old query.at query.rank query.p part.now → ⊥) → IfOk result (λ found. found ≡ None) }
         ensures left { (CanServe self.old query.at query.rank query.p part.now → ⊥) → self.new.held ≡ self.old.held }
         ensures idle { (CanServe self.old query.at query.rank query.p part.now → ⊥) → steps.new ≡ steps.old }
-        ensures ready { IfOk result (λ found. IfSome found (λ _. IsReadyCell self.new query.at query.rank query.p part.now)) }
+        ensures still { IsReadyCell self.old query.at query.rank query.p part.now → OnOk result (self.new.held ≡ self.old.held) }
+        ensures few { KeepsWithin most self.old.held → OnOk result (KeepsWithin most self.new.held) }
+        ensures err { OnErr result (IsHeldOrStandsAt query.p self.old.held self.new.held) }
+        ensures ready { IfOk result (λ found. IfSome found (λ _. IsReadyCell self.new query.at query.rank query.p part.now ⊎ IsWideCell most (R.list reader.old) query.p self.new)) }
         ensures same_place { HasSamePlace self.old self.new }
         ensures met { self.new.pass.view ≡ R.list reader.new }
         ensures moves { Moves R.list R.floor R.went reader.old reader.new }
         ensures counted { steps.old ≤ steps.new }
         ensures cost { IfOk result (λ found. IfSome found (λ pairs. steps.old + 1 + length pairs.items ≤ steps.new)) }
         ensures at_once { IsReadyCell self.old query.at query.rank query.p part.now → IfOk result (λ found. IsSomeAnd found (λ pairs. steps.new ≡ steps.old + 1 + length pairs.items)) }
+        ensures behind { (s : KeptRange) (q : ℕ) → CanBeLent self.old query.at query.rank query.p (R.floor reader.old) part.now s → StandsBare (R.list reader.old) q query.p s →
+            IfOk result (λ found. IfSome found (λ pairs. IsSomeAnd self.new.held (λ after. WasAdvanced (R.list reader.old) q query.p part.now s after (steps.old + 1 + length pairs.items) steps.new)
+            ⊎ HasTooMany (Some most) (R.list reader.old) query.p part.now s)) }
+        ensures pending { (s : KeptRange) → CanBeLent self.old query.at query.rank query.p (R.floor reader.old) part.now s → StandsAt query.p s → pending_meets s part.now ≡ true →
+            IfOk result (λ found. IfSome found (λ pairs. IsSomeAnd self.new.held (λ after. WasMended (R.list reader.old) query.p part.now s after (steps.old + 1 + length pairs.items) steps.new)
+            ⊎ HasTooMany (Some most) (R.list reader.old) query.p part.now s)) }
     {
         let Some(state) = self.lend(alloc, query, part, reader)? else {
             return Ok(None);
         };
         let mut state = state;
-        let read = serve(&mut state, query.p, part, gate, reader, steps);
+        let read = serve_up_to(&mut state, query.p, part, most, gate, reader, steps);
         self.give_back(state, reader);
         Ok(Some(read?))
     }
 
-    /// What changed in the join's output in a part between two positions, as what is kept says: it is advanced to the later one
-    /// where it stands below; where it stands there already, or is forgotten, it is left as it is. Then `All` comes exactly where
-    /// it does not know, as `RangeState::changed_since` says. `All` may also come where the cell is for another join or for
-    /// another rank of it or has not the whole part, and where what is kept stands past the later position: then it stays, and
-    /// no step is taken. It comes too where nothing is kept, and where it stands below the reader's floor: then it is let go.
+    /// Tells what changed in the join's output in a part between two positions, as what is kept says: it is advanced to the later
+    /// one where it stands below; where it stands there already, or is forgotten, it is left as it is. Then `All` comes exactly
+    /// where it does not know, as `RangeState::changed_since` says. `All` may also come where the cell is for another join or for
+    /// another rank of it or has not the whole part, and where what is kept stands past the later position: then it stays, and no
+    /// step is taken. It comes too where nothing is kept, and where it stands below the reader's floor: then it is let go.
     ///
-    /// The cell's pass and the reader see what either has seen.
+    /// The cell's pass and the reader see what either has seen. Where what is kept stands from the floor on, below the later
+    /// position with bare ranges, what no changed key touches is left, and it takes no more steps than an advance, one step more
+    /// and one for each key that it lists.
     ///
-    /// On `OutOfMemory` what is kept stands where it stood, or at the later position, or nothing is kept.
-    pub fn tell<R: Stacked<N>, L: Ledger>(
+    /// On a fault what is kept is as it was, or stands at the later position, or nothing is kept. `TooWide` comes only where the
+    /// cell's range is filled instead of advanced and that takes more than `most` needs; then nothing is kept. Where it kept no more
+    /// needs, it keeps no more afterwards.
+    pub fn changes_since<R: Stacked<N>, L: Ledger>(
         &mut self,
         alloc: Global,
         query: Query,
         since: u64,
         part: &Range,
+        most: u64,
         reader: &mut R,
         steps: &mut Steps<L>,
-    ) -> Result<Changed, OutOfMemory>
+    ) -> Result<Changed, KeepFault<TooMany>>
         requires order { since ≤ query.p }
         requires within { query.p ≤ length (R.list reader.old) }
         requires above { R.floor reader.old ≤ query.p }
@@ -350,50 +372,68 @@ impl<N: Naming> Cell<N> {
         requires ranked { query.rank ≤ R.top }
         ensures told { IfOk result (λ told. (j : PlainJoin) → StandsAs (R.list reader.old) query.p query.at query.rank j →
             TellsJoin (R.list reader.old) since query.p query.rank j part.now told) }
-        ensures brought { (s : KeptRange) → CanBeLent self.old query.at query.rank query.p (R.floor reader.old) part.now s → OnOk result (IsSomeAnd self.new.held (IsBroughtTo query.p s)) }
+        ensures advanced { (s : KeptRange) → CanBeLent self.old query.at query.rank query.p (R.floor reader.old) part.now s → OnOk result (IsSomeAnd self.new.held (IsCaughtUp query.p s)) }
         ensures since { (s : KeptRange) → CanBeLent self.old query.at query.rank query.p (R.floor reader.old) part.now s →
             IfOk result (λ told. IsSomeAnd self.new.held (λ after. AnswersSince since part.now after told)) }
+        ensures little { (s : KeptRange) (q : ℕ) → CanBeLent self.old query.at query.rank query.p (R.floor reader.old) part.now s → StandsBare (R.list reader.old) q query.p s →
+            OnOk result (IsSomeAnd self.new.held (TouchesLittle (R.list reader.old) q query.p s)) }
+        ensures few { KeepsWithin most self.old.held → OnOk result (KeepsWithin most self.new.held) }
+        ensures err { OnErr result (IsHeldOrStandsAt query.p self.old.held self.new.held) }
+        ensures wide { IfErr result (OnTooWide (IsWideCell most (R.list reader.old) query.p self.new)) }
+        ensures known { (s : KeptRange) (q : ℕ) → CanBeLent self.old query.at query.rank query.p (R.floor reader.old) part.now s → StandsBare (R.list reader.old) q query.p s → IfErr result (OnTooWide ⊥) }
         ensures left { (CanServe self.old query.at query.rank query.p part.now → ⊥) → self.new.held ≡ self.old.held }
         ensures idle { (CanServe self.old query.at query.rank query.p part.now → ⊥) → steps.new ≡ steps.old }
         ensures same_place { HasSamePlace self.old self.new }
         ensures met { self.new.pass.view ≡ R.list reader.new }
         ensures moves { Moves R.list R.floor R.went reader.old reader.new }
         ensures counted { steps.old ≤ steps.new }
+        ensures cost { (s : KeptRange) (q : ℕ) → CanBeLent self.old query.at query.rank query.p (R.floor reader.old) part.now s → StandsBare (R.list reader.old) q query.p s →
+            IfOk result (λ told. steps.new ≤ steps.old + advance_steps (R.list reader.old) q query.p s.kept.needs + 1 + told_count told) }
     {
         let Some(state) = self.lend(alloc, query, part, reader)? else {
             return Ok(Changed::All);
         };
         let mut state = state;
-        let told = tell(&mut state, since, query.p, part, reader, steps);
+        let bound: NeedBound<TooMany, Infallible> = NeedBound::EndsPast(most, TooMany);
+        let told = changes_since(&mut state, since, query.p, part, bound, reader, steps);
         self.give_back(state, reader);
         told
     }
 
-    /// Brings what is kept to where the first p entries stand, where it stands below: it is advanced. What is pending then stays
+    /// Advances what is kept to where the first p entries stand, where it stands below. What is pending then stays
     /// so, what is forgotten stays so, and what stands past p stays there. What stands below the reader's floor is let go, and the
     /// cell's whole range is filled; the gate is passed before. The rank is the one that the join has after p entries, and none
     /// where it does not stand then; where it is not the cell's, what is kept stays as it is and no step is taken, so that nothing
-    /// changes but what the cell's pass has seen. It and the reader see what either has seen.
+    /// changes but what the cell's pass has seen. It and the reader see what either has seen. Where what is kept stands from the
+    /// floor on, below p with bare ranges, what no changed key touches is left, and it takes no more steps than an advance.
     ///
-    /// On `OutOfMemory` what is kept is as it was, or it is forgotten.
-    pub fn bring<R: Stacked<N>, G: Gate, L: Ledger>(
+    /// On a fault what is kept is as it was, or it is forgotten. `TooWide` comes only where the cell's range is filled, because
+    /// what is kept stands below the floor or the reader does not know what changed, and that takes more than `most` needs; then it
+    /// is forgotten. Where it kept no more needs, it keeps no more afterwards.
+    pub fn advance_to<R: Stacked<N>, G: Gate, L: Ledger>(
         &mut self,
         p: u64,
         rank: Option<u8>,
+        most: u64,
         gate: &G,
         reader: &mut R,
         steps: &mut Steps<L>,
-    ) -> Result<(), OutOfMemory>
+    ) -> Result<(), KeepFault<TooMany>>
         requires within { p ≤ length (R.list reader.old) }
         requires above { R.floor reader.old ≤ p }
         requires rank { IsRankAt (R.list reader.old) p self.old.at rank }
         requires ranked { IfSome rank (λ r. r ≤ R.top) }
-        ensures brings { BringsCell (R.floor reader.old) p rank result self.old self.new }
+        ensures advances { AdvancesCell (R.floor reader.old) p rank result self.old self.new }
+        ensures little { (s : KeptRange) (q : ℕ) → CanAdvance (R.list reader.old) (R.floor reader.old) q p rank self.old s → OnOk result (IsSomeAnd self.new.held (TouchesLittle (R.list reader.old) q p s)) }
+        ensures few { KeepsWithin most self.old.held → OnOk result (KeepsWithin most self.new.held) }
+        ensures wide { IfErr result (OnTooWide (IsWideCell most (R.list reader.old) p self.new)) }
+        ensures known { (s : KeptRange) (q : ℕ) → CanAdvance (R.list reader.old) (R.floor reader.old) q p rank self.old s → IfErr result (OnTooWide ⊥) }
         ensures idle { (rank ≡ Some self.old.rank → ⊥) → steps.new ≡ steps.old }
         ensures same_place { HasSamePlace self.old self.new }
         ensures met { self.new.pass.view ≡ R.list reader.new }
         ensures moves { Moves R.list R.floor R.went reader.old reader.new }
         ensures counted { steps.old ≤ steps.new }
+        ensures cost { (s : KeptRange) (q : ℕ) → CanAdvance (R.list reader.old) (R.floor reader.old) q p rank self.old s → OnOk result (steps.new ≤ steps.old + advance_steps (R.list reader.old) q p s.kept.needs) }
     {
         self.meet(reader);
         if !self.is_for(rank) {
@@ -403,8 +443,9 @@ impl<N: Naming> Cell<N> {
             return Ok(());
         };
         let mut state = state;
-        let brought = bring(&mut state, p, gate, reader, steps);
+        let bound: NeedBound<TooMany, Infallible> = NeedBound::EndsPast(most, TooMany);
+        let advanced = advance_to(&mut state, p, bound, gate, reader, steps);
         self.give_back(state, reader);
-        brought
+        advanced
     }
 }

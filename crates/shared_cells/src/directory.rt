@@ -1,29 +1,32 @@
 // Which ranges have a cell, behind a lock.
-ghost use Rattle.std.specs.Prelude.{◌≡◌, ◌≤◌, All, length, map, true, string_bytes, IfOk};
+ghost use Rattle.std.specs.Prelude.{◌≡◌, ◌≤◌, ◌⊎◌, ℕ, [], ◌∷◌, All, Contains, false, length, map, replicate, slice_get, slice_set, true, IfOk, IfSome, MatchOption, None, OnErr, Some};
+ghost use Rattle.semantics.specs.Texts.{Range as Bounds};
 ghost use Rattle.key_ranges.specs.Ranges.{is_open};
-ghost use Rattle.layering.specs.Parts.{JoinTo};
-ghost use Rattle.range_set.specs.Held.{are_of_table};
-ghost use Rattle.range_set.specs.Joined.{JoinTo as JoinPieces};
-ghost use Rattle.range_set.specs.Pieces.{range_of, ranges_of};
+ghost use Rattle.layering.specs.Parts.{IsWithin, JoinTo};
+ghost use Rattle.range_set.specs.declared.piece.Piece.TheVariants.{Gap, Kept};
+ghost use Rattle.range_set.specs.Held.{are_apart, is_free};
+ghost use Rattle.range_set.specs.Pieces.{kept_of, range_of};
+ghost use Rattle.cell_slots.specs.Places.{ArePieces, KeepsPlace, LiesInPlace};
+ghost use Rattle.cell_slots.specs.Spending.{one_gap, one_part};
+ghost use Rattle.shared_cells.specs.Spots.{leaving, number_at, number_of, numbered, place_at, free};
+ghost use Rattle.shared_cells.specs.Listings.{listed_at};
+ghost use Rattle.shared_cells.specs.Directories.{GivesCell, GivesParts, IsLetGo, IsMadeOf, IsSame, NoneIsLetGo, directory_of};
 
-use crate::cell::Cell;
 use crate::followed::Followed;
-use crate::idle::IdlePass;
+use crate::listings::Listings;
 use crate::ranked_join::RankedJoin;
+use crate::spots::{SharedCell, Spots};
+use crate::uses::Uses;
 use base_shards::Naming;
 use cell_slots::are_too_many;
 use join_set::JoinSet;
 use key_space::Range;
 use out_of_memory::OutOfMemory;
-use range_set::{Piece, RangeSet};
+use range_set::Piece;
 use std::alloc::Global;
-use std::collections::BTreeMap;
-use std::mem;
+use std::marker::Model;
 use std::sync::{Arc, Mutex};
 use write_history::Pass;
-
-/// A cell, which threads share; none once it is evicted.
-pub type SharedCell<N> = Arc<Mutex<Option<Cell<N>>>>;
 
 /// A part of a range that was asked for, and the cell that has it with its number, if one does.
 #[derive(Drop)]
@@ -34,87 +37,35 @@ pub struct Part<N: Naming> {
     pub cell: Option<(u32, SharedCell<N>)>,
 }
 
-/// The ranges of one join that have a cell for one rank of it, each with the cell's number, and the table that they are of.
-#[derive(Drop)]
-struct Listing {
-    table: String,
-    ranges: RangeSet<u32>,
-    ghost of_table: { are_of_table ranges (string_bytes table) ≡ true },
-}
-
-/// What stands at a cell's number.
-#[derive(Drop)]
-enum Spot<N: Naming> {
-    /// No cell. Its pass, and the next number that has none.
-    Free(IdlePass<N>, Option<u32>),
-    /// A cell: its join with the rank that it is for, and its range.
-    Taken(RankedJoin, Range, SharedCell<N>),
-    /// A cell that is being evicted, whose pass is on its way back.
-    Leaving,
-}
-
-/// The ranges that have a cell, by their join with its rank, and what stands at each cell's number. A join whose rank changed
-/// has other cells than before. It follows the joins, to know whose cells nobody reads any more. A read at an earlier position
-/// may still give cells to other joins, and there are strays then.
-///
-/// It counts the uses of cells, in room that is there from the start: so it knows of each cell when it was last used, also where
-/// there was no memory to tell the book of it.
+/// The ranges that have a cell, by their join with its rank, and what stands at each cell's number: each range that is listed is
+/// the one for which the cell with its number is. A join whose rank changed has other cells than before. It follows the joins, to
+/// know whose cells nobody reads any more. A read at an earlier position may still give cells to other joins, and there are
+/// strays then.
 #[derive(Drop)]
 pub struct Directory<N: Naming> {
     alloc: Global,
     followed: Followed,
     has_strays: bool,
-    listings: BTreeMap<RankedJoin, Listing>,
+    listings: Listings,
     cells: u32,
-    spots: Vec<Spot<N>>,
-    free: Option<u32>,
-    /// How many uses of cells there were.
-    uses: u64,
-    /// Of each number, after how many uses its cell was last used, with that use.
-    last_uses: Vec<u64>,
+    spots: Spots<N>,
+    uses: Uses,
 }
 
-impl Listing {
-    /// No ranges, of the table of this one.
-    fn new(alloc: Global, range: &Range) -> Result<Listing, OutOfMemory> {
-        let table = String::from_str(alloc, range.table())?;
-        Ok(Listing {
-            table,
-            ranges: RangeSet::new(alloc),
-        })
-    }
+impl<N: Naming> Model for Directory<N> {
+    ghost use Rattle.shared_cells.specs.Directories.{DirectoryView, IsDirectory, directory_of};
 
-    /// Gives the range the cell with this number, and says whether it did: it does not where the range is empty or has
-    /// something in common with one that has a cell.
-    ///
-    /// On `OutOfMemory` the ranges are those that were.
-    fn insert(&mut self, range: &Range, id: u32) -> Result<bool, OutOfMemory> {
-        if range.table() != self.table.as_str() {
-            return Ok(false);
-        }
-        let mut pieces = self.ranges.cover(range)?;
-        if pieces.len() != 1 {
-            return Ok(false);
-        }
-        match pieces.pop() {
-            Some(Piece::Gap(gap)) => {
-                self.ranges.insert(gap, id)?;
-                Ok(true)
-            }
-            _ => Ok(false),
-        }
-    }
+    ghost Value = { DirectoryView };
 
-    /// Takes out the range that has these bounds, if it is there. It takes no memory.
-    fn remove(&mut self, range: &Range) {
-        self.ranges.remove(range);
-    }
+    ghost view = { λ d. directory_of d.spots d.listings };
+
+    ghost invariant = { λ d. IsDirectory d.spots d.listings };
 }
 
-/// The range as one part that no cell has.
+/// Gives the range as one part that no cell has.
 fn whole<N: Naming>(alloc: Global, range: &Range) -> Result<Vec<Part<N>>, OutOfMemory>
-    requires { is_open range.now ≡ true }
-    ensures { IfOk result (λ parts. JoinTo range.now (map (λ part. part.range) parts.items)) }
+    ensures range { IfOk result (λ parts. map (λ part. part.range) parts.items ≡ range.now ∷ []) }
+    ensures one { IfOk result (λ parts. map (λ part. numbered part.range part.cell) parts.items ≡ one_gap range.now) }
 {
     let mut parts = Vec::with_capacity(alloc, 1)?;
     parts.push(Part {
@@ -124,49 +75,89 @@ fn whole<N: Naming>(alloc: Global, range: &Range) -> Result<Vec<Part<N>>, OutOfM
     Ok(parts)
 }
 
+/// Gives a range of the join a cell for its rank, and answers with the cell's number. It gives none where each number has a cell,
+/// or where the range is empty or has something in common with one that has a cell for them.
+///
+/// On `OutOfMemory` nothing changes.
+fn give_in<N: Naming>(
+    alloc: Global,
+    listings: &mut Listings,
+    spots: &mut Spots<N>,
+    join: RankedJoin,
+    range: &Range,
+) -> Result<Option<u32>, OutOfMemory>
+    ensures given { IfOk result
+        (GivesCell join range.now (directory_of spots.old listings.old) (directory_of spots.new listings.new)) }
+    ensures err { OnErr result (IsSame (directory_of spots.old listings.old) (directory_of spots.new listings.new)) }
+{
+    let Some(id) = spots.next_free() else {
+        return Ok(None);
+    };
+    let place = range.copy()?;
+    let own = range.copy()?;
+    let shared: SharedCell<N> = Arc::new(alloc, Mutex::new(None))?;
+    let is_listed = listings.insert(join, range, id)?;
+    if !is_listed {
+        return Ok(None);
+    }
+    if !spots.put_cell(id, join, place, own, shared) {
+        listings.remove(join, range);
+        return Ok(None);
+    }
+    Ok(Some(id))
+}
+
+/// Takes the cell with a number out, if there is one, and its range off the list.
+fn take_in<N: Naming>(
+    listings: &mut Listings,
+    spots: &mut Spots<N>,
+    id: u32,
+) -> Option<SharedCell<N>>
+    ensures { MatchOption result (NoneIsLetGo id (directory_of spots.old listings.old) (directory_of spots.new listings.new))
+        (λ _. IsLetGo id (directory_of spots.old listings.old) (directory_of spots.new listings.new)) }
+{
+    let Some(out) = spots.take_out(id) else {
+        return None;
+    };
+    listings.remove(out.join, &out.range);
+    Some(out.cell)
+}
+
 impl<N: Naming> Directory<N> {
-    /// A number for each pass, from 0 up, none of which has a cell. Linear in the passes.
+    /// Makes a number for each pass, from 0 up, none of which has a cell. Linear in the passes.
     pub fn new(alloc: Global, passes: Vec<Pass>) -> Result<Directory<N>, OutOfMemory>
         requires few { length passes.items ≤ 65536 }
         requires same_history { All (λ pass. pass.history ≡ N.history) passes.items }
+        ensures { IfOk result (λ directory. directory ≡ directory_of (replicate (length passes.items) free) []) }
     {
         let cells = passes.len() as u32;
-        let mut spots = Vec::with_capacity(alloc, passes.len())?;
-        let mut free = None;
-        for pass in passes {
-            let number = spots.len() as u32;
-            spots.push(Spot::Free(IdlePass::new(pass), free))?;
-            free = Some(number);
-        }
+        let spots = Spots::new(alloc, passes)?;
+        let uses = Uses::new(alloc, cells)?;
+        let listings = Listings::new(alloc);
         Ok(Directory {
             alloc,
             followed: Followed::new(alloc),
             has_strays: false,
-            listings: BTreeMap::new(alloc),
+            listings,
             cells,
             spots,
-            free,
-            uses: 0,
-            last_uses: vec![in alloc; 0; cells as usize]?,
+            uses,
         })
     }
 
-    /// The pieces of a range, in order: what it has in common with ranges of the join that have a cell for its rank, and the
-    /// gaps.
+    /// Gives the pieces of a range, in order: what it has in common with ranges of the join that have a cell for its rank, which
+    /// lies within the place that this cell keeps, and the gaps.
     fn pieces(&self, join: RankedJoin, range: &Range) -> Result<Vec<Piece<u32>>, OutOfMemory>
-        ensures { IfOk result (λ pieces. JoinPieces range.now (ranges_of pieces.items)) }
+        ensures pieces { IfOk result (λ pieces. ArePieces range.now (listed_at self.now.listed join) pieces.items) }
+        ensures apart { are_apart (listed_at self.now.listed join) ≡ true }
+        ensures places { IfOk result (λ pieces. (id : ℕ) (part : Bounds) →
+            Contains (kept_of pieces.items) (part, id) → LiesInPlace (place_at self.now.spots) id join part) }
     {
-        match self.listings.get(&join) {
-            Some(listing) => listing.ranges.cover(range),
-            None => {
-                let none: RangeSet<u32> = RangeSet::new(self.alloc);
-                none.cover(range)
-            }
-        }
+        self.listings.cover(join, range)
     }
 
-    /// Whether a cell may be of a join that is not among these, or has another rank there, and these are no earlier ones than
-    /// those that are followed. It compares two numbers.
+    /// Says whether a cell may be of a join that is not among these, or has another rank there, and these are no earlier ones
+    /// than those that are followed. It compares two numbers.
     fn is_behind(&self, joins: &JoinSet) -> bool {
         let changed = joins.changed_at();
         let followed = self.followed.changed_at();
@@ -177,24 +168,26 @@ impl<N: Naming> Directory<N> {
     /// of the cells that are of none of them with its rank. No range of these has a cell any more.
     ///
     /// It compares two numbers, and only where it follows the joins searches for each cell. On `OutOfMemory` nothing changes.
-    pub fn follow(&mut self, joins: &JoinSet) -> Result<Vec<u32>, OutOfMemory> {
+    pub fn follow(&mut self, joins: &JoinSet) -> Result<Vec<u32>, OutOfMemory>
+        ensures { self.new.spots ≡ self.old.spots }
+    {
         if !self.is_behind(joins) {
             return Ok(Vec::new(self.alloc));
         }
         let followed = Followed::of(self.alloc, joins)?;
         let left = self.left_by(&followed)?;
-        self.listings.retain(|join, _| followed.has(*join));
+        self.listings.keep_followed(&followed);
         self.followed = followed;
         self.has_strays = false;
         Ok(left)
     }
 
-    /// The numbers of the cells whose joins are not followed with their ranks.
+    /// Gives the numbers of the cells whose joins are not followed with their ranks.
     fn left_by(&self, followed: &Followed) -> Result<Vec<u32>, OutOfMemory> {
         let mut left = Vec::new(self.alloc);
         for id in 0..self.cells {
-            if let Some(Spot::Taken(join, _, _)) = self.spots.get(id as usize)
-                && !followed.has(*join)
+            if let Some(join) = self.spots.join_at(id)
+                && !followed.has(join)
             {
                 left.push(id)?;
             }
@@ -202,9 +195,8 @@ impl<N: Naming> Directory<N> {
         Ok(left)
     }
 
-    /// The range in parts, in order, each with the cell that has it for the join and its rank, where one does. To be kept, each
-    /// gap between them is given a cell, while there is a number without one. A range in very many parts is one part without a
-    /// cell.
+    /// Gives the range in parts, in order, each with the cell in whose place it lies, where there is one. To be kept, each gap
+    /// between them is given a cell, while there is a number without one. A range in very many parts is one part without a cell.
     ///
     /// It takes two searches, and for each part that is given a cell a few more. On `OutOfMemory` some gaps may have been given
     /// cells.
@@ -214,7 +206,21 @@ impl<N: Naming> Directory<N> {
         range: &Range,
         keep: bool,
     ) -> Result<Vec<Part<N>>, OutOfMemory>
-        ensures { IfOk result (λ parts. JoinTo range.now (map (λ part. part.range) parts.items)) }
+        ensures join { IfOk result (λ parts. JoinTo range.now (map (λ part. part.range) parts.items)) }
+        ensures kept { IfOk result (λ parts. (id : ℕ) (part : Bounds) →
+            Contains (map (λ p. numbered p.range p.cell) parts.items) (record { range = part; cell = Some id }) →
+            LiesInPlace (place_at self.new.spots) id join part) }
+        ensures gaps { IfOk result (λ parts. (part : Bounds) →
+            Contains (map (λ p. numbered p.range p.cell) parts.items) (record { range = part; cell = None }) →
+            (part ≡ range.now) ⊎ (is_free (listed_at self.old.listed join) part ≡ true)) }
+        ensures whole { IfOk result (λ parts. (id : ℕ) (place : Bounds) → is_open range.now ≡ true →
+            Contains (listed_at self.old.listed join) (place, id) → IsWithin range.now place →
+            map (λ p. numbered p.range p.cell) parts.items ≡ one_part range.now id) }
+        ensures none { IfOk result (λ parts. is_open range.now ≡ true →
+            is_free (listed_at self.old.listed join) range.now ≡ true →
+            map (λ part. part.range) parts.items ≡ range.now ∷ []) }
+        ensures given { GivesParts join range.now self.old self.new }
+        ensures pulled { keep ≡ false → self.new ≡ self.old }
     {
         let pieces = self.pieces(join, range)?;
         if are_too_many(pieces.len(), range) {
@@ -227,38 +233,62 @@ impl<N: Naming> Directory<N> {
         Ok(parts)
     }
 
-    /// A piece as a part. A gap that is to be kept is given a cell, if there is a number without one.
+    /// Gives a piece as a part. A gap that is to be kept is given a cell, if there is a number without one.
+    ///
+    /// On `OutOfMemory` the gap may have been given the cell.
     fn part(
         &mut self,
         join: RankedJoin,
         piece: Piece<u32>,
         keep: bool,
     ) -> Result<Part<N>, OutOfMemory>
-        ensures { IfOk result (λ part. part.range ≡ range_of piece) }
+        requires { (id : ℕ) (range : Bounds) → piece ≡ Kept range id → LiesInPlace (place_at self.old.spots) id join range }
+        ensures made { IfOk result (λ part. IsMadeOf join self.new.spots piece (numbered part.range part.cell)) }
+        ensures given { GivesParts join (range_of piece) self.old self.new }
+        ensures pulled { keep ≡ false → self.new ≡ self.old }
     {
         match piece {
-            Piece::Kept(range, id) => {
-                self.note_use(id);
-                let cell = self.cell(id)?;
-                Ok(Part { range, cell })
-            }
-            Piece::Gap(range) => {
-                let cell = if keep {
-                    self.give_cell(join, &range)?
-                } else {
-                    None
-                };
-                Ok(Part { range, cell })
-            }
+            Piece::Kept(range, id) => self.kept_part(range, id),
+            Piece::Gap(range) => self.gap_part(join, range, keep),
         }
     }
 
-    /// The cell with a number, with this number, if there is one. It takes constant time.
-    pub fn cell(&self, id: u32) -> Result<Option<(u32, SharedCell<N>)>, OutOfMemory> {
-        match self.spots.get(id as usize) {
-            Some(Spot::Taken(_, _, cell)) => Ok(Some((id, Arc::try_clone(cell)?))),
-            _ => Ok(None),
+    /// Gives a range as a part with the cell that has the number, if there is one, which is used now.
+    fn kept_part(&mut self, range: Range, id: u32) -> Result<Part<N>, OutOfMemory>
+        ensures range { IfOk result (λ part. part.range ≡ range) }
+        ensures cell { IfOk result (λ part. number_of part.cell ≡ number_at self.old.spots id) }
+        ensures same { self.new ≡ self.old }
+    {
+        let cell = self.cell(id)?;
+        self.uses.note(id);
+        Ok(Part { range, cell })
+    }
+
+    /// Gives a gap as a part. To be kept it is given a cell, if there is a number without one.
+    ///
+    /// On `OutOfMemory` it may have been given the cell.
+    fn gap_part(
+        &mut self,
+        join: RankedJoin,
+        range: Range,
+        keep: bool,
+    ) -> Result<Part<N>, OutOfMemory>
+        ensures made { IfOk result (λ part. IsMadeOf join self.new.spots (Gap range) (numbered part.range part.cell)) }
+        ensures given { GivesParts join range self.old self.new }
+        ensures pulled { keep ≡ false → self.new ≡ self.old }
+    {
+        if !keep {
+            return Ok(Part { range, cell: None });
         }
+        let cell = self.give_cell(join, &range)?;
+        Ok(Part { range, cell })
+    }
+
+    /// Gives the cell with a number, and the number, if there is a cell. It takes constant time.
+    pub fn cell(&self, id: u32) -> Result<Option<(u32, SharedCell<N>)>, OutOfMemory>
+        ensures { IfOk result (λ found. number_of found ≡ number_at self.now.spots id) }
+    {
+        self.spots.cell(id)
     }
 
     /// Gives a range of the join a cell for its rank, if there is a number without one and no other cell for them has some of it.
@@ -268,134 +298,87 @@ impl<N: Naming> Directory<N> {
         &mut self,
         join: RankedJoin,
         range: &Range,
-    ) -> Result<Option<(u32, SharedCell<N>)>, OutOfMemory> {
-        let Some(id) = self.free else {
+    ) -> Result<Option<(u32, SharedCell<N>)>, OutOfMemory>
+        ensures kept { IfOk result (λ found. IfSome (number_of found) (λ id.
+            KeepsPlace (place_at self.new.spots) id join range.now)) }
+        ensures given { GivesParts join range.now self.old self.new }
+    {
+        let given = self.give_place(join, range)?;
+        let Some(id) = given else {
             return Ok(None);
         };
-        let place = range.copy()?;
-        let own = range.copy()?;
-        let shared: SharedCell<N> = Arc::new(self.alloc, Mutex::new(None))?;
-        if !self.list(join, range, id)? {
-            return Ok(None);
-        }
-        if !self.put_cell(id, join, place, own, shared) {
-            self.unlist(join, range);
-            return Ok(None);
-        }
-        if !self.followed.has(join) {
-            self.has_strays = true;
-        }
-        self.note_use(id);
+        self.note_given(join, id);
         self.cell(id)
     }
 
-    /// Takes note that the cell with a number is used now.
-    fn note_use(&mut self, id: u32) {
-        self.uses = self.uses.saturating_add(1);
-        if let Some(last) = self.last_uses.get_mut(id as usize) {
-            *last = self.uses;
+    /// Gives a range of the join a cell for its rank, and answers with the cell's number. It gives none where each number has a
+    /// cell, or where the range is empty or has something in common with one that has a cell for them.
+    ///
+    /// On `OutOfMemory` nothing changes.
+    fn give_place(&mut self, join: RankedJoin, range: &Range) -> Result<Option<u32>, OutOfMemory>
+        ensures given { IfOk result (GivesCell join range.now self.old self.new) }
+        ensures err { OnErr result (IsSame self.old self.new) }
+    {
+        give_in(self.alloc, &mut self.listings, &mut self.spots, join, range)
+    }
+
+    /// Takes note that a cell was given to a join, and is used now.
+    fn note_given(&mut self, join: RankedJoin, id: u32)
+        ensures { self.new ≡ self.old }
+    {
+        let is_followed = self.followed.has(join);
+        self.has_strays = self.has_strays || !is_followed;
+        self.uses.note(id);
+    }
+
+    /// Tells after how many uses the cell with a number was last used, with that use, if there is one. It takes constant time.
+    fn last_use(&self, id: u32) -> Option<u64> {
+        match self.spots.join_at(id) {
+            Some(_) => self.uses.last(id),
+            None => None,
         }
     }
 
-    /// The use that is half way from the last one of the least recently used cell to the last one of all. By then this cell at
-    /// least was last used. Linear in the numbers of cells, and it takes no memory.
+    /// Gives the use that is half way from the last one of the least recently used cell to the last one of all. By then this cell
+    /// at least was last used. Linear in the numbers of cells, and it takes no memory.
     pub fn older_half(&self) -> u64 {
-        let mut oldest = self.uses;
-        for (spot, last) in self.spots.iter().zip(self.last_uses.iter()) {
-            if matches!(spot, Spot::Taken(_, _, _)) && *last < oldest {
-                oldest = *last;
+        let mut oldest = self.uses.count();
+        for id in 0..self.cells {
+            if let Some(last) = self.last_use(id)
+                && last < oldest
+            {
+                oldest = last;
             }
         }
-        let span = self.uses.saturating_sub(oldest);
+        let span = self.uses.count().saturating_sub(oldest);
         oldest.saturating_add(span / 2)
     }
 
-    /// Whether there is a cell with the number, which was not used after so many uses. It takes constant time, and no memory.
+    /// Says whether there is a cell with the number, which was not used after so many uses. It takes constant time, and no
+    /// memory.
     pub fn was_last_used_by(&self, id: u32, until: u64) -> bool {
-        match (self.spots.get(id as usize), self.last_uses.get(id as usize)) {
-            (Some(Spot::Taken(_, _, _)), Some(last)) => *last <= until,
-            _ => false,
-        }
-    }
-
-    /// Puts a cell for a range of the join and its rank at a number that has none, with the pass that waits there, and says
-    /// whether it did: it does not where the number has a cell, or where another thread has seen the lock, behind which the
-    /// cell is to lie. Then nothing changes.
-    fn put_cell(
-        &mut self,
-        id: u32,
-        join: RankedJoin,
-        place: Range,
-        own: Range,
-        mut shared: SharedCell<N>,
-    ) -> bool {
-        let Some(spot) = self.spots.get_mut(id as usize) else {
-            return false;
-        };
-        let Some(lock) = Arc::get_mut(&mut shared) else {
-            return false;
-        };
-        match mem::replace(spot, Spot::Leaving) {
-            Spot::Free(idle, next) => {
-                *lock.get_mut() = Some(Cell::new(self.alloc, join, own, idle.pass));
-                *spot = Spot::Taken(join, place, shared);
-                self.free = next;
-                true
-            }
-            other => {
-                *spot = other;
-                false
-            }
-        }
-    }
-
-    /// Takes the range of the join with its rank off the list, if it is there. It takes two searches, and no memory.
-    fn unlist(&mut self, join: RankedJoin, range: &Range) {
-        if let Some(listing) = self.listings.get_mut(&join) {
-            listing.remove(range);
-        }
-    }
-
-    /// Lists the range of the join with its rank, with the number of its cell, and says whether it did.
-    ///
-    /// On `OutOfMemory` the ranges are those that were.
-    fn list(&mut self, join: RankedJoin, range: &Range, id: u32) -> Result<bool, OutOfMemory> {
-        match self.listings.get_mut(&join) {
-            Some(listing) => listing.insert(range, id),
-            None => {
-                let mut listing = Listing::new(self.alloc, range)?;
-                let is_listed = listing.insert(range, id)?;
-                self.listings.insert(join, listing)?;
-                Ok(is_listed)
-            }
+        match self.last_use(id) {
+            Some(last) => last <= until,
+            None => false,
         }
     }
 
     /// Takes the cell with a number out, if there is one: its range has no cell then, and the number waits for its pass. It
     /// takes a few searches, and no memory.
-    pub fn take_out(&mut self, id: u32) -> Option<SharedCell<N>> {
-        let spot = self.spots.get_mut(id as usize)?;
-        if !matches!(spot, Spot::Taken(_, _, _)) {
-            return None;
-        }
-        let Spot::Taken(join, range, cell) = mem::replace(spot, Spot::Leaving) else {
-            unreachable!()
-        };
-        self.unlist(join, &range);
-        Some(cell)
+    pub fn take_out(&mut self, id: u32) -> Option<SharedCell<N>>
+        ensures { MatchOption result (NoneIsLetGo id self.old self.new) (λ _. IsLetGo id self.old self.new) }
+    {
+        take_in(&mut self.listings, &mut self.spots, id)
     }
 
-    /// Gives a number that waits for it back the pass of the cell that was evicted: it can have another cell. It takes constant
-    /// time, and no memory.
+    /// Gives a number that waits for it back the pass of the cell that was evicted: it can have another cell. Where the number does
+    /// not wait nothing changes, and the pass is let go. It takes constant time, and no memory.
     pub fn give_back(&mut self, id: u32, pass: Pass)
         requires { pass.history ≡ N.history }
+        ensures back { slice_get self.old.spots id ≡ Some leaving →
+            self.new ≡ directory_of (slice_set self.old.spots id free) self.old.listed }
+        ensures same { (slice_get self.old.spots id ≡ Some leaving → ⊥) → self.new ≡ self.old }
     {
-        let next = self.free;
-        if let Some(spot) = self.spots.get_mut(id as usize)
-            && matches!(spot, Spot::Leaving)
-        {
-            *spot = Spot::Free(IdlePass::new(pass), next);
-            self.free = Some(id);
-        }
+        self.spots.give_back(id, pass);
     }
 }

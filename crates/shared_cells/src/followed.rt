@@ -1,4 +1,6 @@
 // The joins that cells are given to.
+ghost use Rattle.std.specs.Prelude.{◌≡◌};
+ghost use Rattle.shared_cells.specs.Listings.{has_join};
 
 use crate::ranked_join::RankedJoin;
 use join_set::JoinSet;
@@ -43,7 +45,12 @@ impl Followed {
     }
 
     /// Says whether the join is one of these with its rank, or was declared after these stood. At most one search.
-    pub fn has(&self, join: RankedJoin) -> bool {
-        self.changed < join.at || self.joins.contains(&join)
+    pub fn has(&self, join: RankedJoin) -> bool
+        ensures { result ≡ has_join self.now join }
+    {
+        if self.changed < join.at {
+            return true;
+        }
+        self.joins.contains(&join)
     }
 }

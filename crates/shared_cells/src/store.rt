@@ -3,8 +3,9 @@ ghost use Rattle.std.specs.Prelude.{◌≡◌, ◌≤◌, All, length, map, IfOk
 ghost use Rattle.layering.specs.Parts.{JoinTo};
 
 use crate::book::CellBook;
-use crate::directory::{Directory, Part, SharedCell};
+use crate::directory::{Directory, Part};
 use crate::ranked_join::RankedJoin;
+use crate::spots::SharedCell;
 use base_shards::{BaseShards, Naming};
 use join_set::JoinSet;
 use key_space::Range;
@@ -98,15 +99,24 @@ impl<N: Naming> SharedCells<N> {
         }
     }
 
-    /// Tells the book of the cells that were used, in order, and evicts those that have to go. Of a use for which there is no
-    /// memory it is not told. No lock of a cell or of a part may be held, as that of each victim and those of all parts are
-    /// taken. While another thread has the directory, the book, a victim or a part, this one sleeps.
+    /// Tells the book of the cells that were used, in order, and evicts those that have to go. A cell that could not keep what it
+    /// was used for is evicted, so that other ranges may have its place. Of a use for which there is no memory the book is not
+    /// told. No lock of a cell or of a part may be held, as that of each victim and those of all parts are taken. While another
+    /// thread has the directory, the book, a victim or a part, this one sleeps.
     pub fn settle<W: Wait>(&self, rt: &W, shards: &BaseShards<N>, used: &[Use]) {
         for one in used {
-            let victims = self.book.lock(rt).touch(one.id, one.rows);
-            if let Ok(victims) = victims {
-                self.free_all(rt, shards, victims.as_slice());
+            match one.rows {
+                Some(rows) => self.touch(rt, shards, one.id, rows),
+                None => self.evict(rt, shards, one.id),
             }
+        }
+    }
+
+    /// Tells the book that a cell with so many rows was used, and evicts the cells that have to go.
+    fn touch<W: Wait>(&self, rt: &W, shards: &BaseShards<N>, id: u32, rows: u64) {
+        let victims = self.book.lock(rt).touch(id, rows);
+        if let Ok(victims) = victims {
+            self.free_all(rt, shards, victims.as_slice());
         }
     }
 

@@ -1,5 +1,5 @@
--- What a join gives over longer histories.
-use Rattle.std.proofs.Common.{◌≡◌, ℕ, ◌≤◌, length, take, ◌∙◌}
+-- What a join gives over longer histories, and how a reader goes on while it is asked what changed.
+use Rattle.std.proofs.Common.{◌≡◌, ℕ, ◌≤◌, length, take, sym, ◌∙◌, subst}
 use Rattle.semantics.specs.Texts.{Table, Range, pairs_within}
 use Rattle.semantics.specs.Joins.{Join}
 use Rattle.semantics.specs.Histories.{History, IsPrefix, joins_of}
@@ -7,6 +7,8 @@ use Rattle.semantics.specs.Outputs.{out}
 use Rattle.semantics.specs.States.{below}
 use Rattle.growing_history.specs.Entered.{HasRank}
 use Rattle.growing_history.proofs.PrefixLemmas.{take_prefix}
+use Rattle.join_eval.specs.Moves.{Moves}
+use Rattle.join_eval.proofs.MovesLemmas.{moves_trans}
 use Rattle.cell_slots.specs.Slots.{IsDeclared, IsOutput, StandsAs}
 use Rattle.cell_slots.proofs.DeclaredLemmas.{declared_over_longer, declared_once, rank_declared, stands_over}
 
@@ -22,3 +24,11 @@ pub output_alone : (h more : History) (p at rank : ℕ) (range part : Range) (k 
     pairs ≡ pairs_within range (out k (below (take p more) rank)) → IsOutput h p at rank part pairs
 output_alone h more p at rank range part k pairs less prefix declared same is = λ j stands.
     is ∙ (λ i. pairs_within (same i) (out (declared_once h at k j declared stands.declared i) (below (take_prefix p h more less prefix i) rank)))
+
+-- ---- how a reader goes on
+
+-- a reader that a cell began to work with, told by, took note of that, and was followed by
+pub moves_told : {S : Type 0} (list : S → History) (floor : S → ℕ) (went : S → S → Type 0) (a begun told noted followed : S) → (went a told → went told noted → went a noted) → begun ≡ a → Moves list floor went begun told →
+    Moves list floor went told noted → followed ≡ noted → Moves list floor went a followed
+moves_told list floor went a begun told noted followed trans same first next last =
+    subst (λ r. Moves list floor went a r) (sym last) (moves_trans list floor went a told noted trans (subst (λ r. Moves list floor went r told) same first) next)

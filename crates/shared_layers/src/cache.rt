@@ -1,7 +1,7 @@
 // The cells that threads share, as the cache of a layer.
 
 use crate::layer::Room;
-use crate::part::{read_part, tell_part};
+use crate::part::{changes_of_part, read_part};
 use base_shards::Naming;
 use join_eval::{Between, Changed};
 use join_types::Pair;
@@ -105,6 +105,6 @@ impl<'a, N: Naming, W: Wait, G: Gate, R: Stacked<N>> RangeCache<R> for Room<'a, 
         reader: &mut R,
         steps: &mut Steps<L>,
     ) -> Result<Changed, OutOfMemory> {
-        tell_part(self, query, since, part, reader, steps)
+        changes_of_part(self, query, since, part, reader, steps)
     }
 }

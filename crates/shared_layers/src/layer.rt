@@ -28,6 +28,8 @@ pub struct Room<'a, N: Naming, W, G> {
     pub gate: &'a G,
     /// The cells.
     pub cells: &'a SharedCells<N>,
+    /// How many needs a kept range may have at most.
+    pub most: u64,
 }
 
 /// Reads one rank more than the reader that it stands on, up to 8, and keeps what the joins of that rank give in cells.
@@ -49,8 +51,6 @@ impl<'a, N: Naming, W: Wait, G: Gate, R: Stacked<N>> Reader for Layer<'a, N, W, 
     ghost went = { λ a b. R.went a.inner b.inner };
 
     ghost spends = { λ _ _ _ _ _ _. Unit {0} };
-
-    ghost tells = { λ _ _ _ _ _ _ _. Unit {0} };
 
     ghost top_small = { min_small (R.top + 1) };
 
@@ -128,7 +128,7 @@ impl<'a, N: Naming, W: Wait, G: Gate, R: Stacked<N>> Stacked<N> for Layer<'a, N,
         self.inner.start_noting()
     }
 
-    fn follow_noted(&mut self, id: u32, since: usize, followed: &mut Followed) {
+    fn follow_noted(&mut self, id: u32, since: Option<usize>, followed: &mut Followed) {
         self.inner.follow_noted(id, since, followed);
     }
 }

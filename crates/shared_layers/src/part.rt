@@ -1,4 +1,4 @@
-// One part of a range, from the cell that has it, which threads share, or from a kept range of its own.
+// One part of a range, from the cell that has it, which threads share, or with nothing kept.
 ghost use Rattle.std.specs.Prelude.{◌≡◌, ◌+◌, ◌≤◌, length, IfOk, IfSome};
 ghost use Rattle.semantics.specs.Joins.{Join as PlainJoin};
 ghost use Rattle.growing_history.specs.Entered.{HasEntered};
@@ -8,20 +8,20 @@ ghost use Rattle.rank_layers.specs.Telling.{TellsJoin};
 
 use crate::layer::Room;
 use base_shards::Naming;
-use join_eval::Changed;
+use join_eval::{Changed, KeepFault, TooMany};
 use join_types::Pair;
 use key_space::Range;
 use out_of_memory::OutOfMemory;
 use pq_io::Gate;
 use range_serving::serve_alone;
 use rank_layers::Query;
-use shared_cells::Part;
+use shared_cells::{Cell, Part};
 use shared_reader::{Stacked, Use};
 use std::sync::Wait;
 use std::sync::ledger::Ledger;
 use steps::Steps;
 
-/// What the join gives in the part, from a kept range of its own that is let go. The gate is passed before it is filled.
+/// What the join gives in the part, of which nothing is kept. The gate is passed before it is evaluated.
 fn read_alone<N: Naming, W, G: Gate, R: Stacked<N>, L: Ledger>(
     room: &Room<'_, N, W, G>,
     query: Query,
@@ -46,10 +46,38 @@ fn read_alone<N: Naming, W, G: Gate, R: Stacked<N>, L: Ledger>(
     )
 }
 
+/// How many rows the cell holds after it was asked for a part. None where it gave pairs and keeps nothing: its range takes more
+/// needs than may be kept.
+fn rows_kept<N: Naming>(
+    found: &Result<Option<Vec<Pair>>, OutOfMemory>,
+    cell: &Cell<N>,
+) -> Option<u64> {
+    let gave = matches!(found, Ok(Some(_)));
+    if gave && cell.position().is_none() {
+        return None;
+    }
+    Some(cell.rows())
+}
+
+/// How many rows the cell holds after it was asked what changed. None where its range takes more needs than may be kept.
+fn rows_told<N: Naming>(told: &Result<Changed, KeepFault<TooMany>>, cell: &Cell<N>) -> Option<u64> {
+    if matches!(told, Err(KeepFault::TooWide(_))) {
+        return None;
+    }
+    Some(cell.rows())
+}
+
+/// From which of the noted ranges on a cell follows them, where they were noted for it since so many were. None where it could not
+/// keep what they gave: then it follows none of them.
+fn followed_since(since: usize, rows: Option<u64>) -> Option<usize> {
+    let _kept = rows?;
+    Some(since)
+}
+
 /// What the join gives in the part, from the cell that has it. None where no cell has it any more, where the cell is for another
 /// join or for another rank of it or has not the whole part, and where what it keeps stands past the position. The cell follows
-/// the ranges of base pairs that were read for it, and the reader takes note that it was used. While another thread has it,
-/// this one sleeps.
+/// the ranges of base pairs that were read for it, unless it could not keep what they gave, and the reader takes note that it was
+/// used. While another thread has it, this one sleeps.
 ///
 /// While this one has it, the reader below reads for it only where the cell is for the rank that is asked for, which is the
 /// reader's own top rank: so only cells of lower ranks are asked for under its lock.
@@ -77,17 +105,23 @@ fn read_cell<N: Naming, W: Wait, G: Gate, R: Stacked<N>, L: Ledger>(
         return Ok(None);
     };
     let since = reader.start_noting();
-    let found = own.serve(room.alloc, query, &part.range, room.gate, reader, steps);
-    own.follow(*id, since, reader);
-    reader.note_use(Use {
-        id: *id,
-        rows: own.rows(),
-    });
+    let found = own.serve(
+        room.alloc,
+        query,
+        &part.range,
+        room.most,
+        room.gate,
+        reader,
+        steps,
+    );
+    let rows = rows_kept(&found, own);
+    own.follow(*id, followed_since(since, rows), reader);
+    reader.note_use(Use { id: *id, rows });
     found
 }
 
-/// Reads what the join gives in the part: from the cell that has it, while there is the cell and what it keeps does not stand past the
-/// position, and otherwise from a kept range of its own.
+/// Reads what the join gives in the part: from the cell that has it, while there is the cell and what it keeps does not stand past
+/// the position, and otherwise with nothing kept.
 pub fn read_part<N: Naming, W: Wait, G: Gate, R: Stacked<N>, L: Ledger>(
     room: &Room<'_, N, W, G>,
     query: Query,
@@ -112,15 +146,15 @@ pub fn read_part<N: Naming, W: Wait, G: Gate, R: Stacked<N>, L: Ledger>(
 }
 
 /// Says what changed in the join's output in the part since a position, as the cell that has the part says. The cell follows the
-/// ranges of base pairs that were read for it, and the reader takes note that it told. While another thread has it, this one
-/// sleeps.
+/// ranges of base pairs that were read for it, unless it could not keep what they gave, and the reader takes note that it told.
+/// While another thread has it, this one sleeps.
 ///
 /// While this one has it, the reader below reads for it only where the cell is for the rank that is asked for, which is the
 /// reader's own top rank: so only cells of lower ranks are asked for under its lock.
 ///
-/// `All` comes where no cell has the part any more, and where what the cell keeps does not know it once it stands at the later
-/// position.
-pub fn tell_part<N: Naming, W: Wait, G: Gate, R: Stacked<N>, L: Ledger>(
+/// `All` comes where no cell has the part any more, where what the cell keeps does not know it once it stands at the later
+/// position, and where it was filled instead and its range takes more needs than may be kept: then nothing is kept.
+pub fn changes_of_part<N: Naming, W: Wait, G: Gate, R: Stacked<N>, L: Ledger>(
     room: &Room<'_, N, W, G>,
     query: Query,
     since: u64,
@@ -146,11 +180,21 @@ pub fn tell_part<N: Naming, W: Wait, G: Gate, R: Stacked<N>, L: Ledger>(
         return Ok(Changed::All);
     };
     let noted = reader.start_noting();
-    let told = own.tell(room.alloc, query, since, &part.range, reader, steps);
-    reader.note_told(Use {
-        id: *id,
-        rows: own.rows(),
-    });
-    own.follow(*id, noted, reader);
-    told
+    let told = own.changes_since(
+        room.alloc,
+        query,
+        since,
+        &part.range,
+        room.most,
+        reader,
+        steps,
+    );
+    let rows = rows_told(&told, own);
+    reader.note_told(Use { id: *id, rows });
+    own.follow(*id, followed_since(noted, rows), reader);
+    match told {
+        Ok(changed) => Ok(changed),
+        Err(KeepFault::TooWide(_many)) => Ok(Changed::All),
+        Err(KeepFault::OutOfMemory(memory)) => Err(memory),
+    }
 }

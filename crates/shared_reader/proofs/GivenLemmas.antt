@@ -1,5 +1,6 @@
 -- The joins that a reader is given, and how it reads on.
 use Rattle.std.proofs.Common.{◌≡◌, ℕ, ◌-◌, ◌≤◌, take, refl, sym, ap, ◌∙◌, subst, arith}
+use Rattle.growing_history.proofs.PrefixLemmas.{take_prefix}
 use Rattle.join_set.specs.Sets.{Joins, AreJoins}
 use Rattle.write_history.specs.Entries.{IsRecorded}
 use Rattle.write_history.specs.Marks.{MayAsk, before, reach}
@@ -7,7 +8,7 @@ use Rattle.write_history.specs.Passes.{HistoryId, PassView}
 use Rattle.write_history.specs.declared.known.Mark.TheVariants.{Pinned}
 use Rattle.write_history.proofs.Marking.{before_is}
 use Rattle.base_shards.specs.Reading.{ReachesBack, ReadsOn}
-use Rattle.base_shards.proofs.ReadingLemmas.{reads_on-refl}
+use Rattle.base_shards.proofs.ReadingLemmas.{reads_on-refl, reaches_still, sees_still}
 use Rattle.join_eval.specs.Moves.{Moves}
 use Rattle.shared_reader.specs.Readable.{IsReadable}
 
@@ -15,6 +16,18 @@ use Rattle.shared_reader.specs.Readable.{IsReadable}
 pub given_joins : (name history : HistoryId) (joins : Joins) (own p : ℕ) (pass now : PassView) → IsReadable name history joins own pass → pass ≡ now → p ≡ own → AreJoins (reach now.mark) joins (take p now.view)
 given_joins name history joins own p pass now readable same at =
     subst (λ (v : PassView). AreJoins (reach v.mark) joins (take p v.view)) same (subst (λ n. AreJoins (reach pass.mark) joins (take n pass.view)) (sym at) readable.are_joins)
+
+-- what was so of a reader is so of one that has read on
+pub still_readable : (name history : HistoryId) (joins : Joins) (p : ℕ) (old new : PassView) → IsReadable name history joins p old → ReadsOn old new → IsReadable name history joins p new
+still_readable name history joins p old new readable on = record {
+  this = readable.this;
+  same_history = on.same_history ∙ readable.same_history;
+  recorded = on.recorded readable.recorded;
+  within = sees_still old new p on readable.within;
+  are_joins = subst (AreJoins (reach new.mark) joins) (sym (take_prefix p old.view new.view readable.within on.begins))
+      (subst (λ m. AreJoins (reach m) joins (take p old.view)) (sym on.same_mark) readable.are_joins);
+  pinned = reaches_still old new p on readable.pinned;
+}
 
 -- a pass that reads on, where the one that it was may have seen what it had
 pub reads_moves : (old now new : PassView) → IsRecorded old.writers old.view → old ≡ now → ReadsOn old new → Moves (λ (v : PassView). v.view) (λ v. reach v.mark) ReadsOn now new

@@ -1,3 +1,5 @@
 pub mod Readable
+pub mod Keeping
 pub mod Following
 pub mod Noting
+pub mod Known

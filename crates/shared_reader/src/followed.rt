@@ -11,7 +11,7 @@ use std::marker::Model;
 
 /// The ranges of base pairs that a cell follows, so that none is followed twice, nor one that lies in another: an advance of
 /// the cell asks for the same ranges again, and reads keys of them one by one. They stand in the order of their first
-/// bounds. Their texts are shared.
+/// bounds. Their long texts are shared.
 #[derive(Drop)]
 pub struct Followed {
     ranges: Vec<Range>,
@@ -26,9 +26,10 @@ impl Model for Followed {
     ghost view = { λ f. f.ranges.items };
 }
 
-/// Whether the second range begins at or before the first, and ends at or after it.
-fn is_within(range: &Range, other: &Range) -> bool
-    ensures { result ≡ true → IsWithin range.now other.now }
+/// Says whether the second range begins at or before the first, and ends at or after it. Linear in the bounds.
+pub fn is_within(range: &Range, other: &Range) -> bool
+    ensures yes { result ≡ true → IsWithin range.now other.now }
+    ensures no { IsWithin range.now other.now → result ≡ true }
 {
     other.lo() <= range.lo() && range.hi() <= other.hi()
 }

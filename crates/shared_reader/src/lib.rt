@@ -5,6 +5,7 @@
 #![tactic(auto)]
 
 pub mod followed;
+mod known;
 mod noted;
 pub mod reader;
 pub mod stacked;

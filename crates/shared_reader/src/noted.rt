@@ -6,8 +6,12 @@ use key_space::Range;
 use std::alloc::Global;
 use std::marker::Model;
 
+/// So many ranges are noted at most: ten times as many as a kept range may have needs with the default of `--rows`. A range that
+/// comes from more is right, and is not marked for the others.
+const MOST: usize = 1_048_576;
+
 /// The ranges of base pairs that were read since a cell is at work, in order, and how many cells are: at most eight, one in
-/// the work of another. While none is, none is noted. Their texts are shared.
+/// the work of another. While none is, none is noted. Their long texts are shared.
 #[derive(Drop)]
 pub struct Noted {
     cells: u32,
@@ -49,11 +53,14 @@ impl Noted {
         self.cells == 1
     }
 
-    /// Notes the range as the last, where a cell is at work and there is room. It takes constant time.
+    /// Notes the range as the last, where a cell is at work and there is room, and no more than 1,048,576. It takes constant time.
     pub fn note(&mut self, range: &Range)
         ensures { MayBeNoted self.old range.now self.new }
     {
         if self.cells == 0 {
+            return;
+        }
+        if self.ranges.len() >= MOST {
             return;
         }
         if let Ok(copy) = range.copy() {

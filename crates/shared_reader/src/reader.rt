@@ -1,7 +1,8 @@
 // The lowest reader of a history that threads share.
-ghost use Rattle.std.specs.Prelude.{◌≡◌, IfOk, Some};
+ghost use Rattle.std.specs.Prelude.{◌≡◌, ◌+◌, ◌≤◌, true, IfOk, Some, length};
 ghost use Rattle.std.proofs.Common.{rules};
-ghost use Rattle.semantics.specs.Joins.{Join as PlainJoin};
+ghost use Rattle.semantics.specs.Joins.{Join as PlainJoin, push};
+ghost use Rattle.growing_history.specs.Changes.{changed_keys};
 ghost use Rattle.write_history.specs.Marks.{reach};
 ghost use Rattle.base_reader.specs.Reaching.{IsJoinIn};
 ghost use Rattle.base_shards.specs.Reading.{ReadsOn};
@@ -9,6 +10,7 @@ ghost use Rattle.base_shards.proofs.ReadingLemmas.{reads_on-refl, reads_on-trans
 ghost use Rattle.shared_reader.specs.Readable.{IsReadable};
 
 use crate::followed::Followed;
+use crate::known::{KnownChanges, known_keys, known_of, most_known, table_to_look_at};
 use crate::noted::Noted;
 use crate::stacked::{Stacked, Use};
 use base_reader::BaseSource;
@@ -39,6 +41,16 @@ fn copy_of(alloc: Global, joins: &JoinSet, at: u64) -> Result<Join, OutOfMemory>
     }
 }
 
+/// Whether what a join gives is kept up to date.
+fn is_pushed(join: &Join) -> bool
+    ensures { result ≡ true → join.now.kind ≡ push }
+{
+    match join.kind {
+        Kind::Push => true,
+        Kind::Pull => false,
+    }
+}
+
 /// Adds a use as the last, in place of the one before where that is of the same cell. Where there is no room, the book keeps
 /// what it knew of the cell. Constant.
 fn add_use(uses: &mut Vec<Use>, used: Use) {
@@ -53,6 +65,9 @@ fn add_use(uses: &mut Vec<Use>, used: Use) {
 /// Reads the base pairs that no output hides, from the parts that threads share, with a pinned pass. It is made to read after one
 /// number of entries, and is given the joins after these; for every other position it takes the joins from the history. Its floor
 /// is where the pin reaches back to.
+///
+/// Who asks for the changes of many ranges of one table, one after another, is soon answered from the changes of the whole table,
+/// if these are not many, which it keeps at hand until it is asked for something else.
 #[derive(Drop)]
 pub struct SharedReader<'a, N: Naming, W> {
     alloc: Global,
@@ -65,6 +80,8 @@ pub struct SharedReader<'a, N: Naming, W> {
     floor: u64,
     used: Vec<Use>,
     noted: Noted,
+    known: Option<KnownChanges>,
+    questions: usize,
 }
 
 impl<'a, N: Naming, W> Model for SharedReader<'a, N, W> {
@@ -72,12 +89,13 @@ impl<'a, N: Naming, W> Model for SharedReader<'a, N, W> {
     ghost use Rattle.write_history.specs.Marks.{reach};
     ghost use Rattle.write_history.specs.Passes.{PassView};
     ghost use Rattle.shared_reader.specs.Readable.{IsReadable};
+    ghost use Rattle.shared_reader.specs.Known.{AreKnownIn};
 
     ghost Value = { PassView };
 
     ghost view = { λ r. r.pass };
 
-    ghost invariant = { λ r. IsReadable N.history r.history.now r.joins.now r.p r.pass × (r.floor ≡ reach r.pass.mark) };
+    ghost invariant = { λ r. IsReadable N.history r.history.now r.joins.now r.p r.pass × (r.floor ≡ reach r.pass.mark) × AreKnownIn r.known r.pass.view };
 }
 
 impl<'a, N: Naming, W> SharedReader<'a, N, W> {
@@ -108,6 +126,8 @@ impl<'a, N: Naming, W> SharedReader<'a, N, W> {
             floor,
             used: Vec::new(alloc),
             noted: Noted::new(alloc),
+            known: None,
+            questions: 0,
         }
     }
 
@@ -131,9 +151,62 @@ impl<'a, N: Naming, W: Wait> SharedReader<'a, N, W> {
     ) -> Result<(), OutOfMemory>
         ensures { self.new ≡ self.old }
     {
+        self.known = None;
         let fresh = followed.take_in(self.alloc, self.noted.since(since))?;
         self.shards
             .follow(self.rt, &mut self.pass, id, fresh.as_slice())
+    }
+
+    /// The keys of the range that are put or removed after the first q entries, up to the p-th, from the part that the range's
+    /// table is in. What was known is let go.
+    fn ask_changes<L: Ledger>(
+        &mut self,
+        q: u64,
+        p: u64,
+        range: &Range,
+        steps: &mut Steps<L>,
+    ) -> Result<Vec<Key>, OutOfMemory>
+        requires order { q ≤ p }
+        requires within { p ≤ length self.old.view }
+        requires above { reach self.old.mark ≤ q }
+        ensures reads_on { ReadsOn self.old self.new }
+        ensures exact { IfOk result (λ keys. keys.items ≡ changed_keys q p range.now self.old.view) }
+        ensures counted { steps.old ≤ steps.new }
+        ensures cost { IfOk result (λ keys. steps.new ≡ steps.old + 1 + length keys.items) }
+    {
+        self.known = None;
+        let ranges = slice::from_ref(range);
+        self.shards
+            .changed(self.rt, &mut self.pass, q, p, ranges, steps)
+    }
+
+    /// Looks at the changes of a table, and knows them from then on where they are no more than so many. What was known is let go.
+    fn look_at_table(&mut self, q: u64, p: u64, table: Range, most: usize)
+        requires order { q ≤ p }
+        requires within { p ≤ length self.old.view }
+        requires above { reach self.old.mark ≤ q }
+        ensures { ReadsOn self.old self.new }
+    {
+        self.known = None;
+        let found = self
+            .shards
+            .few_changed(self.rt, &mut self.pass, q, p, &table, most);
+        self.known = known_of(q, p, table, found);
+    }
+
+    /// Counts one question that was not answered from known changes. After so many in a row that it is worth it, it looks at the
+    /// changes of the range's whole table.
+    fn look_further(&mut self, q: u64, p: u64, range: &Range)
+        requires order { q ≤ p }
+        requires within { p ≤ length self.old.view }
+        requires above { reach self.old.mark ≤ q }
+        ensures { ReadsOn self.old self.new }
+    {
+        self.questions = self.questions.saturating_add(1);
+        let most = most_known(self.questions);
+        if let Some(table) = table_to_look_at(self.alloc, self.questions, range) {
+            self.look_at_table(q, p, table, most);
+        }
     }
 }
 
@@ -159,6 +232,7 @@ impl<'a, N: Naming, W: Wait> BaseSource for SharedReader<'a, N, W> {
         steps: &mut Steps<L>,
     ) -> Result<Vec<Pair>, OutOfMemory> {
         self.noted.note(range);
+        self.known = None;
         self.shards
             .pairs_at(self.rt, &mut self.pass, p, range, steps)
     }
@@ -171,9 +245,14 @@ impl<'a, N: Naming, W: Wait> BaseSource for SharedReader<'a, N, W> {
         steps: &mut Steps<L>,
     ) -> Result<Vec<Key>, OutOfMemory> {
         self.noted.note(range);
-        let ranges = slice::from_ref(range);
-        self.shards
-            .changed(self.rt, &mut self.pass, q, p, ranges, steps)
+        if let Some(keys) = known_keys(self.alloc, &self.known, q, p, range) {
+            self.questions = 0;
+            steps.count_call(keys.len());
+            return Ok(keys);
+        }
+        let asked = self.ask_changes(q, p, range, steps);
+        self.look_further(q, p, range);
+        asked
     }
 
     fn joins_at_hand(&self, p: u64) -> Option<&JoinSet> {
@@ -184,6 +263,7 @@ impl<'a, N: Naming, W: Wait> BaseSource for SharedReader<'a, N, W> {
     }
 
     fn make_joins(&mut self, p: u64) -> Result<JoinSet, OutOfMemory> {
+        self.known = None;
         self.history.joins_at(self.rt, &mut self.pass, p)
     }
 }
@@ -198,8 +278,6 @@ impl<'a, N: Naming, W: Wait> Reader for SharedReader<'a, N, W> {
     ghost went = { λ a b. ReadsOn a b };
 
     ghost spends = { λ _ _ _ _ _ _. Unit {0} };
-
-    ghost tells = { λ _ _ _ _ _ _ _. Unit {0} };
 
     ghost top_small = { Prim.search rules };
 
@@ -239,6 +317,7 @@ impl<'a, N: Naming, W: Wait> Stacked<N> for SharedReader<'a, N, W> {
     }
 
     fn meet(&mut self, pass: &mut Pass) {
+        self.known = None;
         self.history.meet(self.rt, pass, &mut self.pass);
     }
 
@@ -254,13 +333,14 @@ impl<'a, N: Naming, W: Wait> Stacked<N> for SharedReader<'a, N, W> {
         if p == self.p {
             return copy_of(self.alloc, self.joins, at);
         }
+        self.known = None;
         let joins = self.history.joins_at(self.rt, &mut self.pass, p)?;
         copy_of(self.alloc, &joins, at)
     }
 
     fn is_kept(&self, at: u64) -> bool {
         match join_of(self.joins, at) {
-            Some(join) => join.kind == Kind::Push,
+            Some(join) => is_pushed(join),
             None => false,
         }
     }
@@ -279,8 +359,10 @@ impl<'a, N: Naming, W: Wait> Stacked<N> for SharedReader<'a, N, W> {
         self.noted.start()
     }
 
-    fn follow_noted(&mut self, id: u32, since: usize, followed: &mut Followed) {
-        if self.follow_since(id, since, followed).is_err() {
+    fn follow_noted(&mut self, id: u32, since: Option<usize>, followed: &mut Followed) {
+        if let Some(since) = since
+            && self.follow_since(id, since, followed).is_err()
+        {
             followed.clear();
         }
         self.noted.end();

@@ -1,5 +1,5 @@
 // What a layer asks of the reader that it stands on, where threads share the history.
-ghost use Rattle.std.specs.Prelude.{◌≡◌, ℕ, ◌≤◌, length, map, take, IfOk};
+ghost use Rattle.std.specs.Prelude.{◌≡◌, ℕ, ◌≤◌, length, map, take, true, IfOk};
 ghost use Rattle.semantics.specs.Joins.{Join as PlainJoin};
 ghost use Rattle.semantics.specs.Histories.{joins_of};
 ghost use Rattle.growing_history.specs.Entered.{HasEntered};
@@ -8,6 +8,7 @@ ghost use Rattle.write_history.specs.Passes.{GoesOn, own};
 ghost use Rattle.join_eval.specs.Answers.{TellsBetween};
 ghost use Rattle.join_eval.specs.Moves.{Moves};
 ghost use Rattle.cell_slots.specs.Slots.{IsDeclared, StandsAs};
+ghost use Rattle.shared_reader.specs.Keeping.{IsKept};
 
 use crate::followed::Followed;
 use base_shards::Naming;
@@ -22,8 +23,8 @@ use write_history::Pass;
 pub struct Use {
     /// The cell's number.
     pub id: u32,
-    /// The rows.
-    pub rows: u64,
+    /// The rows. None where it gave what it was asked for and could not keep it.
+    pub rows: Option<u64>,
 }
 
 /// A reader whose list is what a pass of a history has seen. It can be read at every position of it that is not below its floor.
@@ -66,9 +67,10 @@ pub trait Stacked<N: Naming>: Reader {
         ensures declared { IfOk result (IsDeclared (Self.list self.old) at) }
         ensures moves { Moves Self.list Self.floor Self.went self.old self.new };
 
-    /// Whether what the join gives is to be kept: it is one of the joins that stand where the reader was asked to read, and is
-    /// pushed. What is read does not rest on it.
-    fn is_kept(&self, at: u64) -> bool;
+    /// Says whether what the join gives is to be kept: only where it was declared, and is pushed. What is read does not rest on it.
+    /// Linear in the joins.
+    fn is_kept(&self, at: u64) -> bool
+        ensures { result ≡ true → IsKept (Self.list self.now) at };
 
     /// Takes note that a cell was used, so that the book is told of it. Of uses of one cell that follow one another the last alone
     /// is told, and a use for which there is no room is not.
@@ -86,9 +88,9 @@ pub trait Stacked<N: Naming>: Reader {
         ensures { self.new ≡ self.old };
 
     /// The work of a cell ends. Under its number it follows the ranges that were noted since so many were, and they are added
-    /// to those that it follows; one that lies in a range which it follows already is left out. A range for which there was
-    /// no room was not noted. Where there is no room to follow them all, some may be followed, and it is taken to follow
-    /// none. What is read does not rest on it.
-    fn follow_noted(&mut self, id: u32, since: usize, followed: &mut Followed)
+    /// to those that it follows; one that lies in a range which it follows already is left out. Where it is not said since when, it
+    /// follows none of them. A range for which there was no room was not noted. Where there is no room to follow them all, some
+    /// may be followed, and it is taken to follow none. What is read does not rest on it.
+    fn follow_noted(&mut self, id: u32, since: Option<usize>, followed: &mut Followed)
         ensures { self.new ≡ self.old };
 }

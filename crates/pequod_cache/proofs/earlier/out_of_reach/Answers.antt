@@ -1,4 +1,4 @@
-use Rattle.std.proofs.Common.{arith}
+use Rattle.std.proofs.Common.{◌+◌, ◌≤◌, arith}
 use Rattle.request_codec.proofs.ReachLemmas.{ahead_told, gone_told}
 use Rattle.pequod_cache.proofs.earlier.out_of_reach.Goals as goal
 
@@ -9,4 +9,6 @@ pub returns-then-position-at-gt-REACH : goal.returns-then-position-at-gt-REACH
 returns-then-position-at-gt-REACH c = gone_told c.args.at c.args.position (omega arith)
 
 pub returns : goal.returns
-returns c = (omega arith, omega arith)
+returns c =
+    let near : c.args.position ≤ c.args.at + 65536 = omega arith in
+    record { not_ahead = omega arith; not_gone = near }

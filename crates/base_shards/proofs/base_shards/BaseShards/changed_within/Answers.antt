@@ -8,13 +8,13 @@ use Rattle.base_shards.proofs.base_shards.BaseShards.changed_within.Goals as goa
 
 pub changed-requires-clause-from : goal.changed-requires-clause-from
 changed-requires-clause-from g c =
-    let shown : c.deref-2.result.now ≡ c.bring.new.self = cc in
-    subst (λ (s : ShardView). s.base.start ≤ c.args.q) (sym shown) (reaches_start c.args.pass.now c.bring.new.pass c.args.q c.bring.new.self.base.start c.bring.ensures.goes_on c.requires.pinned c.bring.ensures.start)
+    let shown : c.deref-2.result.now ≡ c.advance_to.new.self = cc in
+    subst (λ (s : ShardView). s.base.start ≤ c.args.q) (sym shown) (reaches_start c.args.pass.now c.advance_to.new.pass c.args.q c.advance_to.new.self.base.start c.advance_to.ensures.goes_on c.requires.pinned c.advance_to.ensures.start)
 
 pub returns-clause-exact : goal.returns-clause-exact
 returns-clause-exact g c =
-    let shown : c.deref-2.result.now ≡ c.bring.new.self = cc in
-    let view = ap (λ (s : ShardView). s.pass.view) shown ∙ c.bring.ensures.met in
+    let shown : c.deref-2.result.now ≡ c.advance_to.new.self = cc in
+    let view = ap (λ (s : ShardView). s.pass.view) shown ∙ c.advance_to.ensures.met in
     let same = ap (changed_keys c.args.q c.args.p c.args.range.now) view
-    ∙ changed_prefix c.args.q c.args.p c.args.range.now c.args.pass.now.view c.bring.new.pass.view c.requires.order c.requires.within c.bring.ensures.goes_on.begins in
+    ∙ changed_prefix c.args.q c.args.p c.args.range.now c.args.pass.now.view c.advance_to.new.pass.view c.requires.order c.requires.within c.advance_to.ensures.goes_on.begins in
     IfOk-weaker c.changed.result _ _ (λ keys exact. exact ∙ same) c.changed.ensures.exact

@@ -27,19 +27,20 @@ pub tell-requires-clause-order : goal.tell-requires-clause-order
 tell-requires-clause-order g c =
     let none : c.out_of_reach.result ≡ None = cc in
     let near = in_reach c.args.at c.args.position c.out_of_reach.result c.out_of_reach.ensures none in
-    near.0
+    near.not_ahead
 
 pub tell-requires-clause-near : goal.tell-requires-clause-near
 tell-requires-clause-near g c =
     let none : c.out_of_reach.result ≡ None = cc in
     let near = in_reach c.args.at c.args.position c.out_of_reach.result c.out_of_reach.ensures none in
-    omega (arith, near.1, c.requires.whole)
+    let not_gone : c.args.position ≤ c.args.at + 65536 = near.not_gone in
+    omega (arith, not_gone, c.requires.whole)
 
 pub tell-requires-clause-pinned : goal.tell-requires-clause-pinned
 tell-requires-clause-pinned g c =
     let none : c.out_of_reach.result ≡ None = cc in
     let near = in_reach c.args.at c.args.position c.out_of_reach.result c.out_of_reach.ensures none in
-    record { pin = c.args.position; pinned = c.requires.pinned; near = near.1 }
+    record { pin = c.args.position; pinned = c.requires.pinned; near = near.not_gone }
 
 pub tell-requires-clause-old_joins : goal.tell-requires-clause-old_joins
 tell-requires-clause-old_joins g c = joins_back c.args.pass c.args.at c.args.joins.now (omega (arith, c.changed_at.ensures.changed)) c.requires.joins
@@ -53,19 +54,19 @@ pub joins_at-requires-clause-within : goal.joins_at-requires-clause-within
 joins_at-requires-clause-within g c =
     let none : c.out_of_reach.result ≡ None = cc in
     let near = in_reach c.args.at c.args.position c.out_of_reach.result c.out_of_reach.ensures none in
-    omega (arith, near.0, c.requires.whole)
+    omega (arith, near.not_ahead, c.requires.whole)
 
 pub joins_at-requires-clause-kept : goal.joins_at-requires-clause-kept
 joins_at-requires-clause-kept g c =
     let none : c.out_of_reach.result ≡ None = cc in
     let near = in_reach c.args.at c.args.position c.out_of_reach.result c.out_of_reach.ensures none in
-    may_ask_back c.args.pass c.args.position c.args.at c.requires.pinned near.1
+    may_ask_back c.args.pass c.args.position c.args.at c.requires.pinned near.not_gone
 
 pub tell-requires-in-Ok-clause-order : goal.tell-requires-in-Ok-clause-order
 tell-requires-in-Ok-clause-order g c =
     let none : c.out_of_reach.result ≡ None = cc in
     let near = in_reach c.args.at c.args.position c.out_of_reach.result c.out_of_reach.ensures none in
-    near.0
+    near.not_ahead
 
 pub tell-requires-in-Ok-clause-recorded : goal.tell-requires-in-Ok-clause-recorded
 tell-requires-in-Ok-clause-recorded g c = subst (λ (p : PassView). IsRecorded p.writers p.view) (sym c.joins_at.ensures.unchanged) c.requires.recorded
@@ -77,7 +78,7 @@ pub tell-requires-in-Ok-clause-pinned : goal.tell-requires-in-Ok-clause-pinned
 tell-requires-in-Ok-clause-pinned g c =
     let none : c.out_of_reach.result ≡ None = cc in
     let near = in_reach c.args.at c.args.position c.out_of_reach.result c.out_of_reach.ensures none in
-    subst (λ (p : PassView). ReachesBack p c.args.at) (sym c.joins_at.ensures.unchanged) (record { pin = c.args.position; pinned = c.requires.pinned; near = near.1 })
+    subst (λ (p : PassView). ReachesBack p c.args.at) (sym c.joins_at.ensures.unchanged) (record { pin = c.args.position; pinned = c.requires.pinned; near = near.not_gone })
 
 pub tell-requires-in-Ok-clause-old_joins : goal.tell-requires-in-Ok-clause-old_joins
 tell-requires-in-Ok-clause-old_joins g c =
@@ -92,7 +93,8 @@ pub tell-requires-in-Ok-clause-near : goal.tell-requires-in-Ok-clause-near
 tell-requires-in-Ok-clause-near g c =
     let none : c.out_of_reach.result ≡ None = cc in
     let near = in_reach c.args.at c.args.position c.out_of_reach.result c.out_of_reach.ensures none in
-    subst (λ (p : PassView). length p.view ≤ c.args.at + 65536) (sym c.joins_at.ensures.unchanged) (omega (arith, near.1, c.requires.whole))
+    let not_gone : c.args.position ≤ c.args.at + 65536 = near.not_gone in
+    subst (λ (p : PassView). length p.view ≤ c.args.at + 65536) (sym c.joins_at.ensures.unchanged) (omega (arith, not_gone, c.requires.whole))
 
 pub returns-in-Ok-clause-replied : goal.returns-in-Ok-clause-replied
 returns-in-Ok-clause-replied g c =

@@ -12,7 +12,7 @@ pub invariant_of-self : goal.invariant_of-self
 invariant_of-self g c =
     let is : c.self.inside.pass ≡ Some c.in-Some.pass = cc in
     client_stays g.N.Naming.history c.self.inside.pass c.in-Some.pass c.look-seen.new.pass c.self.inside.joins c.look-seen.new.joins
-    c.self.invariant is c.in_default-seen.ensures.goes_on c.look-seen.ensures.kept
+    c.self.invariant is c.in-Err.ensures.goes_on c.look-seen.ensures.kept
 
 pub invariant_of-self-2 : goal.invariant_of-self-2
 invariant_of-self-2 g c =

@@ -9,7 +9,7 @@ pub invariant_of-self : goal.invariant_of-self
 invariant_of-self g c =
     let is : c.self.inside.pass ≡ Some c.in-Some.pass = cc in
     seated_still g.N.Naming.history c.self.inside.pass c.in-Some.pass c.look-looked.new.pass c.self.inside.joins c.look-looked.new.joins
-    c.self.invariant is c.in_default-looked.ensures.goes_on c.look-looked.ensures.kept
+    c.self.invariant is c.in-Err.ensures.goes_on c.look-looked.ensures.kept
 
 pub invariant_of-self-2 : goal.invariant_of-self-2
 invariant_of-self-2 g c =

@@ -39,8 +39,8 @@ pub read_asked-earlier-requires-clause-joins : goal.read_asked-earlier-requires-
 read_asked-earlier-requires-clause-joins g c =
     joins_still c.args.pass c.read_later-later.result.pass c.args.q c.args.old.now c.read_later-later.ensures.reads_on (omega (arith, c.requires.order, c.requires.within)) c.requires.old_joins
 
-pub returns-in_default-found-clause-reads_on : goal.returns-in_default-found-clause-reads_on
-returns-in_default-found-clause-reads_on g c =
+pub returns-in-Err-found-clause-reads_on : goal.returns-in-Err-found-clause-reads_on
+returns-in-Err-found-clause-reads_on g c =
     reads_on-trans c.args.pass c.read_later-later.result.pass c.read_asked-earlier.result.pass c.read_later-later.ensures.reads_on c.read_asked-earlier.ensures.reads_on
 
 pub returns-clause-reads_on : goal.returns-clause-reads_on

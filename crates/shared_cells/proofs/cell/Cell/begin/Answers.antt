@@ -2,6 +2,7 @@ use Rattle.std.proofs.Common.{ℕ, sym, ap, ◌∙◌, subst}
 use Rattle.semantics.specs.Histories.{IsPrefix}
 use Rattle.growing_history.proofs.PrefixLemmas.{prefix_trans}
 use Rattle.join_eval.proofs.MovesLemmas.{moves_trans}
+use Rattle.kept_ranges.specs.Sound.{KeptRange}
 use Rattle.cell_slots.specs.Slots.{StandsAs}
 use Rattle.shared_cells.specs.Cells.{CellView}
 use Rattle.shared_cells.proofs.CellLemmas.{new_is_right}
@@ -24,6 +25,9 @@ returns-clause-right g c =
     (prefix_trans (list c.args.reader.now) (list c.join_at-join.new.self) (list c.meet.new.reader) c.join_at-join.ensures.moves.kept c.meet.ensures.moves.kept))
     (same.at ∙ sym (ap (λ (cell : CellView). cell.at) c.self.view_is)) (same.rank ∙ sym (ap (λ (cell : CellView). cell.rank) c.self.view_is))
     (same.range ∙ sym (ap (λ (cell : CellView). cell.range) c.self.view_is) ∙ sym c.in_ok-range.ensures) c.in_ok-join.ensures.declared c.new.ensures
+
+pub returns-clause-empty : goal.returns-clause-empty
+returns-clause-empty g c = ap (λ (s : KeptRange). s.kept.needs) c.new.ensures
 
 pub returns-clause-moves : goal.returns-clause-moves
 returns-clause-moves g c =

@@ -1,9 +1,10 @@
-use Rattle.std.proofs.Common.{ℕ, ◌≤◌, refl, sym, ◌∙◌, subst, arith}
+use Rattle.std.proofs.Common.{ℕ, ◌≤◌, refl, sym, ◌∙◌, subst, inl, inr, arith}
 use Rattle.std.proofs.lemmas.Bool.{false≢true}
 use Rattle.std.proofs.lemmas.Option.{none-some}
 use Rattle.join_eval.proofs.MovesLemmas.{moves_trans}
 use Rattle.growing_history.proofs.PrefixLemmas.{prefix_length}
 use Rattle.range_serving.specs.Serving.{StandsFrom}
+use Rattle.range_serving.proofs.AdvancedLemmas.{on_err_always}
 use Rattle.cell_slots.specs.Slots.{StandsAs}
 use Rattle.cell_slots.proofs.DeclaredLemmas.{stands_over}
 use Rattle.shared_cells.proofs.CellLemmas.{lent_of_kept, lent_of_new, nowhere_from, ready_from, ready_serves, same_place_back, serves_empty, serves_same, taken_from}
@@ -56,6 +57,9 @@ returns-in-Some-clause-lent g c =
 pub returns-in-Some-clause-kept : goal.returns-in-Some-clause-kept
 returns-in-Some-clause-kept g c = λ s can. sym c.in-Some.ensures.some ∙ c.meet.ensures.held ∙ can.holds
 
+pub returns-in-Some-clause-whose : goal.returns-in-Some-clause-whose
+returns-in-Some-clause-whose g c = inl (sym c.meet.ensures.held ∙ c.in-Some.ensures.some)
+
 pub returns-in-Some-clause-from : goal.returns-in-Some-clause-from
 returns-in-Some-clause-from g c = subst (λ (n : ℕ). StandsFrom n c.in-Some.state) c.least_position.ensures c.in-Some.ensures.from
 
@@ -79,6 +83,9 @@ returns-in_err-state-clause-left g c = λ cannot.
     absurd (cannot (serves_same c.meet.new.self c.args.self.now c.args.query.at c.args.query.rank c.args.query.p c.args.part.now (same_place_back c.args.self.now c.meet.new.self c.meet.ensures.same_place) (sym c.meet.ensures.held)
     (c.if-not-can_serve.ensures.yes refl)))
 
+pub returns-in_err-state-clause-err : goal.returns-in_err-state-clause-err
+returns-in_err-state-clause-err g c = on_err_always c.from_residual.result (c.begin.ensures.held ∙ c.take_from.ensures.left)
+
 pub returns-in_err-state-clause-moves : goal.returns-in_err-state-clause-moves
 returns-in_err-state-clause-moves g c =
     moves_trans g.R.Reader.list g.R.Reader.floor g.R.Reader.went c.args.reader.now c.meet.new.reader c.begin.new.reader
@@ -89,6 +96,9 @@ returns-clause-lent g c =
     let can = serves_empty c.meet.new.self c.take_from.new.self c.args.query.at c.args.query.rank c.args.query.p c.args.part.now c.take_from.ensures.same_place c.take_from.ensures.left
     (c.if-not-can_serve.ensures.yes refl) in
     lent_of_new c.take_from.new.self c.begin.new.self c.args.query.at c.args.query.rank c.args.query.p c.args.part.now c.in_ok-state.state c.begin.ensures.same_place can c.in_ok-state.ensures.fresh c.in_ok-state.ensures.right
+
+pub returns-clause-whose : goal.returns-clause-whose
+returns-clause-whose g c = inr (c.in_ok-state.ensures.fresh, c.in_ok-state.ensures.empty)
 
 pub returns-clause-from : goal.returns-clause-from
 returns-clause-from g c = nowhere_from (g.R.Reader.floor c.begin.new.reader) c.in_ok-state.state c.in_ok-state.ensures.fresh

@@ -1,7 +1,7 @@
-use Rattle.std.proofs.Common.{◌≡◌, map}
-use Rattle.range_set.specs.Pieces.{ranges_of}
+use Rattle.shared_cells.specs.Spots.{numbered}
+use Rattle.shared_cells.proofs.DirectoryLemmas.{CoversSoFar}
 use Rattle.shared_cells.proofs.directory.Directory.cover.Given as goal
 
--- the ranges of the parts so far are those of the pieces so far
+-- the pieces so far are parts
 abbrev pub invariant-loop-piece : goal.invariant-loop-piece
-invariant-loop-piece g l = map (λ part. part.range) l.parts.items ≡ ranges_of l.yielded
+invariant-loop-piece g l = CoversSoFar (λ part. numbered part.range part.cell) l.join l.fn.range l.keep l.initial.self l.self l.yielded l.parts.items

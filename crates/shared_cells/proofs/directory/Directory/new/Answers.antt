@@ -1,13 +1,11 @@
-use Rattle.std.proofs.Common.{◌≡◌, All, length, ap, subst, arith}
-use Rattle.std.proofs.lemmas.List.Elements.{All-tail}
-use Rattle.write_history.specs.Passes.{PassView}
+use Rattle.std.proofs.Common.{sym, subst}
+use Rattle.shared_cells.specs.Listings.{Listed}
+use Rattle.shared_cells.specs.Directories.{IsDirectory, directory_of}
+use Rattle.shared_cells.proofs.DirectoryLemmas.{none_kept}
 use Rattle.shared_cells.proofs.directory.Directory.new.Goals as goal
 
-pub loop-pass-preserved : goal.loop-pass-preserved
-loop-pass-preserved g c =
-    let rest = ap length c.in-Some.ensures.steps.0 in (
-      tt,
-      tt,
-      omega (arith, rest, c.in_ok-push.ensures.len, c.loop-pass.invariant.2),
-      All-tail (λ (pass : PassView). pass.history ≡ g.N.Naming.history) c.in-Some.pass _ (subst (All (λ (pass : PassView). pass.history ≡ g.N.Naming.history)) c.in-Some.ensures.steps.0 c.loop-pass.invariant.3),
-    )
+pub invariant_of-result : goal.invariant_of-result
+invariant_of-result g c = subst (λ (listed : Listed). IsDirectory c.in_ok-spots.spots listed) (sym c.new-listings.ensures) (none_kept c.in_ok-spots.spots)
+
+pub returns : goal.returns
+returns g c = λ i. directory_of (c.in_ok-spots.ensures i) (c.new-listings.ensures i)

@@ -1,38 +1,54 @@
-use Rattle.std.proofs.Common.{◌≡◌, ℕ, ◌+◌, List, [], ◌∷◌, length, Result, Ok, Err, IfOk, ap, ◌∙◌, subst, arith}
-use Rattle.std.proofs.lemmas.Result.{IfOk-weaker}
-use Rattle.semantics.specs.Texts.{Text}
+use Rattle.std.proofs.Common.{◌≡◌, ◌≤◌, IfOk, IfSome, length, ap, ◌∙◌, refl, sym, subst}
 use Rattle.growing_history.specs.Changes.{changed_keys}
 use Rattle.growing_history.specs.Entered.{HasEntered}
+use Rattle.write_history.specs.Marks.{reach}
 use Rattle.write_history.specs.Passes.{PassView}
-use Rattle.base_shards.specs.Changed.{changed_in_all, steps_of_all}
-use Rattle.base_shards.proofs.ChangedLemmas.{one_range_alone}
-use Rattle.shared_reader.proofs.GivenLemmas.{reaches_back, reads_moves}
+use Rattle.base_shards.proofs.ReadingLemmas.{reads_on-trans, sees_still}
+use Rattle.shared_reader.proofs.GivenLemmas.{reads_moves, stays_moves}
 use Rattle.shared_reader.proofs.reader.SharedReaderBaseSource.base_changes.Goals as goal
 
--- the cost of keys that are listed, by the list
-cost_of_keys : {V E : Type 0} (items : V → List Text) (r : Result V E) (listed : List Text) (old new added : ℕ) → IfOk r (λ v. items v ≡ listed) → IfOk r (λ _. new ≡ old + added) → added ≡ 1 + length listed →
-    IfOk r (λ v. new ≡ old + 1 + length (items v))
-cost_of_keys items (Ok v) listed old new added is cost one = let rows = ap length is in omega (arith, rows, cost, one)
-cost_of_keys items (Err e) listed old new added is cost one = tt
+pub known_keys-requires : goal.known_keys-requires
+known_keys-requires g c = (c.self.inside.pass.view, c.self.invariant.2)
+
+-- from what is known
+
+pub returns-in-Some-clause-exact : goal.returns-in-Some-clause-exact
+returns-in-Some-clause-exact g c =
+    let known = c.known_keys.ensures c.self.inside.pass.view c.self.invariant.2 in
+    subst (λ o. IfSome o (λ keys. keys.items ≡ changed_keys c.args.q c.args.p c.args.range.now c.self.inside.pass.view)) c.in-Some.is known
+    ∙ ap (λ (v : PassView). changed_keys c.args.q c.args.p c.args.range.now v.view) c.self.view_is
+
+pub returns-in-Some-clause-entered : goal.returns-in-Some-clause-entered
+returns-in-Some-clause-entered g c = subst (λ (v : PassView). HasEntered v.view) c.self.view_is c.self.invariant.0.recorded.entered
+
+pub returns-in-Some-clause-moves : goal.returns-in-Some-clause-moves
+returns-in-Some-clause-moves g c = stays_moves c.self.inside.pass c.args.self.now c.self.inside.pass c.self.invariant.0.recorded c.self.view_is refl
+
+-- from the part
+
+pub ask_changes-asked-requires-clause-within : goal.ask_changes-asked-requires-clause-within
+ask_changes-asked-requires-clause-within g c = subst (λ (v : PassView). c.args.p ≤ length v.view) (sym c.self.view_is) c.requires.within
+
+pub ask_changes-asked-requires-clause-above : goal.ask_changes-asked-requires-clause-above
+ask_changes-asked-requires-clause-above g c = subst (λ (v : PassView). reach v.mark ≤ c.args.q) (sym c.self.view_is) c.requires.above
+
+pub look_further-requires-clause-within : goal.look_further-requires-clause-within
+look_further-requires-clause-within g c =
+    sees_still c.self.inside.pass c.ask_changes-asked.new.self c.args.p c.ask_changes-asked.ensures.reads_on
+    (subst (λ (v : PassView). c.args.p ≤ length v.view) (sym c.self.view_is) c.requires.within)
+
+pub look_further-requires-clause-above : goal.look_further-requires-clause-above
+look_further-requires-clause-above g c = subst (λ m. reach m ≤ c.args.q) (sym c.ask_changes-asked.ensures.reads_on.same_mark)
+    (subst (λ (v : PassView). reach v.mark ≤ c.args.q) (sym c.self.view_is) c.requires.above)
 
 pub returns-clause-exact : goal.returns-clause-exact
 returns-clause-exact g c =
-    let same = ap (λ (v : PassView). v.view) c.self.view_is in
-    IfOk-weaker c.changed.result _ _ (λ keys exact.
-    exact ∙ (λ i. changed_in_all c.args.q c.args.p (c.from_ref-ranges.ensures.value i) (same i)) ∙ one_range_alone c.args.q c.args.p c.args.range.now c.args.self.now.view) c.changed.ensures.exact
-
-pub returns-clause-cost : goal.returns-clause-cost
-returns-clause-cost g c =
-    let same = ap (λ (v : PassView). v.view) c.self.view_is in
-    let one : steps_of_all c.args.q c.args.p (c.args.range.now ∷ []) c.args.self.now.view ≡ 1 + length (changed_keys c.args.q c.args.p c.args.range.now c.args.self.now.view) = omega arith in
-    cost_of_keys (λ v. v.items) c.changed.result (changed_keys c.args.q c.args.p c.args.range.now c.args.self.now.view) c.args.steps.now c.changed.new.steps (steps_of_all c.args.q c.args.p c.from_ref-ranges.result.now c.self.inside.pass.view)
-    (returns-clause-exact g c) c.changed.ensures.cost ((λ i. steps_of_all c.args.q c.args.p (c.from_ref-ranges.ensures.value i) (same i)) ∙ one)
+    subst (λ (v : PassView). IfOk c.ask_changes-asked.result (λ keys. keys.items ≡ changed_keys c.args.q c.args.p c.args.range.now v.view)) c.self.view_is c.ask_changes-asked.ensures.exact
 
 pub returns-clause-entered : goal.returns-clause-entered
 returns-clause-entered g c = subst (λ (v : PassView). HasEntered v.view) c.self.view_is c.self.invariant.0.recorded.entered
 
 pub returns-clause-moves : goal.returns-clause-moves
-returns-clause-moves g c = reads_moves c.self.inside.pass c.args.self.now c.changed.new.pass c.self.invariant.0.recorded c.self.view_is c.changed.ensures.reads_on
-
-pub changed-requires-clause-pinned : goal.changed-requires-clause-pinned
-changed-requires-clause-pinned g c = reaches_back c.self.inside.pass c.args.self.now c.self.invariant.0.pinned.pin c.args.q c.self.invariant.0.pinned.pinned c.self.view_is c.requires.above
+returns-clause-moves g c =
+    let on = reads_on-trans c.self.inside.pass c.ask_changes-asked.new.self c.look_further.new.self c.ask_changes-asked.ensures.reads_on c.look_further.ensures in
+    reads_moves c.self.inside.pass c.args.self.now c.look_further.new.self c.self.invariant.0.recorded c.self.view_is on

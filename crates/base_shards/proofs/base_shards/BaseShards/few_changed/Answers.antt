@@ -1,0 +1,20 @@
+use Rattle.std.proofs.Common.{◌≡◌, ◌≤◌, IfSome, sym, ap, ◌∙◌, subst}
+use Rattle.std.proofs.lemmas.Result.{IfOk-weaker}
+use Rattle.growing_history.specs.Changes.{changed_keys}
+use Rattle.base_shards.specs.Shards.{ShardView}
+use Rattle.base_shards.proofs.ListLemmas.{changed_prefix}
+use Rattle.base_shards.proofs.ReadingLemmas.{reaches_start}
+use Rattle.base_shards.proofs.base_shards.BaseShards.few_changed.Goals as goal
+
+pub few_changed-requires-clause-from : goal.few_changed-requires-clause-from
+few_changed-requires-clause-from g c =
+    let shown : c.deref-2.result.now ≡ c.advance_to.new.self = cc in
+    subst (λ (s : ShardView). s.base.start ≤ c.args.q) (sym shown) (reaches_start c.args.pass.now c.advance_to.new.pass c.args.q c.advance_to.new.self.base.start c.advance_to.ensures.goes_on c.requires.pinned c.advance_to.ensures.start)
+
+pub returns-clause-exact : goal.returns-clause-exact
+returns-clause-exact g c =
+    let shown : c.deref-2.result.now ≡ c.advance_to.new.self = cc in
+    let view = ap (λ (s : ShardView). s.pass.view) shown ∙ c.advance_to.ensures.met in
+    let same = ap (changed_keys c.args.q c.args.p c.args.range.now) view
+    ∙ changed_prefix c.args.q c.args.p c.args.range.now c.args.pass.now.view c.advance_to.new.pass.view c.requires.order c.requires.within c.advance_to.ensures.goes_on.begins in
+    IfOk-weaker c.few_changed.result _ _ (λ found exact. subst (λ ks. IfSome found (λ keys. keys.items ≡ ks)) same exact) c.few_changed.ensures

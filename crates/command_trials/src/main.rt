@@ -7,7 +7,8 @@
 //     <~ TEXT   gives a text with escapes, as `test_rows` reads them, and no end of line
 //     <x HEX    gives bytes
 //     ! KIND N  has the call with this number fail: of `read`, `write`, `shelf` or `doors`
-//     = HOW     runs the case: all at once where nothing follows, each read one byte by `bytes`, with a count of gates by `gate`, and
+//     = HOW     runs the case: all at once where nothing follows, each read one byte by `bytes`, with a count of gates by `gate`,
+// and
 //               by plain evaluation of the joins by `plain`. What is written follows, and how it ended.
 //     ? WORD    asks whether the text on how the program is called has the word
 //

@@ -17,14 +17,24 @@ fn answer_line(
     }
 }
 
+/// Returns the line of a fault. Where no memory was found for its line, that is handed on.
+fn line_of_fault(alloc: Global, fault: LineFault) -> Result<Vec<u8>, OutOfMemory> {
+    match fault {
+        LineFault::Json => write(alloc, &Reply::Unread(LineFault::Json)),
+        LineFault::Form => write(alloc, &Reply::Unread(LineFault::Form)),
+        LineFault::Key => write(alloc, &Reply::Unread(LineFault::Key)),
+        LineFault::Value => write(alloc, &Reply::Unread(LineFault::Value)),
+        LineFault::Range => write(alloc, &Reply::Unread(LineFault::Range)),
+        LineFault::Syntax(at) => write(alloc, &Reply::Unread(LineFault::Syntax(at))),
+        LineFault::OutOfMemory(memory) => Err(memory),
+    }
+}
+
 /// Returns the line of a reply.
-fn line_of(alloc: Global, reply: &Reply) -> Result<Vec<u8>, OutOfMemory> {
+fn line_of(alloc: Global, reply: Reply) -> Result<Vec<u8>, OutOfMemory> {
     match reply {
-        Reply::Unread(fault) => match fault {
-            LineFault::OutOfMemory => Err(OutOfMemory),
-            _ => write(alloc, reply),
-        },
-        reply => write(alloc, reply),
+        Reply::Unread(fault) => line_of_fault(alloc, fault),
+        reply => write(alloc, &reply),
     }
 }
 
@@ -34,8 +44,9 @@ pub fn answer_lines(alloc: Global, text: &str) -> Result<Vec<u8>, OutOfMemory> {
     let mut replies = Vec::new(alloc);
     for line in text.lines() {
         let reply = answer_line(alloc, &mut history, line)?;
-        replies.extend_from_slice(line_of(alloc, &reply)?.as_slice())?;
-        if matches!(reply, Reply::Bye) {
+        let is_last = matches!(&reply, Reply::Bye);
+        replies.extend_from_slice(line_of(alloc, reply)?.as_slice())?;
+        if is_last {
             break;
         }
     }

@@ -90,7 +90,7 @@ fn run_top<R: AllocGlobal + Threads + Wait + Sync>(
         &gate,
     );
     let passed = how == How::TellsGate && gate.passed.load(SeqCst) > 0;
-    let number = status.number;
+    let number = status.number();
     let behind = if passed { ", by way of the gate" } else { "" };
     let ended = format!(in alloc; "{number}{behind}")?;
     told(alloc, sink.bytes(), ended.as_str())

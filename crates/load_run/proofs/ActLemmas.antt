@@ -1,16 +1,16 @@
 -- Acts and declarations, one after another.
-use Rattle.std.proofs.Common.{◌≡◌, ℕ, ◌+◌, ◌-◌, List, [], ◌∷◌, ◌++◌, length, map, Some, sym, ap, ◌∙◌, subst, arith, append-nil, append_assoc, length-append}
+use Rattle.std.proofs.Common.{◌≡◌, ℕ, ◌+◌, ◌-◌, List, [], ◌∷◌, ◌++◌, length, map, Some, sym, ap, ◌∙◌, subst, arith, append-nil, length-append}
 use Rattle.std.specs.Prelude.{slice_get}
 use Rattle.std.proofs.lemmas.Grind.{flat_map-append}
 use Rattle.std.proofs.lemmas.List.{map-append, length-map}
 use Rattle.semantics.specs.Joins.{Join}
 use Rattle.semantics.specs.Histories.{declare, Entry, History, IsPrefix}
-use Rattle.growing_history.proofs.PrefixLemmas.{prefix_trans}
+use Rattle.growing_history.proofs.PrefixLemmas.{prefix_trans, prefix_with}
 use Rattle.write_history.specs.Passes.{PassView}
 use Rattle.load_gen.specs.declared.acts.Act.{Act}
 use Rattle.load_gen.specs.Entries.{entry_by, act_entries, entries_of}
-use Rattle.load_run.specs.Adding.{HasAdded}
-use Rattle.load_run.proofs.AddingLemmas.{added_more, behind_all}
+use Rattle.pequod_cache.specs.Adding.{HasAdded}
+use Rattle.pequod_cache.proofs.AddingLemmas.{added_more}
 
 -- ---- acts
 
@@ -36,19 +36,6 @@ pub record Declaring (joins : List Join) (position : ℕ) (old now : PassView) :
   pub counted : position ≡ length joins
   pub added : HasAdded (declarations joins) old now
   pub begins : IsPrefix (declarations joins) now.view
-
--- a list by its first element
-by_first : {A : Type 0} (ys : List A) (a : A) → slice_get ys 0 ≡ Some a → (rest : List A) × (ys ≡ a ∷ rest)
-by_first [] a is = absurd (cc)
-by_first (y ∷ ys) a is = (ys, cc)
-
--- an entry that stands behind a beginning is part of a longer one
-prefix_with : (h more : History) (e : Entry) → IsPrefix h more → slice_get more (length h) ≡ Some e → IsPrefix (h ++ e ∷ []) more
-prefix_with h more e begins is =
-    let here : slice_get begins.0 0 ≡ Some e =
-    (let zero_is : 0 ≡ length h - length h = omega arith in ap (slice_get begins.0) zero_is) ∙ sym (behind_all h begins.0 (length h) (omega arith)) ∙ ap (λ (l : History). slice_get l (length h)) (sym begins.1) ∙ is in
-    let first = by_first begins.0 e here in
-    (first.0, begins.1 ∙ ap (λ (l : History). h ++ l) first.1 ∙ sym (append_assoc h (e ∷ []) first.0))
 
 -- a declaration more
 pub declared_more : (joins : List Join) (join : Join) (position next : ℕ) (old between new : PassView) → Declaring joins position old between → next ≡ position + 1 →

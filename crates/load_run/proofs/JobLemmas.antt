@@ -1,26 +1,12 @@
 -- Jobs that are dealt acts, and the clients that have done them.
-use Rattle.std.proofs.Common.{◌≡◌, ◌≢◌, ℕ, ◌-◌, ◌<◌, List, [], ◌∷◌, ◌++◌, length, map, take, drop, get_or, Result, Ok, refl, sym, ap, ◌∙◌, subst, arith, append-nil, length-append, ⊎_elim}
+use Rattle.std.proofs.Common.{◌≡◌, ◌≢◌, ℕ, ◌-◌, ◌<◌, List, [], ◌∷◌, ◌++◌, length, map, get_or, Result, Ok, refl, sym, ap, ◌∙◌, subst, arith, length-append, ⊎_elim}
 use Rattle.std.specs.Prelude.{IfOk}
 use Rattle.std.proofs.lemmas.Bool.{cases_eq}
 use Rattle.std.proofs.lemmas.List.{get_or-map, get_or_append_left, get_or-append_right, length-map}
-use Rattle.std.proofs.lemmas.Option.{get_or_from_slice_get, slice_get-get_or}
-use Rattle.std.proofs.Math.Seq.{drop-length, take-length}
 use Rattle.write_history.specs.Passes.{PassView}
 use Rattle.load_gen.specs.declared.acts.Act.{Act}
 use Rattle.load_gen.specs.Shares.{acts_of}
 use Rattle.load_run.specs.Jobs.{Assigned, AreIdle, AreDealt, IsDone, HaveWorked}
-
--- ---- lists
-
--- an element within a list, whatever is read past its end
-pub within_list : {A : Type 0} (xs : List A) (i : ℕ) (d e : A) → i < length xs → get_or xs i d ≡ get_or xs i e
-within_list xs i d e less = get_or_from_slice_get xs i (get_or xs i e) d (slice_get-get_or xs i e less)
-
--- a list that was put in the place of another of its length
-pub put_back : {A : Type 0} (news olds : List A) (n : ℕ) → n ≡ length olds → length news ≡ length olds → take n (news ++ drop (length news) olds) ≡ news
-put_back {A = A} news olds n count same =
-    let none : drop (length news) olds ≡ [] = ap (λ (k : ℕ). drop k olds) same ∙ drop-length olds in
-    ap (λ (l : List A). take n (news ++ l)) none ∙ ap (λ (l : List A). take n l) (append-nil news) ∙ ap (λ (k : ℕ). take k news) (count ∙ sym same) ∙ take-length news
 
 -- ---- jobs without acts
 

@@ -1,5 +1,4 @@
 pub mod LookLemmas
-pub mod AddingLemmas
 pub mod ActLemmas
 pub mod JobLemmas
 pub mod MeetLemmas

@@ -15,10 +15,9 @@ use Rattle.load_gen.specs.Entries.{declared_joins, entries_of, load_history}
 use Rattle.load_gen.specs.Lines.{Holding, holding_of, table_holding, holding_line, load_line}
 use Rattle.load_gen.specs.Shares.{acts_of, IsShared}
 use Rattle.load_gen.proofs.SharedLemmas.{shared_load_is_load}
-use Rattle.load_run.specs.Adding.{HasAdded}
+use Rattle.pequod_cache.specs.Adding.{HasAdded}
 use Rattle.load_run.specs.Jobs.{HaveWorked}
-use Rattle.load_run.specs.Meeting.{HoldsOwn}
-use Rattle.load_run.specs.Holdings.{plain_holding, IsHeldOf, AreHeldOf}
+use Rattle.load_run.specs.Holdings.{plain_holding, HoldsOwn, IsHeldOf, AreHeldOf}
 use Rattle.load_run.specs.declared.held.Held.{Held}
 use Rattle.load_run.specs.declared.text.Tables.{Tables}
 
@@ -52,9 +51,9 @@ shared acts history first declared others workers seen done whole =
     let number : declared.number ≡ 0 = done.added.same_number ∙ ap (λ (p : PassView). p.number) done.new.first_is in
     let writers : declared.writers ≡ length others + 1 = done.added.same_writers ∙ ap (λ (p : PassView). p.writers) done.new.first_is ∙ done.new.all in
     record {
-      begins = prefix_trans declared_joins declared.view seen done.begins whole.begins;
-      below = subst (λ (n : ℕ). AllByRecursion (λ (e : Entry). e.client < n) seen) writers whole.recorded.below;
-      first = ap (λ (n : ℕ). written_by n seen) (sym number) ∙ whole.of_first ∙ done.added.adds ∙ ap (λ (p : PassView). own p ++ declared_joins) done.new.first_is;
+      begins = prefix_trans declared_joins declared.view seen done.begins whole.of_first.within;
+      below = subst (λ (n : ℕ). AllByRecursion (λ (e : Entry). e.client < n) seen) writers whole.of_first.recorded.below;
+      first = ap (λ (n : ℕ). written_by n seen) (sym number) ∙ whole.of_first.own ∙ done.added.adds ∙ ap (λ (p : PassView). own p ++ declared_joins) done.new.first_is;
       each = λ worker less.
           let other : PassView = get_or others worker declared in
           let client : PassView = get_or workers worker declared in
@@ -62,7 +61,7 @@ shared acts history first declared others workers seen done whole =
           let added = done.worked.each worker declared declared less in
           let mine : other.number ≡ worker + 1 = ap (λ (p : PassView). p.number) is in
           let same : client.number ≡ worker + 1 = added.same_number ∙ mine in
-          ap (λ (n : ℕ). written_by n seen) (sym same) ∙ whole.of_others worker declared (omega arith) ∙ added.adds
+          ap (λ (n : ℕ). written_by n seen) (sym same) ∙ (whole.of_others worker declared (omega arith)).own ∙ added.adds
           ∙ ap (λ (p : PassView). own p ++ entries_of p.number (acts_of (length others) worker acts)) is;
     }
 

@@ -1,13 +1,13 @@
 -- What the tables hold, as the definitions name it.
-use Rattle.std.specs.Prelude.{◌≡◌, List, length, codes}
+use Rattle.std.specs.Prelude.{◌≡◌, ℕ, ◌<◌, List, length, codes, slice_index_or}
 use Rattle.semantics.specs.Texts.{Text}
 use Rattle.semantics.specs.Histories.{History, IsPrefix}
 use Rattle.write_history.specs.Passes.{PassView}
+use Rattle.pequod_cache.specs.Meeting.{HasAllOf}
 use Rattle.load_gen.specs.Lines as plain
 use Rattle.load_run.specs.declared.held.Holding.{Holding}
 use Rattle.load_run.specs.declared.held.Held.{Held}
 use Rattle.load_run.specs.declared.text.Tables.{Tables}
-use Rattle.load_run.specs.Meeting.{HoldsOwn}
 
 abbrev pub plain_holding : Holding → plain.Holding
 plain_holding holding = record { count = holding.count; bytes = holding.bytes }
@@ -31,6 +31,12 @@ pub record AreHeldBetween (low high : History) (tables : Tables) : Type 0 where
   pub v : IsHeldBetween low high (codes "v|") tables.v
   pub t : IsHeldBetween low high (codes "t|") tables.t
   pub karma : IsHeldBetween low high (codes "karma|") tables.karma
+
+-- the history has all of the first client, and of each other one: it begins with what the client had seen, and has exactly what it
+-- had written
+pub record HoldsOwn (first : PassView) (others : List PassView) (h : History) : Type 0 where
+  pub of_first : HasAllOf h first
+  pub of_others : (i : ℕ) (d : PassView) → i < length others → HasAllOf h (slice_index_or others i d)
 
 -- a table holds this after a history that has exactly what the clients had written
 pub record IsHeldOf (first : PassView) (others : List PassView) (prefix : Text) (held : Held) : Type 0 where

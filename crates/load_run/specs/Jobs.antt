@@ -4,7 +4,7 @@ use Rattle.write_history.specs.Passes.{PassView}
 use Rattle.load_gen.specs.declared.acts.Act.{Act}
 use Rattle.load_gen.specs.Entries.{entries_of}
 use Rattle.load_gen.specs.Shares.{acts_of}
-use Rattle.load_run.specs.Adding.{HasAdded}
+use Rattle.pequod_cache.specs.Adding.{HasAdded}
 
 -- a client, and its acts in order
 pub record Assigned : Type 0 where

@@ -1,4 +1,2 @@
-pub mod Adding
 pub mod Jobs
-pub mod Meeting
 pub mod Holdings

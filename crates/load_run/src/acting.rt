@@ -2,7 +2,7 @@
 ghost use Rattle.std.specs.Prelude.{◌∷◌, [], OnOk};
 ghost use Rattle.join_types.specs.Writes.{plain_write};
 ghost use Rattle.load_gen.specs.Entries.{entry_by, act_entries, entries_of};
-ghost use Rattle.load_run.specs.Adding.{HasAdded};
+ghost use Rattle.pequod_cache.specs.Adding.{HasAdded};
 
 use base_shards::Naming;
 use join_types::Write;
@@ -12,7 +12,7 @@ use out_of_memory::OutOfMemory;
 use pequod_cache::Client;
 use pq_io::Gate;
 use request_codec::Reply;
-use std::alloc::Global;
+use std::alloc::{AllocError, Global};
 use std::sync::Wait;
 
 /// Makes a write.
@@ -25,8 +25,11 @@ fn take_write<N: Naming, G: Gate, R: Wait>(
 ) -> Result<(), OutOfMemory>
     ensures { OnOk result (HasAdded (entry_by client.old.number (plain_write change) ∷ []) client.old client.new) }
 {
-    let Reply::Done(_position) = client.write(rt, change) else {
-        return Err(OutOfMemory);
+    let _position = match client.write(rt, change) {
+        Reply::Done(position) => position,
+        Reply::Memory(memory) => return Err(memory),
+        // It never comes: no join computes what a load writes, and the history has room for it.
+        _ => return Err(OutOfMemory::from(AllocError)),
     };
     Ok(())
 }

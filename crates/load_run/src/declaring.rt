@@ -2,7 +2,7 @@
 ghost use Rattle.std.specs.Prelude.{◌≡◌, ◌+◌, ◌∷◌, [], IfOk, OnOk, slice_get, Some};
 ghost use Rattle.semantics.specs.Histories.{IsPrefix, declare};
 ghost use Rattle.load_gen.specs.Entries.{declared_joins, entry_by};
-ghost use Rattle.load_run.specs.Adding.{HasAdded};
+ghost use Rattle.pequod_cache.specs.Adding.{HasAdded};
 
 use base_shards::Naming;
 use join_types::Join;
@@ -11,7 +11,7 @@ use out_of_memory::OutOfMemory;
 use pequod_cache::Client;
 use pq_io::Gate;
 use request_codec::Reply;
-use std::alloc::Global;
+use std::alloc::{AllocError, Global};
 use std::sync::Wait;
 
 /// Declares the join with the client that has the number 0, as the entry after so many, and gives its position.
@@ -28,11 +28,14 @@ fn declare_next<N: Naming, G: Gate, R: Wait>(
     ensures added { OnOk result (HasAdded (entry_by 0 (declare join) ∷ []) first.old first.new) }
     ensures entry { OnOk result (slice_get first.new.view before ≡ Some (entry_by 0 (declare join))) }
 {
-    let Reply::Done(position) = first.declare(rt, join) else {
-        return Err(OutOfMemory);
+    let position = match first.declare(rt, join) {
+        Reply::Done(position) => position,
+        Reply::Memory(memory) => return Err(memory),
+        // It never comes: nobody else writes yet, and the joins may be declared in turn. No contract tells the first.
+        _ => return Err(OutOfMemory::from(AllocError)),
     };
     if before.checked_add(1) != Some(position) {
-        return Err(OutOfMemory);
+        return Err(OutOfMemory::from(AllocError));
     }
     Ok(position)
 }

@@ -3,7 +3,7 @@ ghost use Rattle.std.specs.Prelude.{◌≡◌, ◌+◌, ◌∷◌, [], true, IfO
 ghost use Rattle.std.specs.List.{ends_with};
 ghost use Rattle.semantics.specs.Texts.{bar, is_key};
 ghost use Rattle.load_gen.specs.Lines.{pair_bytes, holding_of};
-ghost use Rattle.load_run.specs.Adding.{OnlyReads};
+ghost use Rattle.pequod_cache.specs.Adding.{OnlyReads};
 ghost use Rattle.load_run.specs.Holdings.{plain_holding, IsHeldBetween};
 
 use base_shards::Naming;
@@ -12,7 +12,7 @@ use key_space::Range;
 use out_of_memory::OutOfMemory;
 use pequod_cache::Client;
 use pq_io::Gate;
-use std::alloc::Global;
+use std::alloc::{AllocError, Global};
 use std::sync::Wait;
 
 /// What a table holds.
@@ -38,7 +38,10 @@ pub struct Held {
 pub fn add_bytes(bytes: u64, more: u64) -> Result<u64, OutOfMemory>
     ensures { IfOk result (λ sum. sum ≡ bytes + more) }
 {
-    bytes.checked_add(more).ok_or(OutOfMemory)
+    match bytes.checked_add(more) {
+        Some(sum) => Ok(sum),
+        None => Err(OutOfMemory::from(AllocError)),
+    }
 }
 
 /// The bytes of a pair's key and value.

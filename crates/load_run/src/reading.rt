@@ -1,31 +1,16 @@
 // What all tables hold, once every worker has returned.
-ghost use Rattle.std.specs.Prelude.{[], IfOk, OnOk};
-ghost use Rattle.load_run.specs.Adding.{HasAdded, OnlyReads};
+ghost use Rattle.std.specs.Prelude.{IfOk, OnOk};
+ghost use Rattle.pequod_cache.specs.Adding.{OnlyReads};
 ghost use Rattle.load_run.specs.Holdings.{AreHeldBetween, AreHeldOf};
-ghost use Rattle.load_run.specs.Meeting.{HaveMet};
 
 use crate::held::table_held;
 use crate::text::Tables;
 use base_shards::Naming;
 use out_of_memory::OutOfMemory;
-use pequod_cache::Client;
+use pequod_cache::{Client, meet_all};
 use pq_io::Gate;
 use std::alloc::Global;
 use std::sync::Wait;
-
-/// The first client meets each of the others, clients of one cache.
-fn meet_all<'g, N: Naming, G: Gate, R>(
-    rt: &R,
-    first: &mut Client<'g, N, G>,
-    others: &mut [Client<'g, N, G>],
-)
-    ensures added { HasAdded [] first.old first.new }
-    ensures met { HaveMet first.old.view first.new.view others.old others.new }
-{
-    for other in others.iter_mut() {
-        first.meet(rt, other);
-    }
-}
 
 /// What the tables hold, read one after another.
 fn read_tables<N: Naming, G: Gate, R: Wait>(

@@ -6,12 +6,22 @@
 
 ghost use Rattle.std.specs.Prelude.{◌≡◌, ◌⊎◌, IfErr};
 
+use out_of_memory::OutOfMemory;
 use pequod_commands::usage::usage;
 use pequod_commands::{Status, links, pequod};
 use pq_io::{FileShelf, OpenGate, Reading, TcpDoors, Writing};
-use std::env;
-use std::io::ErrorKind;
 use std::process::ExitCode;
+use std::{env, io};
+
+/// How the program ends where the system gave an error in place of its words.
+fn without_words(error: &io::Error) -> Status
+    ensures { (result.number ≡ 2) ⊎ (result.number ≡ 6) }
+{
+    match OutOfMemory::of_system(error) {
+        Some(memory) => Status::memory(memory),
+        None => Status::WORDS,
+    }
+}
 
 /// The words after the program's name, or how the program ends without them: words that are not text form no command,
 /// and there may be no memory for them.
@@ -20,13 +30,12 @@ fn given_words(rt: &HostRuntime) -> Result<Vec<String>, Status>
 {
     let given = match env::args(rt) {
         Ok(given) => given,
-        Err(error) if error.kind() == ErrorKind::OutOfMemory => return Err(Status::MEMORY),
-        Err(_) => return Err(Status::WORDS),
+        Err(error) => return Err(without_words(&error)),
     };
     let mut words = Vec::new(rt.alloc());
     for word in given.skip(1) {
-        if words.push(word).is_err() {
-            return Err(Status::MEMORY);
+        if let Err(failed) = words.push(word) {
+            return Err(Status::memory(failed.into()));
         }
     }
     Ok(words)
@@ -60,5 +69,5 @@ fn main(rt: HostRuntime) -> ExitCode {
     {
         let _ = rt.eprintln(text.as_str());
     }
-    ExitCode::from(status.number)
+    ExitCode::from(status.number())
 }

@@ -7,12 +7,12 @@ use Rattle.pq_io.proofs.StreamLemmas.{Gave-nothing, Took-nothing}
 use Rattle.pequod_commands.specs.Statuses.{RunsTo}
 
 -- where there was no memory at the start, nothing was read and nothing written
-pub runs_to_no_memory : (left taken : Option Text) → RunsTo 6 left left taken taken
-runs_to_no_memory left taken = record {
+pub runs_to_no_memory : (status : ℕ) (left taken : Option Text) → status ≡ 6 → RunsTo status left left taken taken
+runs_to_no_memory status left taken six = record {
   ending = no_memory;
   bytes = [];
   written = [];
-  status_is = refl;
+  status_is = six;
   gave = Gave-nothing left;
   took = Took-nothing taken;
   view = [];

@@ -4,3 +4,4 @@ pub mod Replays
 pub mod Serves
 pub mod Loads
 pub mod Messages
+pub mod Numbered

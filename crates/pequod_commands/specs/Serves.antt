@@ -4,7 +4,7 @@ use Rattle.semantics.specs.Texts.{Text}
 use Rattle.semantics.specs.Joins.{Join}
 use Rattle.semantics.specs.Histories.{History}
 use Rattle.protocol.specs.JoinsFile.{file_history, check_text}
-use Rattle.pq_io.specs.Doors.{IsOpenAt}
+use Rattle.pq_io.specs.Doors.{DoorsTold, OpenedAt, OpenedNowhereElse}
 use Rattle.pq_io.specs.Links.{LinkTold}
 use Rattle.pq_io.specs.Streams.{Took, TookProperPrefix}
 use Rattle.pq_io.specs.Shelf.{File}
@@ -53,22 +53,24 @@ pub record EndsUnserved (status : ℕ) (held : Option (List File)) (joins taken 
   pub ending : Unserved
   pub ended : UnservedAs ending status held joins taken taken_now
 
--- how `serve` ends: the doors, which were open at the address, closed, or they failed, after these joins were declared; or it ended with no link
+-- how `serve` ends: the doors, which were opened at the address and nowhere else, closed, or they failed, after these joins were declared; or it ended with no link
 pub data Serving : Type 0 where
   closed : List Join → Serving
   failed : List Join → Serving
   unserved : Unserved → Serving
 
 module _ {K R : Type 0} (told : K → LinkTold) (tells : R → LinkTold) where
-  -- what each end says of the status, of the joins file, of what the sink took, and of the links: the address, how many workers served them, what the doors held and hold, the receipts that came back, and where the doors were opened
-  abbrev pub ServedAs : Serving → ℕ → Text → ℕ → Option (List File) → Option Text → Option Text → Option Text → Option (List K) → Option (List K) → Option (List (List R)) → Option (Option Text) → Type 0
-  ServedAs (closed served) status address workers held joins taken taken_now links links_now returned opened =
-      (status ≡ 0) × AreServed held joins served × Took taken taken_now [] × HoldNone links_now × IsOpenAt opened address × LinksCameBack told tells workers served links links_now returned
-  ServedAs (failed served) status address workers held joins taken taken_now links links_now returned opened =
-      (status ≡ 8) × AreServed held joins served × Took taken taken_now [] × LinksCameBack told tells workers served links links_now returned
-  ServedAs (unserved ending) status address workers held joins taken taken_now links links_now returned opened = UnservedAs ending status held joins taken taken_now
+  -- what each end says of the status, of the joins file, of what the sink took, and of what the doors told and tell: of the links, by how many workers they were served, and of the addresses
+  abbrev pub ServedAs : Serving → ℕ → Text → ℕ → Option (List File) → Option Text → Option Text → Option Text → DoorsTold K R → DoorsTold K R → Type 0
+  ServedAs (closed served) status address workers held joins taken taken_now doors doors_now =
+      (status ≡ 0) × AreServed held joins served × Took taken taken_now [] × HoldNone doors_now.held × OpenedAt doors.opened doors_now.opened address
+      × LinksCameBack told tells workers served doors doors_now
+  ServedAs (failed served) status address workers held joins taken taken_now doors doors_now =
+      (status ≡ 8) × AreServed held joins served × Took taken taken_now [] × OpenedNowhereElse doors.opened doors_now.opened address
+      × LinksCameBack told tells workers served doors doors_now
+  ServedAs (unserved ending) status address workers held joins taken taken_now doors doors_now = UnservedAs ending status held joins taken taken_now
 
   -- `serve` at an address by so many workers, with or without a joins file, ended one of these ways
-  pub record ServesTo (status : ℕ) (address : Text) (workers : ℕ) (held : Option (List File)) (joins taken taken_now : Option Text) (links links_now : Option (List K)) (returned : Option (List (List R))) (opened : Option (Option Text)) : Type 0 where
+  pub record ServesTo (status : ℕ) (address : Text) (workers : ℕ) (held : Option (List File)) (joins taken taken_now : Option Text) (doors doors_now : DoorsTold K R) : Type 0 where
     pub ending : Serving
-    pub served : ServedAs ending status address workers held joins taken taken_now links links_now returned opened
+    pub served : ServedAs ending status address workers held joins taken taken_now doors doors_now

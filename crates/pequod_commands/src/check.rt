@@ -23,10 +23,11 @@ pub fn check<W: Sink, F: Shelf>(alloc: Global, name: &str, sink: &mut W, shelf: 
     let bytes = match shelf.take(alloc, name) {
         Ok(bytes) => bytes,
         Err(TakeFault::Failed) => return Status::SHELF_FAULT,
-        Err(TakeFault::OutOfMemory) => return Status::MEMORY,
+        Err(TakeFault::OutOfMemory(memory)) => return Status::memory(memory),
     };
-    let Ok(report) = report(alloc, bytes.as_slice()) else {
-        return Status::MEMORY;
+    let report = match report(alloc, bytes.as_slice()) {
+        Ok(report) => report,
+        Err(memory) => return Status::memory(memory),
     };
     match write_whole(sink, report.text.as_slice()) {
         Err(Failed) => Status::WRITE_FAULT,

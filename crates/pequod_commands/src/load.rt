@@ -35,8 +35,9 @@ pub fn load<R: Threads + Wait + Sync, W: Sink, G: Gate + Sync>(
     ensures writes_kept { result.number ≢ 5 → W.faults sink.new ≡ W.faults sink.old }
     ensures memory_sink { result.number ≡ 6 → sink.new ≡ sink.old }
 {
-    let Ok(line) = load_text(rt, alloc, gate, room.cells, room.rows, load) else {
-        return Status::MEMORY;
+    let line = match load_text(rt, alloc, gate, room.cells, room.rows, load) {
+        Ok(line) => line,
+        Err(memory) => return Status::memory(memory),
     };
     match write_whole(sink, line.as_slice()) {
         Err(Failed) => Status::WRITE_FAULT,

@@ -68,10 +68,11 @@ pub fn replay<W: Sink, F: Shelf>(
     let bytes = match shelf.take(alloc, name) {
         Ok(bytes) => bytes,
         Err(TakeFault::Failed) => return Status::SHELF_FAULT,
-        Err(TakeFault::OutOfMemory) => return Status::MEMORY,
+        Err(TakeFault::OutOfMemory(memory)) => return Status::memory(memory),
     };
-    let Ok(printed) = print_answers(alloc, bytes.as_slice(), room) else {
-        return Status::MEMORY;
+    let printed = match print_answers(alloc, bytes.as_slice(), room) {
+        Ok(printed) => printed,
+        Err(memory) => return Status::memory(memory),
     };
     match write_whole(sink, printed.text.as_slice()) {
         Err(Failed) => Status::WRITE_FAULT,

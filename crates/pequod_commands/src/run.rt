@@ -25,7 +25,7 @@ fn status_of(end: End) -> Status
         End::ReadFault => Status::READ_FAULT,
         End::WriteFault => Status::WRITE_FAULT,
         End::Spent => Status::SPENT,
-        End::OutOfMemory => Status::MEMORY,
+        End::OutOfMemory(memory) => Status::memory(memory),
     }
 }
 
@@ -76,8 +76,9 @@ fn serve_alone<N: Naming, R: Wait, L: Link, G: Gate>(
     ensures memory { result.number ≡ 6 → link.new ≡ link.old }
     ensures same_borrows { L.borrows link.new ≡ L.borrows link.old }
 {
-    let Ok(client) = LoneClient::<R, N, G>::make(rt, alloc, seats, limit, gate) else {
-        return Status::MEMORY;
+    let client = match LoneClient::<R, N, G>::make(rt, alloc, seats, limit, gate) {
+        Ok(client) => client,
+        Err(memory) => return Status::memory(memory),
     };
     serve_only(alloc, client, link)
 }
@@ -105,8 +106,9 @@ pub fn run<R: Wait, S: Source, W: Sink, G: Gate>(
     ensures memory_source { result.number ≡ 6 → source.new ≡ source.old }
     ensures memory_sink { result.number ≡ 6 → sink.new ≡ sink.old }
 {
-    let Ok(seats) = Seats::make(alloc, 1, room.cells) else {
-        return Status::MEMORY;
+    let seats = match Seats::make(alloc, 1, room.cells) {
+        Ok(seats) => seats,
+        Err(memory) => return Status::memory(memory),
     };
     let mut link = Both::new(source, sink);
     serve_alone::<Brand, _, _, _>(rt, alloc, seats, room.rows, &mut link, gate)

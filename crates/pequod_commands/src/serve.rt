@@ -1,7 +1,7 @@
 // Serving clients over links.
 ghost use Rattle.std.specs.Prelude.{◌≡◌, ◌≢◌, ◌≤◌, ◌⊎◌, map, option_map, is_err, true, IfErr, IfOk, MatchOption, OnOk};
 ghost use Rattle.protocol.specs.JoinsFile.{check_text, file_history};
-ghost use Rattle.pq_io.specs.Doors.{IsOpenAt};
+ghost use Rattle.pq_io.specs.Doors.{OpenedAt, OpenedNowhereElse, doors_told};
 ghost use Rattle.pq_io.specs.Faults.{Rose};
 ghost use Rattle.pq_io.specs.Links.{link_told};
 ghost use Rattle.pq_io.specs.Streams.{Took, TookProperPrefix};
@@ -66,8 +66,9 @@ fn write_refused<W: Sink>(alloc: Global, bytes: &[u8], sink: &mut W) -> Status
     ensures writes_kept { result.number ≢ 5 → W.faults sink.new ≡ W.faults sink.old }
     ensures memory_sink { result.number ≡ 6 → sink.new ≡ sink.old }
 {
-    let Ok(report) = report(alloc, bytes) else {
-        return Status::MEMORY;
+    let report = match report(alloc, bytes) {
+        Ok(report) => report,
+        Err(memory) => return Status::memory(memory),
     };
     match write_whole(sink, report.text.as_slice()) {
         Ok(()) => Status::REFUSED,
@@ -104,12 +105,12 @@ fn named_joins<W: Sink, F: Shelf>(
     let bytes = match shelf.take(alloc, name) {
         Ok(bytes) => bytes,
         Err(TakeFault::Failed) => return Err(Status::SHELF_FAULT),
-        Err(TakeFault::OutOfMemory) => return Err(Status::MEMORY),
+        Err(TakeFault::OutOfMemory(memory)) => return Err(Status::memory(memory)),
     };
     match joins_of(alloc, bytes.as_slice()) {
         Ok(Some(joins)) => Ok(joins),
         Ok(None) => Err(write_refused(alloc, bytes.as_slice(), sink)),
-        Err(OutOfMemory) => Err(Status::MEMORY),
+        Err(memory) => Err(Status::memory(memory)),
     }
 }
 
@@ -134,8 +135,10 @@ where
     requires few_workers { serving.workers ≤ 64 }
     requires joins { AreDeclarable joins.items }
     ensures closed { result.number ≡ 0 → HoldNone (D.held doors.new) }
-    ensures opened { result.number ≡ 0 → IsOpenAt (D.opened doors.new) serving.entry.address.now }
-    ensures links { result.number ≢ 6 → LinksCameBack (link_told D.Wire.left D.Wire.taken D.Wire.read_faults D.Wire.write_faults) D.Wire.tells serving.entry.workers joins.items (D.held doors.old) (D.held doors.new) (D.returned doors.new) }
+    ensures opened { result.number ≡ 0 → OpenedAt (D.opened doors.old) (D.opened doors.new) serving.entry.address.now }
+    ensures nowhere_else { result.number ≡ 8 → OpenedNowhereElse (D.opened doors.old) (D.opened doors.new) serving.entry.address.now }
+    ensures links { result.number ≢ 6 → LinksCameBack (link_told D.Wire.left D.Wire.taken D.Wire.read_faults D.Wire.write_faults) D.Wire.tells serving.entry.workers joins.items
+        (doors_told D.held D.returned D.opened D.faults doors.old) (doors_told D.held D.returned D.opened D.faults doors.new) }
     ensures ends { (result.number ≡ 0) ⊎ ((result.number ≡ 6) ⊎ (result.number ≡ 8)) }
     ensures doors_later { D.faults doors.old ≤ D.faults doors.new }
     ensures doors { result.number ≡ 8 → Rose (D.faults doors.old) (D.faults doors.new) }
@@ -150,13 +153,13 @@ where
     match server::serve(rt, alloc, size, joins, serving.address, doors, gate) {
         Ended::Closed => Status::DONE,
         Ended::Failed => Status::DOORS_FAULT,
-        Ended::OutOfMemory => Status::MEMORY,
+        Ended::OutOfMemory(memory) => Status::memory(memory),
     }
 }
 
 /// Declares the joins of the joins file, opens the doors, and serves each link that they give until they close or fail. Then the
-/// receipts of all these links go back to the doors. A line of the joins file that is refused is written. Where the status is neither
-/// 0 nor 8 the doors stay as they are.
+/// receipts of all these links go back to the doors. A line of the joins file that is refused is written. Where the status is
+/// neither 0 nor 8 the doors stay as they are.
 pub fn serve<R, W, F, D, G>(
     rt: &R,
     alloc: Global,
@@ -178,7 +181,9 @@ where
     requires some_rows { 1 ≤ serving.room.rows }
     requires some_workers { 1 ≤ serving.workers }
     requires few_workers { serving.workers ≤ 64 }
-    ensures serve { ServesTo (link_told D.Wire.left D.Wire.taken D.Wire.read_faults D.Wire.write_faults) D.Wire.tells result.number serving.entry.address.now serving.entry.workers (F.held shelf.old) (option_map (λ text. text.now) serving.entry.joins) (W.taken sink.old) (W.taken sink.new) (D.held doors.old) (D.held doors.new) (D.returned doors.new) (D.opened doors.new) }
+    ensures serve { ServesTo (link_told D.Wire.left D.Wire.taken D.Wire.read_faults D.Wire.write_faults) D.Wire.tells result.number serving.entry.address.now serving.entry.workers
+        (F.held shelf.old) (option_map (λ text. text.now) serving.entry.joins) (W.taken sink.old) (W.taken sink.new)
+        (doors_told D.held D.returned D.opened D.faults doors.old) (doors_told D.held D.returned D.opened D.faults doors.new) }
     ensures same_held { F.held shelf.new ≡ F.held shelf.old }
     ensures sink_later { W.faults sink.old ≤ W.faults sink.new }
     ensures shelf_later { F.faults shelf.old ≤ F.faults shelf.new }

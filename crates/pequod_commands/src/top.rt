@@ -1,5 +1,6 @@
 // The top call: all that the program does, over what it is handed.
 ghost use Rattle.std.specs.Prelude.{◌≡◌, ◌≢◌, ◌<◌, ◌≤◌, ◌↔◌, ◌⊎◌, List, Option, ℕ, map, string_bytes, false, Some, None};
+ghost use Rattle.pq_io.specs.Doors.{doors_told};
 ghost use Rattle.pq_io.specs.Faults.{Rose};
 ghost use Rattle.pq_io.specs.Links.{link_told};
 ghost use Rattle.command_words.specs.Commands as plain;
@@ -24,14 +25,14 @@ use std::thread::Threads;
 
 /// Does what the words after the program's name ask for, and says how that ended.
 ///
-/// `run` answers one client's lines from the source into the sink. `check FILE` takes a joins file from the shelf and
-/// writes about it into the sink. `replay FILE` takes a script from the shelf and writes the answers to its events. `load`
-/// does acts that are drawn and writes what stands then. `serve ADDRESS` declares the joins of a joins file, if one is named,
-/// opens the doors and answers the lines of each link that they give. Words that form no command have status 2. What a command
-/// does not use is unchanged: `run` leaves the shelf and the doors, `check` and `replay` the source and the doors, `load` all but
-/// the sink, `serve` the source, and no command all four. With status 6 source and sink are unchanged, and with each status but 0 and
-/// 8 the doors. When `serve` ends with 0 or 8, the receipts of all links that the doors gave have gone back to them. The gate is
-/// passed before a range of a join's output is filled or mended for a link or for a worker of a load.
+/// `run` answers one client's lines from the source into the sink. `check FILE` takes a joins file from the shelf and writes about
+/// it into the sink. `replay FILE` takes a script from the shelf and writes the answers to its events. `load` does acts that are
+/// drawn and writes what stands then. `serve ADDRESS` declares the joins of a joins file, if one is named, opens the doors and
+/// answers the lines of each link that they give. Words that form no command have status 2. What a command does not use is
+/// unchanged: `run` leaves the shelf and the doors, `check` and `replay` the source and the doors, `load` all but the sink, `serve`
+/// the source, and no command all four. With status 6 source and sink are unchanged, and with each status but 0 and 8 the doors.
+/// When `serve` ends with 0 or 8, the receipts of all links that the doors gave have gone back to them. The gate is passed before a
+/// range of a join's output is filled or mended for a link or for a worker of a load.
 pub fn pequod<R, S, W, F, D, G>(
     rt: &R,
     alloc: Global,
@@ -61,7 +62,8 @@ where
         LoadsTo result.number number steps users (W.taken sink.old) (W.taken sink.new) }
     ensures serve { (address : List ℕ) (room : plain.Room) (workers links : ℕ) (joins : Option (List ℕ)) → built_command (map string_bytes words.now) ≡ Some (plain.serve address room workers links joins) →
         ServesTo (link_told D.Wire.left D.Wire.taken D.Wire.read_faults D.Wire.write_faults) D.Wire.tells result.number address workers
-        (F.held shelf.old) joins (W.taken sink.old) (W.taken sink.new) (D.held doors.old) (D.held doors.new) (D.returned doors.new) (D.opened doors.new) }
+        (F.held shelf.old) joins (W.taken sink.old) (W.taken sink.new)
+        (doors_told D.held D.returned D.opened D.faults doors.old) (doors_told D.held D.returned D.opened D.faults doors.new) }
 
     // Where no count rose, `check`, `replay` and `load` have one of these ends, and so has `serve`.
     ensures check_ends { (name : List ℕ) → built_command (map string_bytes words.now) ≡ Some (plain.check name) →

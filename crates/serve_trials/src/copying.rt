@@ -2,8 +2,9 @@
 ghost use Rattle.std.specs.Prelude.{Some};
 ghost use Rattle.pq_io.specs.Memory.{told_of_state};
 
+use out_of_memory::OutOfMemory;
 use pequod_commands::{Status, pequod};
-use pq_io::{Failed, Gate, Link, MemDoors, MemLink, MemShelf, MemSink, MemSource};
+use pq_io::{Failed, Finished, Gate, Link, MemDoors, MemLink, MemShelf, MemSink, MemSource};
 use std::alloc::Global;
 use std::process::Abort;
 use std::sync::{Arc, Mutex, Wait};
@@ -22,7 +23,7 @@ pub struct Copying<'a, R> {
 }
 
 impl<'a, R: Wait> Link for Copying<'a, R> {
-    type Receipt = MemLink;
+    type Receipt = Finished<MemLink>;
 
     ghost left = { λ l. Some l.link.source.left };
 
@@ -32,7 +33,7 @@ impl<'a, R: Wait> Link for Copying<'a, R> {
 
     ghost write_faults = { λ l. l.link.sink.log.faults };
 
-    ghost tells = { told_of_state };
+    ghost tells = { λ r. told_of_state r.link r.refused };
 
     fn read(&mut self, into: &mut [u8]) -> Result<usize, Failed> {
         self.link.read(into)
@@ -45,9 +46,9 @@ impl<'a, R: Wait> Link for Copying<'a, R> {
         Ok(count)
     }
 
-    fn finish(self) -> MemLink {
+    fn finish(self, refused: Option<OutOfMemory>) -> Finished<MemLink> {
         let Copying { link, .. } = self;
-        link
+        link.finish(refused)
     }
 }
 

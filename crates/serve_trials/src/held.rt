@@ -3,8 +3,9 @@ ghost use Rattle.std.specs.Prelude.{Some};
 ghost use Rattle.pq_io.specs.Memory.{told_of_state};
 
 use crate::copying::{Copying, Taken, cut_link, expect_taken, serve_by};
+use out_of_memory::OutOfMemory;
 use pequod_commands::Status;
-use pq_io::{Failed, Gate, Link, MemLink};
+use pq_io::{Failed, Finished, Gate, Link, MemLink};
 use std::alloc::Global;
 use std::sync::{Arc, Mutex, Wait};
 use std::test::Fail;
@@ -91,7 +92,7 @@ fn count_lines(bytes: &[u8]) -> usize {
 }
 
 impl<R: Wait> Link for Paced<'_, R> {
-    type Receipt = MemLink;
+    type Receipt = Finished<MemLink>;
 
     ghost left = { λ l. Some l.link.link.source.left };
 
@@ -101,7 +102,7 @@ impl<R: Wait> Link for Paced<'_, R> {
 
     ghost write_faults = { λ l. l.link.link.sink.log.faults };
 
-    ghost tells = { told_of_state };
+    ghost tells = { λ r. told_of_state r.link r.refused };
 
     fn read(&mut self, into: &mut [u8]) -> Result<usize, Failed> {
         if let Some(stage) = self.waits.pop() {
@@ -119,9 +120,9 @@ impl<R: Wait> Link for Paced<'_, R> {
         Ok(count)
     }
 
-    fn finish(self) -> MemLink {
+    fn finish(self, refused: Option<OutOfMemory>) -> Finished<MemLink> {
         let Paced { link, .. } = self;
-        link.finish()
+        link.finish(refused)
     }
 }
 

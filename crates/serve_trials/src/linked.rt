@@ -1,4 +1,5 @@
-// What `serve` answers on links: with a joins file, where a link fails or ends within a line, and where the doors fail.
+// What `serve` answers on links, and how many receipts of them come back: with a joins file, where a link fails or ends within a
+// line, and where the doors fail.
 use crate::copying::{expect_taken, link_of, serve_by};
 use pequod_commands::Status;
 use pq_io::OpenGate;
@@ -7,6 +8,9 @@ use std::test::Fail;
 
 /// The words without a joins file.
 const ALONE: [&str; 2] = ["serve", "127.0.0.1:7000"];
+
+/// How many workers there are where the words do not say.
+const WORKERS: usize = 4;
 
 /// The words with a joins file.
 const WITH_JOINS: [&str; 4] = ["serve", "127.0.0.1:7000", "--joins", "j"];
@@ -31,9 +35,8 @@ struct Row {
     links: &'static [(&'static str, &'static str)],
     /// The number of the write of the first link that fails, or 0.
     failing_write: usize,
-    /// The number of the call of the doors that fails, or 0.
+    /// The number of the call of the doors that fails, with which it ends, or 0.
     failing_doors: usize,
-    status: Status,
 }
 
 const ROWS: [Row; 5] = [
@@ -46,7 +49,6 @@ const ROWS: [Row; 5] = [
         )],
         failing_write: 0,
         failing_doors: 0,
-        status: Status::DONE,
     },
     // A link whose write fails ends alone.
     Row {
@@ -54,7 +56,6 @@ const ROWS: [Row; 5] = [
         links: &[("[\"get\",\"k|a\"]\n", ""), TIMELINE],
         failing_write: 1,
         failing_doors: 0,
-        status: Status::DONE,
     },
     // A line that the link ends in is answered.
     Row {
@@ -65,14 +66,12 @@ const ROWS: [Row; 5] = [
         )],
         failing_write: 0,
         failing_doors: 0,
-        status: Status::DONE,
     },
     Row {
         words: &ALONE,
         links: &[("[\"put\",\"k|a\"", "[\"error\",\"json\"]\n")],
         failing_write: 0,
         failing_doors: 0,
-        status: Status::DONE,
     },
     // A link before the doors fail, where they are asked for the second one, is answered whole.
     Row {
@@ -80,7 +79,6 @@ const ROWS: [Row; 5] = [
         links: &[TIMELINE],
         failing_write: 0,
         failing_doors: 2,
-        status: Status::DOORS_FAULT,
     },
 ];
 
@@ -91,6 +89,15 @@ fn listed(alloc: Global, number: usize) -> Result<Vec<usize>, Fail> {
         list.push(number)?;
     }
     Ok(list)
+}
+
+/// How many elements the lists have together.
+fn count_all<T>(lists: &[Vec<T>]) -> usize {
+    let mut count = 0usize;
+    for list in lists {
+        count = count.saturating_add(list.len());
+    }
+    count
 }
 
 #[test]
@@ -105,7 +112,14 @@ fn links_are_answered(rt: HostRuntime) -> Result<(), Fail> {
             told.push(taken)?;
         }
         let doors = listed(alloc, row.failing_doors)?;
-        serve_by(&rt, row.words, links, doors, &OpenGate, row.status)?;
+        let wanted = if row.failing_doors == 0 {
+            Status::DONE
+        } else {
+            Status::DOORS_FAULT
+        };
+        let doors = serve_by(&rt, row.words, links, doors, &OpenGate, wanted)?;
+        let lists = doors.returned();
+        assert!(rt; lists.len() == WORKERS && count_all(lists) == row.links.len());
         for (taken, (_, replies)) in told.iter().zip(row.links.iter()) {
             expect_taken(&rt, taken, replies);
         }

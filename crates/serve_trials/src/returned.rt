@@ -1,7 +1,7 @@
-// The receipts of links, which go back to the doors that gave them.
+// The receipts of links, which go back to the doors that gave them, and where these were opened.
 use crate::copying::serve_by;
 use pequod_commands::Status;
-use pq_io::{MemLink, MemSink, MemSource, OpenGate};
+use pq_io::{MemDoors, MemLink, MemSink, MemSource, OpenGate};
 use std::alloc::Global;
 use std::test::Fail;
 
@@ -34,15 +34,25 @@ fn make_links(alloc: Global) -> Result<Vec<MemLink>, Fail> {
     Ok(links)
 }
 
+/// Whether the doors tell that they were opened once, at the address.
+fn is_opened_once(doors: &MemDoors<MemLink>, address: &str) -> bool {
+    match doors.opened() {
+        Some(all) => all.len() == 1 && all[0].as_str() == address,
+        None => false,
+    }
+}
+
 #[test]
 fn links_come_back_with_what_they_took(rt: HostRuntime) -> Result<(), Fail> {
     let alloc: Global = rt.alloc();
     let links = make_links(alloc)?;
     let doors = serve_by(&rt, &ALONE, links, Vec::new(alloc), &OpenGate, Status::DONE)?;
+    assert!(rt; is_opened_once(&doors, ALONE[1]));
     let lists = doors.returned();
     assert!(rt; lists.len() == 1 && lists[0].len() == LINKS.len());
-    for ((_, answers), link) in LINKS.iter().zip(lists[0].as_slice()) {
-        assert!(rt; link.bytes() == answers.as_bytes());
+    for ((_, answers), receipt) in LINKS.iter().zip(lists[0].as_slice()) {
+        assert!(rt; receipt.refused.is_none());
+        assert!(rt; receipt.link.bytes() == answers.as_bytes());
     }
     Ok(())
 }

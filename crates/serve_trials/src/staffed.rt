@@ -77,10 +77,10 @@ fn serve<N: Naming + Send + Sync, J: Declaring, R: Threads + Wait + Abort + Sync
     requires joins { AreDeclarable joins.items }
     requires declares { joins.items ≡ J.joins }
 {
-    let (workers, updater) = staff::<N, _, _>(rt, alloc, seats, 1_000, joins, &OpenGate)?;
+    let (first, workers, updater) = staff::<N, _, _>(rt, alloc, seats, 1_000, joins, &OpenGate)?;
     let mut doors = MemDoors::new(links, fails);
     let address = "127.0.0.1:7000";
-    Ok(serve_doors::<N, J, _, _, _>(rt, alloc, address, &mut doors, workers, updater))
+    Ok(serve_doors::<N, J, _, _, _>(rt, alloc, address, &mut doors, first, workers, updater))
 }
 
 /// Puts a pair, and reads the join's output.

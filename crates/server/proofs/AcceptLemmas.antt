@@ -1,7 +1,7 @@
--- Links that doors give, and that are put into a queue.
-use Rattle.std.proofs.Common.{◌≡◌, List, [], ◌∷◌, ◌++◌, Some, None, Option, Result, Ok, Err, refl, sym, ap, ◌∙◌, append_assoc, append-nil}
-use Rattle.std.specs.Prelude.{option_map, OnOk}
-use Rattle.pq_io.specs.Doors.{GaveLink}
+-- Links that doors give, and that are put into a queue; and where the doors were opened.
+use Rattle.std.proofs.Common.{◌≡◌, ℕ, inr, List, [], ◌∷◌, ◌++◌, Some, None, Option, Result, Ok, Err, refl, sym, ap, ◌∙◌, append_assoc, append-nil}
+use Rattle.std.specs.Prelude.{option_map}
+use Rattle.pq_io.specs.Doors.{GaveLink, OpenedAt, OpenedFor}
 use Rattle.door_queue.specs.Tallies.{Tallied, put_in}
 use Rattle.server.specs.Receipts.{HasAccepted}
 
@@ -36,7 +36,7 @@ accepted_same first before after t u so_far same = record {
   tally = so_far.tally;
 }
 
--- what holds in any case holds where it went well
-pub on_ok : {T E : Type 0} (P : Type 0) (result : Result T E) → P → OnOk result P
-on_ok P (Ok x) holds = holds
-on_ok P (Err e) holds = tt
+-- doors that were opened at the address, whether they failed then or not
+pub opened_for : {T E : Type 0} (old new : Option (List (List ℕ))) (address : List ℕ) (result : Result T E) → OpenedAt old new address → OpenedFor old new address result
+opened_for old new address (Ok x) opened = opened
+opened_for old new address (Err e) opened = inr opened

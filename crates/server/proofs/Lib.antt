@@ -1,3 +1,4 @@
 pub mod StaffLemmas
 pub mod ReceiptLemmas
 pub mod AcceptLemmas
+pub mod EndLemmas

@@ -1,25 +1,29 @@
 -- Links that are served one after another, and what comes back of all.
-use Rattle.std.proofs.Common.{◌≡◌, ◌≢◌, ℕ, zero, suc, ◌+◌, ◌-◌, ◌≤◌, List, [], ◌∷◌, ◌++◌, length, map, Some, Option, refl, sym, ap, ◌∙◌, subst, arith, append_assoc, append-nil, length-append}
-use Rattle.std.specs.Prelude.{slice_get, option_map, IfSome}
+use Rattle.std.proofs.Common.{◌≡◌, ◌≢◌, ◌↔◌, ℕ, zero, suc, ◌+◌, ◌-◌, ◌≤◌, List, [], ◌∷◌, ◌++◌, length, map, Some, Option, refl, sym, ap, ◌∙◌, subst, arith, append_assoc, append-nil, length-append}
+use Rattle.std.specs.Prelude.{slice_get, option_map, IfSome, is_some, true, ⊤}
 use Rattle.std.specs.List.{AllByRecursion, AllZip}
 use Rattle.std.proofs.lemmas.List.{map-append, length-map}
 use Rattle.std.proofs.lemmas.List.Elements.{length_all_zip}
-use Rattle.std.proofs.lemmas.Option.{slice_get_within}
+use Rattle.std.proofs.lemmas.Option.{get_or_from_slice_get, slice_get_within}
 use Rattle.atomic_table.specs.Seated.{TableId}
 use Rattle.semantics.specs.Texts.{Text}
 use Rattle.semantics.specs.Joins.{Join}
 use Rattle.semantics.specs.Histories.{History, IsPrefix}
 use Rattle.protocol.specs.Session.{Served, no_memory, read_fault, write_fault}
+use Rattle.pq_io.specs.Doors.{DoorsTold}
 use Rattle.pq_io.specs.Faults.{Rose}
 use Rattle.pq_io.specs.Links.{LinkTold}
 use Rattle.pq_io.specs.Streams.{Gave, Took}
 use Rattle.pq_io.proofs.StreamLemmas.{Gave-nothing, Took-nothing}
+use Rattle.growing_history.proofs.ElementLemmas.{all_then}
 use Rattle.session.specs.declared.end.End.{End}
 use Rattle.session.specs.declared.end.End.TheVariants.{Closed, Quit, Long, ReadFault, WriteFault, Spent, OutOfMemory}
 use Rattle.session.specs.Ends.{plain_end}
 use Rattle.door_queue.specs.Tallies.{Tallied, EachOnce, all_parts, joined, taken_out, tally_of}
-use Rattle.write_history.specs.Passes.{HistoryId, PassView}
-use Rattle.server.specs.Staffs.{AreStaff, HasSeenJoins}
+use Rattle.write_history.specs.Entries.{IsRecorded, written_by}
+use Rattle.write_history.specs.Passes.{HistoryId, PassView, own}
+use Rattle.pequod_cache.specs.Meeting.{HasAllOf}
+use Rattle.server.specs.Staffs.{AreStaff, IsIdle}
 use Rattle.server.specs.Receipts.{WasServed, all_of, Shift, WorkerView, ServedInTurn, IsShift, CameBack, HasServed, HasWorked, HaveWorked, ServedTheRest, LinksCameBack, HasAccepted, joined_all, hired}
 
 -- ---- one link
@@ -31,7 +35,7 @@ is_read_fault Long is = absurd (cc)
 is_read_fault ReadFault is = refl
 is_read_fault WriteFault is = absurd (cc)
 is_read_fault Spent is = absurd (cc)
-is_read_fault OutOfMemory is = absurd (cc)
+is_read_fault (OutOfMemory _) is = absurd (cc)
 
 is_write_fault : (end : End) → plain_end end ≡ write_fault → end ≡ WriteFault
 is_write_fault Closed is = absurd (cc)
@@ -40,16 +44,25 @@ is_write_fault Long is = absurd (cc)
 is_write_fault ReadFault is = absurd (cc)
 is_write_fault WriteFault is = refl
 is_write_fault Spent is = absurd (cc)
-is_write_fault OutOfMemory is = absurd (cc)
+is_write_fault (OutOfMemory _) is = absurd (cc)
 
--- what `serve_link` says
+is_no_memory : (end : End) → plain_end end ≡ no_memory → end ≡ OutOfMemory tt
+is_no_memory Closed is = absurd (cc)
+is_no_memory Quit is = absurd (cc)
+is_no_memory Long is = absurd (cc)
+is_no_memory ReadFault is = absurd (cc)
+is_no_memory WriteFault is = absurd (cc)
+is_no_memory Spent is = absurd (cc)
+is_no_memory (OutOfMemory _) is = refl
+
+-- what `serve_link` says, where its want of memory is told, and nothing else as one
 pub was_served : (end : End) (client : ℕ) (before after : History) (old new : LinkTold) →
     ((bytes : Text) × (written : Text) × Gave old.left new.left bytes × Took old.taken new.taken written
     × Served (plain_end end) (record { before = before; after = after; client = client; bytes = bytes; written = written; left = new.left })) →
     old.read_faults ≤ new.read_faults → (end ≢ ReadFault → new.read_faults ≡ old.read_faults) → (end ≡ ReadFault → Rose old.read_faults new.read_faults) →
     old.write_faults ≤ new.write_faults → (end ≢ WriteFault → new.write_faults ≡ old.write_faults) → (end ≡ WriteFault → Rose old.write_faults new.write_faults) →
-    WasServed client before after old new
-was_served end client before after old new served reads_later reads_kept read_rose writes_later writes_kept write_rose = record {
+    ((is_some new.refused ≡ true) ↔ (end ≡ OutOfMemory tt)) → WasServed client before after old new
+was_served end client before after old new served reads_later reads_kept read_rose writes_later writes_kept write_rose refused = record {
   ending = plain_end end;
   bytes = served.0;
   written = served.1;
@@ -66,11 +79,12 @@ was_served end client before after old new served reads_later reads_kept read_ro
     kept = λ other. writes_kept (λ is. other (ap plain_end is));
     failed = λ is. write_rose (is_write_fault end is);
   };
+  refused = (λ tells. ap plain_end (refused.0 tells), λ is. refused.1 (is_no_memory end is));
 }
 
 -- a link for which no memory is found at first
-pub untouched : (client : ℕ) (view : History) (told : LinkTold) → WasServed client view view told told
-untouched client view told = record {
+pub untouched : (client : ℕ) (view : History) (told : LinkTold) (refused : Option ⊤) → is_some refused ≡ true → WasServed client view view told (record told { refused = refused })
+untouched client view told refused some = record {
   ending = no_memory;
   bytes = [];
   written = [];
@@ -79,6 +93,7 @@ untouched client view told = record {
   served = (refl, refl, refl);
   reads = record { later = omega arith; kept = λ other. refl; failed = λ is. absurd (cc) };
   writes = record { later = omega arith; kept = λ other. refl; failed = λ is. absurd (cc) };
+  refused = (λ tells. refl, λ is. some);
 }
 
 -- ---- lists
@@ -101,11 +116,7 @@ pub all_push : {A : Type 0} (P : A → Type 0) (xs : List A) (x : A) → AllByRe
 all_push P [] x all one = (one, tt)
 all_push P (y ∷ ys) x all one = (all.0, all_push P ys x all.1 one)
 
--- each of the first ones, and the one behind them
-pub all_front : {A : Type 0} (P : A → Type 0) (xs ys : List A) → AllByRecursion P (xs ++ ys) → AllByRecursion P xs
-all_front P [] ys all = tt
-all_front P (x ∷ xs) ys all = (all.0, all_front P xs ys all.1)
-
+-- what stands behind the first ones
 pub all_at : {A : Type 0} (P : A → Type 0) (xs ys : List A) (y : A) → AllByRecursion P (xs ++ y ∷ ys) → P y
 all_at P [] ys y all = all.0
 all_at P (x ∷ xs) ys y all = all_at P xs ys y all.1
@@ -113,10 +124,6 @@ all_at P (x ∷ xs) ys y all = all_at P xs ys y all.1
 pub all_mapped : {A B : Type 0} (f : A → B) (P : B → Type 0) (xs : List A) → AllByRecursion P (map f xs) → AllByRecursion (λ x. P (f x)) xs
 all_mapped f P [] all = tt
 all_mapped f P (x ∷ xs) all = (all.0, all_mapped f P xs all.1)
-
-pub all_implied : {A : Type 0} (P Q : A → Type 0) (xs : List A) → ((x : A) → P x → Q x) → AllByRecursion P xs → AllByRecursion Q xs
-all_implied P Q [] gives all = tt
-all_implied P Q (x ∷ xs) gives all = (gives x all.0, all_implied P Q xs gives all.1)
 
 -- one more of each list
 pub zip_push : {A B : Type 0} (R : A → B → Type 0) (xs : List A) (ys : List B) (x : A) (y : B) → AllZip R xs ys → R x y → AllZip R (xs ++ x ∷ []) (ys ++ y ∷ [])
@@ -190,6 +197,11 @@ is_whole {K} queue count held held_now made parted now is left accepted = record
 pub hired_queues : (K R : Type 0) (queue : TableId) (clients : List PassView) → AllByRecursion (λ (w : WorkerView K R). w.tally.queue ≡ queue) (hired queue clients)
 hired_queues K R queue [] = tt
 hired_queues K R queue (c ∷ cs) = (refl, hired_queues K R queue cs)
+
+-- the history begins with what the client had seen, and has of its number nothing else
+record IsKept (history : History) (client : PassView) : Type 0 where
+  within : IsPrefix client.view history
+  all : written_by client.number history ≡ own client
 
 module _ {K R : Type 0} (told : K → LinkTold) (tells : R → LinkTold) where
   -- ---- links in turn
@@ -286,17 +298,28 @@ module _ {K R : Type 0} (told : K → LinkTold) (tells : R → LinkTold) where
       subst (λ (l : List K). ServedInTurn told tells s.number s.view w.client.view l w.receipts) (sym taken)
       (subst (λ (l : List R). ServedInTurn told tells s.number s.view w.client.view worked.served.links l) (sym worked.served.returned) worked.served.in_turn)
 
-  is_shift : (queue : TableId) (history_id : HistoryId) (joins : List Join) (ss : List PassView) (ws : List (WorkerView K R)) (history : History) (i : ℕ) (shift : Shift K R) →
-      AreStaff history_id joins ss → AllByRecursion (λ w. IsPrefix w.client.view history) ws → IsAt queue ss ws i shift → IsShift told tells joins history (i + 1) shift
-  is_shift queue history_id joins ss ws history i shift staff within there =
-      let seen : HasSeenJoins history_id (i + 1) joins there.start = staff i (slice_get_within ss i there.start there.client_at) there.start there.client_at in
+  is_shift : (queue : TableId) (history_id : HistoryId) (joins : List Join) (first : PassView) (ss : List PassView) (ws : List (WorkerView K R)) (history : History) (i : ℕ) (shift : Shift K R) →
+      AreStaff history_id joins first ss → AllByRecursion (λ w. IsKept history w.client) ws → IsAt queue ss ws i shift → IsShift told tells joins history (i + 1) shift
+  is_shift queue history_id joins first ss ws history i shift staff kept there =
+      let idle : IsIdle history_id (i + 1) (own first) there.start =
+      subst (IsIdle history_id (i + 1) (own first)) (get_or_from_slice_get ss i there.start there.start there.client_at) (staff.alone.each i there.start (slice_get_within ss i there.start there.client_at)) in
+      let has : IsKept history there.worker.client = all_get (λ (w : WorkerView K R). IsKept history w.client) ws i there.worker kept there.worker_at in
+      let number : there.worker.client.number ≡ i + 1 = there.worked.same_number ∙ idle.numbered in
       subst (λ (s : Shift K R). IsShift told tells joins history (i + 1) s) (sym there.is)
       (record {
-        begins = seen.begins;
-        in_turn = subst (λ (n : ℕ). ServedInTurn told tells n there.start.view there.worker.client.view there.worker.tally.taken there.worker.receipts) seen.numbered
+        begins = subst (λ (h : History). IsPrefix h there.start.view) staff.wrote idle.begins;
+        idle = ap (λ (n : ℕ). written_by n there.start.view) (sym idle.numbered) ∙ idle.none;
+        in_turn = subst (λ (n : ℕ). ServedInTurn told tells n there.start.view there.worker.client.view there.worker.tally.taken there.worker.receipts) idle.numbered
             (worked_in_turn queue there.start there.worker there.worked);
-        within = all_get (λ (w : WorkerView K R). IsPrefix w.client.view history) ws i there.worker within there.worker_at;
+        within = has.within;
+        all = subst (λ (n : ℕ). written_by n history ≡ written_by n there.worker.client.view) number has.all;
       })
+
+  -- there are as many shifts as workers
+  shifts_count : (queue : TableId) (ss : List PassView) (ws : List (WorkerView K R)) → HaveWorked told tells (hired queue ss) ws → length (shifts_of ss ws) ≡ length ss
+  shifts_count queue [] ws zip = refl
+  shifts_count queue (s ∷ ss) [] zip = absurd zip
+  shifts_count queue (s ∷ ss) (w ∷ ws) zip = ap suc (shifts_count queue ss ws zip.1)
 
   -- ---- their tallies as one
 
@@ -345,30 +368,37 @@ module _ {K R : Type 0} (told : K → LinkTold) (tells : R → LinkTold) where
         });
   }
 
-  pub came_back : (queue : TableId) (history_id : HistoryId) (joins : List Join) (starts : List PassView) (front : List (WorkerView K R)) (last : WorkerView K R) (t new : Tallied K) (lists : List (List R)) (result : List R) →
-      AreStaff history_id joins starts → HaveWorked told tells (hired queue starts) (front ++ last ∷ []) → t.taken ≡ [] → lists ≡ map (λ w. w.receipts) front →
-      ServedTheRest told tells last (map (λ w. w.client) front) (joined_all t (map (λ w. w.tally) front)) new result →
+  pub came_back : (queue : TableId) (history_id : HistoryId) (joins : List Join) (first : PassView) (starts : List PassView) (front : List (WorkerView K R)) (last : WorkerView K R) (t new : Tallied K) (lists : List (List R)) (result : List R) →
+      AreStaff history_id joins first starts → HaveWorked told tells (hired queue starts) (front ++ last ∷ []) → t.taken ≡ [] → lists ≡ map (λ w. w.receipts) front →
+      ServedTheRest told tells last (first ∷ map (λ w. w.client) front) (joined_all t (map (λ w. w.tally) front)) new result →
       CameBack told tells joins t.put (lists ++ result ∷ [])
-  came_back queue history_id joins starts front last t new lists result staff worked none lists_are rest =
+  came_back queue history_id joins first starts front last t new lists result staff worked none lists_are rest =
       let old = joined_all t (map (λ w. w.tally) front) in
-      let end = rested last (map (λ w. w.client) front) old new result rest in
+      let others : List PassView = first ∷ map (λ w. w.client) front in
+      let end = rested last others old new result rest in
       let all : List (WorkerView K R) = front ++ end ∷ [] in
       let zip : HaveWorked told tells (hired queue starts) all =
-      zip_last (HasWorked told tells) (hired queue starts) front last end (λ s h. still_worked s last (map (λ w. w.client) front) old new result rest h) worked in
+      zip_last (HasWorked told tells) (hired queue starts) front last end (λ s h. still_worked s last others old new result rest h) worked in
       let whole : joined_all t (map (λ w. w.tally) all) ≡ joined old end.tally =
       ap (λ l. joined_all t l) (map-append (λ w. w.tally) front (end ∷ [])) ∙ joined_all_push t (map (λ w. w.tally) front) end.tally in
       let put : new.put ≡ t.put = ap (λ (u : Tallied K). u.put) rest.served.tally ∙ sym (ap (λ (u : Tallied K). u.put) whole) ∙ put_joined queue t starts all zip in
       let taken : new.taken ≡ all_of (map (λ w. w.tally.taken) all) =
       ap (λ (u : Tallied K). u.taken) rest.served.tally ∙ append_assoc old.taken last.tally.taken rest.served.links ∙ sym (ap (λ (u : Tallied K). u.taken) whole)
       ∙ taken_joined t all ∙ ap (λ (l : List K). l ++ all_of (map (λ w. w.tally.taken) all)) none in
-      let within : AllByRecursion (λ w. IsPrefix w.client.view rest.history) all =
-      all_push (λ w. IsPrefix w.client.view rest.history) front end (all_mapped (λ w. w.client) (λ c. IsPrefix c.view rest.history) front rest.others_within) rest.within in
+      let last_kept : IsKept rest.history end.client = record { within = rest.within; all = rest.all } in
+      let kept : AllByRecursion (λ w. IsKept rest.history w.client) all =
+      all_push (λ (w : WorkerView K R). IsKept rest.history w.client) front end
+      (all_mapped (λ w. w.client) (IsKept rest.history) front
+      (all_then (HasAllOf rest.history) (IsKept rest.history) (map (λ w. w.client) front) (λ c has. record { within = has.within; all = has.own }) rest.met.1)) last_kept in
+      let declarer : HasAllOf rest.history first = rest.met.0 in
       record {
         history = rest.history;
         shifts = shifts_of starts all;
         once = subst (λ (l : List K). EachOnce t.put l) (taken ∙ links_of queue starts all zip) (subst (λ (l : List K). EachOnce l new.taken) put rest.once);
         receipts = ap (λ l. l ++ result ∷ []) lists_are ∙ sym (map-append (λ w. w.receipts) front (end ∷ [])) ∙ receipts_of queue starts all zip;
-        each = λ i shift at. is_shift queue history_id joins starts all rest.history i shift staff within (shift_at queue starts all i shift zip at);
+        each = λ i shift at. is_shift queue history_id joins first starts all rest.history i shift staff kept (shift_at queue starts all i shift zip at);
+        declares = ap (λ (n : ℕ). written_by n rest.history) (sym staff.alone.numbered) ∙ declarer.own ∙ staff.wrote;
+        recorded = subst (λ (n : ℕ). IsRecorded n rest.history) (staff.alone.all ∙ ap (λ (n : ℕ). n + 1) (sym (shifts_count queue starts all zip))) declarer.recorded;
       }
 
   -- ---- what the calls of `settle` ask
@@ -394,10 +424,10 @@ module _ {K R : Type 0} (told : K → LinkTold) (tells : R → LinkTold) where
   worked_count queue clients workers worked =
       sym (length_all_zip (HasWorked told tells) (hired queue clients) workers worked) ∙ length-map clients (fresh queue)
 
-  pub links_came_back : (workers : ℕ) (joins : List Join) (first now last : Option (List K)) (old new : Tallied K) (receipts : List (List R)) (returned : Option (List (List R))) →
-      HasAccepted first now old new → old.put ≡ [] → last ≡ now → length receipts ≡ workers → CameBack told tells joins new.put receipts → IfSome returned (λ lists. lists ≡ receipts) →
-      LinksCameBack told tells workers joins first last returned
-  links_came_back workers joins first now last old new receipts returned accepted none same staffed back returns = record {
+  pub links_came_back : (workers : ℕ) (joins : List Join) (first last : DoorsTold K R) (now : Option (List K)) (old new : Tallied K) (receipts : List (List R)) →
+      HasAccepted first.held now old new → old.put ≡ [] → last.held ≡ now → length receipts ≡ workers → CameBack told tells joins new.put receipts → IfSome last.returned (λ lists. lists ≡ receipts) →
+      LinksCameBack told tells workers joins first last
+  links_came_back workers joins first last now old new receipts accepted none same staffed back returns = record {
     given = accepted.given;
     receipts = receipts;
     staffed = staffed;

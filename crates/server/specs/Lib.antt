@@ -1,3 +1,4 @@
 pub mod Doors
 pub mod Staffs
 pub mod Receipts
+pub mod Endings

@@ -1,9 +1,10 @@
 -- Clients that begin with joins declared.
-use Rattle.std.specs.Prelude.{◌≡◌, ℕ, ◌+◌, ◌<◌, List, length, map, slice_get, Some}
+use Rattle.std.specs.Prelude.{◌≡◌, ℕ, ◌+◌, ◌<◌, List, [], length, map, slice_index_or, ⊤}
 use Rattle.semantics.specs.Joins.{Join}
 use Rattle.semantics.specs.Histories.{declare, History, IsPrefix}
 use Rattle.semantics.specs.Verdicts.{AllEntered}
-use Rattle.write_history.specs.Passes.{HistoryId, PassView, GoesOn}
+use Rattle.protocol.specs.Replies.{Reply, done, answered, refused, gone, ahead, changed, unread, long, memory, bye}
+use Rattle.write_history.specs.Passes.{HistoryId, PassView, own}
 
 -- the declarations of joins, in order, by the client with the number 0
 abbrev pub declared : List Join → History
@@ -13,22 +14,36 @@ declared joins = map (λ j. record { client = 0; write = declare j }) joins
 abbrev pub AreDeclarable : List Join → Type 0
 AreDeclarable joins = AllEntered (declared joins)
 
--- the client with a number, of the history, which may write, and has seen the declarations first
-pub record HasSeenJoins (history : HistoryId) (number : ℕ) (joins : List Join) (client : PassView) : Type 0 where
+-- the reply says that a write entered, or that no memory was found
+abbrev pub IsDoneOrMemory : Reply → Type 0
+IsDoneOrMemory (done n) = ⊤
+IsDoneOrMemory (answered a) = ⊥
+IsDoneOrMemory (refused n cause) = ⊥
+IsDoneOrMemory (gone n) = ⊥
+IsDoneOrMemory (ahead n) = ⊥
+IsDoneOrMemory (changed from n changes) = ⊥
+IsDoneOrMemory (unread fault) = ⊥
+IsDoneOrMemory long = ⊥
+IsDoneOrMemory memory = ⊤
+IsDoneOrMemory bye = ⊥
+
+-- the client with a number, of the history, which may write, has seen these entries first, and has written nothing
+pub record IsIdle (history : HistoryId) (number : ℕ) (entries : History) (client : PassView) : Type 0 where
   pub same_history : client.history ≡ history
   pub numbered : client.number ≡ number
   pub writer : number < client.writers
-  pub begins : IsPrefix (declared joins) client.view
+  pub begins : IsPrefix entries client.view
+  pub none : own client ≡ []
 
--- the workers: clients with the numbers from 1 up, which have seen the declarations first
-abbrev pub AreStaff : HistoryId → List Join → List PassView → Type 0
-AreStaff history joins clients = (i : ℕ) → i < length clients → (client : PassView) → slice_get clients i ≡ Some client → HasSeenJoins history (i + 1) joins client
+-- all that may write to the history: the first client has the number 0; the others have the numbers from 1 up, have seen first what
+-- the first has written, and have written nothing
+pub record WritesAlone (history : HistoryId) (first : PassView) (others : List PassView) : Type 0 where
+  pub numbered : first.number ≡ 0
+  pub all : first.writers ≡ length others + 1
+  pub each : (i : ℕ) (d : PassView) → i < length others → IsIdle history (i + 1) (own first) (slice_index_or others i d)
 
--- a client goes on, and has then seen a history first
-pub record HasMet (view : History) (before after : PassView) : Type 0 where
-  pub goes_on : GoesOn before after
-  pub begins : IsPrefix view after.view
-
--- each of the clients goes on, and has then seen a history first
-abbrev pub HaveMet : History → List PassView → List PassView → Type 0
-HaveMet view before after = (i : ℕ) (old new : PassView) → slice_get before i ≡ Some old → slice_get after i ≡ Some new → HasMet view old new
+-- all that may write to the history: the first client has written the declarations and nothing else, and nobody else has written;
+-- the others are the workers'
+pub record AreStaff (history : HistoryId) (joins : List Join) (first : PassView) (workers : List PassView) : Type 0 where
+  pub alone : WritesAlone history first workers
+  pub wrote : own first ≡ declared joins

@@ -1,6 +1,6 @@
 // Opening doors, and taking links from them.
 ghost use Rattle.std.specs.Prelude.{◌≡◌, ◌<◌, OnOk};
-ghost use Rattle.pq_io.specs.Doors.{IsOpenAt};
+ghost use Rattle.pq_io.specs.Doors.{OpenedFor};
 ghost use Rattle.pq_io.specs.Faults.{HasCause};
 ghost use Rattle.server.specs.Doors.{HoldNone};
 ghost use Rattle.server.specs.Receipts.{HasAccepted};
@@ -21,7 +21,7 @@ pub fn accept<D: Doors, R: Wait>(
     requires queue { tally.old.queue ≡ queue.now }
     requires parts { 0 < tally.old.parts }
     ensures closed { OnOk result (HoldNone (D.held doors.new)) }
-    ensures opened { OnOk result (IsOpenAt (D.opened doors.new) address.now) }
+    ensures opened { OpenedFor (D.opened doors.old) (D.opened doors.new) address.now result }
     ensures accepted { HasAccepted (D.held doors.old) (D.held doors.new) tally.old tally.new }
     ensures cause { HasCause (D.faults doors.old) (D.faults doors.new) result }
 {

@@ -6,11 +6,11 @@ ghost use Rattle.server.specs.Receipts.{RanBeside};
 
 use crate::updating::update;
 use base_shards::Naming;
-use door_queue::{AllPut, Bell, TalliedQueue};
+use door_queue::{Bell, Drained, TalliedQueue};
 use out_of_memory::OutOfMemory;
 use pequod_cache::Updater;
 use pq_io::Gate;
-use std::alloc::Global;
+use std::alloc::{AllocError, Global};
 use std::snapshot::Snapshot;
 use std::sync::Wait;
 use std::thread;
@@ -25,7 +25,7 @@ pub trait Labour: Drop {
     /// What it leaves.
     type Left: Drop;
 
-    /// That it is of this queue.
+    /// Whether the worker is of this queue.
     ghost is_of: { Self → TableId → Type 0 };
 
     /// That it leaves this.
@@ -39,10 +39,10 @@ pub trait Labour: Drop {
         alloc: Global,
         queue: &TalliedQueue<Self::Item>,
         bell: &Bell,
-    ) -> (Self::Left, AllPut<Self::Item>)
+    ) -> (Self::Left, Drained<Self::Item>)
         requires { is_of self queue.now }
         ensures left { leaves self result.0 }
-        ensures all_put { result.1 ≡ queue.now };
+        ensures drained { result.1 ≡ queue.now };
 }
 
 /// What the thread of a worker keeps: it has done its work since it began so.
@@ -62,13 +62,13 @@ trait Task {
     /// What it gives when it is done.
     type Given;
 
-    /// That it may be done.
+    /// When the task may be done.
     ghost can_run: { Self → Type 0 };
 
-    /// That it gives this.
+    /// What the task gives.
     ghost gives: { Self → Self.Given → Type 0 };
 
-    /// Does it.
+    /// Does the task.
     fn run(self) -> Self::Given
         requires { can_run self }
         ensures { gives self result };
@@ -112,9 +112,9 @@ fn join_all<W: Labour, R: Threads>(
     ended
 }
 
-/// Runs the task beside the workers, and closes the queue when it is done. It returns when all have ended, and gives what the workers
-/// leave, in order. Where a thread cannot be made for each of them, or there is no memory to remember them, the task is not run, and
-/// comes back.
+/// Runs the task beside the workers, and closes the queue when it is done. It returns when all have ended, and gives what the
+/// workers leave, in order. Where a thread cannot be made for each of them, or there is no memory to remember them, the task is not
+/// run, and comes back beside the refusal.
 fn run_beside_workers<W, R, T, A>(
     rt: &R,
     alloc: Global,
@@ -122,7 +122,7 @@ fn run_beside_workers<W, R, T, A>(
     bell: &Bell,
     workers: Vec<W>,
     task: T,
-) -> Result<(A, Vec<W::Left>), T>
+) -> Result<(A, Vec<W::Left>), (OutOfMemory, T)>
 where
     W: Labour + Send,
     W::Item: Send + Drop,
@@ -140,26 +140,31 @@ where
             requires { T.can_run task × AllByRecursion (λ w. W.is_of w queue.now) workers.items }
             ensures { RanBeside T.gives W.leaves task workers.items result }
         {
-            let Ok(mut threads) = Vec::with_capacity(alloc, workers.len()) else {
-                return Err(task);
+            let mut threads = match Vec::with_capacity(alloc, workers.len()) {
+                Ok(room) => room,
+                Err(error) => return Err((OutOfMemory::from(error), task)),
             };
-            let Ok(ended) = Vec::with_capacity(alloc, workers.len()) else {
-                return Err(task);
+            let ended = match Vec::with_capacity(alloc, workers.len()) {
+                Ok(room) => room,
+                Err(error) => return Err((OutOfMemory::from(error), task)),
             };
             for worker in workers {
                 let begun = Snapshot::of(&worker);
-                let Ok(thread) = scope.spawn_with(
+                let thread = match scope.spawn_with(
                     Working { begun },
                     move ||
                         requires { W.is_of worker queue.now }
                         ensures { W.leaves worker result }
                     {
-                        let (left, _all_put) = worker.work(rt, alloc, queue, bell);
+                        let (left, _drained) = worker.work(rt, alloc, queue, bell);
                         left
                     },
-                ) else {
-                    queue.close(rt);
-                    return Err(task);
+                ) {
+                    Ok(thread) => thread,
+                    Err(refused) => {
+                        queue.close(rt);
+                        return Err((OutOfMemory::from(AllocError::from(refused)), task));
+                    }
                 };
                 threads.push_reserved(thread);
             }
@@ -171,8 +176,8 @@ where
 }
 
 /// Runs the task beside the workers and beside an updater, which takes turns when the bell is rung, and closes the queue when it is
-/// done. It returns when all have ended, the updater last, and gives what the workers leave, in order. Where a thread cannot be made
-/// for each of them, the task is not run, and comes back.
+/// done. It returns when all have ended, the updater last, and gives what the workers leave, in order. Where a thread cannot be
+/// made for each of them, the task is not run, and comes back beside the refusal.
 fn run_beside<'g, N, G, W, R, T, A>(
     rt: &R,
     alloc: Global,
@@ -181,7 +186,7 @@ fn run_beside<'g, N, G, W, R, T, A>(
     workers: Vec<W>,
     updater: Updater<'g, N, G>,
     task: T,
-) -> Result<(A, Vec<W::Left>), T>
+) -> Result<(A, Vec<W::Left>), (OutOfMemory, T)>
 where
     N: Naming + Send + Sync,
     G: Gate + Sync,
@@ -201,10 +206,10 @@ where
             requires { T.can_run task × AllByRecursion (λ w. W.is_of w queue.now) workers.items }
             ensures { RanBeside T.gives W.leaves task workers.items result }
         {
-            let started = scope.spawn(move || update(rt, bell, updater));
-            if started.is_err() {
-                return Err(task);
-            }
+            let _updating = match scope.spawn(move || update(rt, bell, updater)) {
+                Ok(thread) => thread,
+                Err(refused) => return Err((OutOfMemory::from(AllocError::from(refused)), task)),
+            };
             let done = run_beside_workers(rt, alloc, queue, bell, workers, task);
             bell.close(rt);
             done
@@ -217,9 +222,9 @@ fn tie_back<T>(_back: &mut T)
     ensures { _back.new ≡ _back.old }
 {}
 
-/// Calls the closure beside the workers and beside an updater, and closes the queue when it is done. It returns when all have ended,
-/// and gives what the workers leave, in order.
-/// `OutOfMemory`: a thread could not be made for each of them, and the closure was not called.
+/// Calls the closure beside the workers and beside an updater, and closes the queue when it is done. It returns when all have
+/// ended, and gives what the workers leave, in order. `OutOfMemory`: a thread could not be made for each of them, and the closure
+/// was not called.
 pub fn beside_all<'g, N, G, W, R, F, A>(
     rt: &R,
     alloc: Global,
@@ -247,9 +252,9 @@ where
             tie_back(closure);
             Ok((given, ended))
         }
-        Err(Lent { closure }) => {
+        Err((memory, Lent { closure })) => {
             tie_back(closure);
-            Err(OutOfMemory)
+            Err(memory)
         }
     }
 }

@@ -1,7 +1,8 @@
 // Which joins are declared, as a part of types.
 use std::marker::Brand;
 
-/// Names the joins that are declared before any link is served, in contracts alone: the clients of `staff` have seen them first.
+/// Names the joins that are declared before any link is served, in contracts alone: the first client of `staff` has written their
+/// declarations, and the others have seen them first.
 pub trait Declaring {
     ghost use Rattle.std.specs.Prelude.{List};
     ghost use Rattle.semantics.specs.Joins.{Join};

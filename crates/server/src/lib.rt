@@ -1,9 +1,9 @@
 // Serving links from doors: an acceptor takes them, and workers serve them, each with a client of its own of one cache; beside
 // them an updater brings forward what the cache keeps. Each worker and the updater has a thread, and no door is opened before.
 //
-// The layer above may use `serve`, which does all of it and may wait; `staff` makes the workers' clients, and `serve_doors`
-// opens the doors and serves links with them, where `Declaring` names the joins that the clients have seen. When serving ends, the
-// receipts of all links go back to the doors.
+// The layer above may use `serve`, which does all of it and may wait; `staff` makes the client that declares the joins and those of
+// the workers, and `serve_doors` opens the doors and serves links with them, where `Declaring` names the joins. When serving ends,
+// the clients meet, so that nothing is in the history that none of them wrote, and the receipts of all links go back to the doors.
 #![tactic(auto)]
 
 mod accepting;

@@ -1,11 +1,9 @@
 // A cache that is served at an address.
-ghost use Rattle.std.specs.Prelude.{◌≡◌, ◌≢◌, ◌+◌, ◌-◌, ◌≤◌, length, IfOk};
+ghost use Rattle.std.specs.Prelude.{◌≡◌, ◌+◌, ◌-◌, ◌≤◌, length, IfOk};
 ghost use Rattle.pequod_cache.specs.Sitting.{AreOf, AreOfParts, AreWriters, IsFresh};
-ghost use Rattle.pq_io.specs.Doors.{IsOpenAt};
-ghost use Rattle.pq_io.specs.Faults.{Rose};
+ghost use Rattle.pq_io.specs.Doors.{doors_told};
 ghost use Rattle.pq_io.specs.Links.{link_told};
-ghost use Rattle.server.specs.Doors.{HoldNone};
-ghost use Rattle.server.specs.Receipts.{LinksCameBack};
+ghost use Rattle.server.specs.Endings.{EndedAs};
 ghost use Rattle.server.specs.Staffs.{AreDeclarable};
 
 use crate::declaring::Declaring;
@@ -45,7 +43,6 @@ fn make_seats(alloc: Global, workers: u32, cells: u32) -> Result<Seats, OutOfMem
     requires few_cells { cells ≤ 65536 }
     ensures clients { IfOk result (λ seats. AreWriters seats.history (length seats.clients.items) seats.clients.items) }
     ensures seated { IfOk result (λ seats. length seats.clients.items ≡ workers + 1) }
-    ensures two { IfOk result (λ seats. 2 ≤ length seats.clients.items) }
     ensures shards { IfOk result (λ seats. AreOfParts seats.history seats.shards.items) }
     ensures cells { IfOk result (λ seats. AreOf seats.history (length seats.cells.items) seats.cells.items) }
     ensures count { IfOk result (λ seats. length seats.cells.items ≡ cells) }
@@ -83,23 +80,19 @@ where
     requires limit { 1 ≤ limit }
     requires joins { AreDeclarable joins.items }
     requires declares { joins.items ≡ J.joins }
-    ensures links { result ≢ Ended.OutOfMemory → LinksCameBack (link_told D.Wire.left D.Wire.taken D.Wire.read_faults D.Wire.write_faults) D.Wire.tells (length seats.clients.items - 1) J.joins (D.held doors.old) (D.held doors.new) (D.returned doors.new) }
-    ensures closed { result ≡ Ended.Closed → HoldNone (D.held doors.new) }
-    ensures opened { result ≡ Ended.Closed → IsOpenAt (D.opened doors.new) address.entry.text.now }
-    ensures failed { result ≡ Ended.Failed → Rose (D.faults doors.old) (D.faults doors.new) }
-    ensures kept { result ≢ Ended.Failed → D.faults doors.new ≡ D.faults doors.old }
-    ensures later { D.faults doors.old ≤ D.faults doors.new }
-    ensures memory { result ≡ Ended.OutOfMemory → doors.new ≡ doors.old }
+    ensures ended { EndedAs (link_told D.Wire.left D.Wire.taken D.Wire.read_faults D.Wire.write_faults) D.Wire.tells
+        (doors_told D.held D.returned D.opened D.faults) (length seats.clients.items - 1) J.joins address.entry.text.now doors.old doors.new result }
 {
-    let Ok((workers, updater)) = staff::<N, G, R>(rt, alloc, seats, limit, joins, gate) else {
-        return Ended::OutOfMemory;
+    let (first, workers, updater) = match staff::<N, G, R>(rt, alloc, seats, limit, joins, gate) {
+        Ok((first, workers, updater)) => (first, workers, updater),
+        Err(memory) => return Ended::OutOfMemory(memory),
     };
-    serve_doors::<N, J, _, _, _>(rt, alloc, address.text, doors, workers, updater)
+    serve_doors::<N, J, _, _, _>(rt, alloc, address.text, doors, first, workers, updater)
 }
 
 /// Makes a cache, declares the joins, starts the workers and an updater, opens the doors at the address, and serves each link that
-/// they give until they close or fail. Then the receipts of all these links go back to the doors, a list of each worker. Before a range
-/// of a join's output is filled or mended the gate is passed.
+/// they give until they close or fail. Then the receipts of all these links go back to the doors, a list of each worker. Before a
+/// range of a join's output is filled or mended the gate is passed.
 ///
 /// Where there is no memory for the cache, or no thread for one of the workers or the updater, the doors stay as they are.
 pub fn serve<R, D, G>(
@@ -122,16 +115,12 @@ where
     requires some_workers { 1 ≤ size.workers }
     requires few_workers { size.workers ≤ 64 }
     requires joins { AreDeclarable joins.items }
-    ensures links { result ≢ Ended.OutOfMemory → LinksCameBack (link_told D.Wire.left D.Wire.taken D.Wire.read_faults D.Wire.write_faults) D.Wire.tells size.workers joins.items (D.held doors.old) (D.held doors.new) (D.returned doors.new) }
-    ensures closed { result ≡ Ended.Closed → HoldNone (D.held doors.new) }
-    ensures opened { result ≡ Ended.Closed → IsOpenAt (D.opened doors.new) address.now }
-    ensures failed { result ≡ Ended.Failed → Rose (D.faults doors.old) (D.faults doors.new) }
-    ensures kept { result ≢ Ended.Failed → D.faults doors.new ≡ D.faults doors.old }
-    ensures later { D.faults doors.old ≤ D.faults doors.new }
-    ensures memory { result ≡ Ended.OutOfMemory → doors.new ≡ doors.old }
+    ensures ended { EndedAs (link_told D.Wire.left D.Wire.taken D.Wire.read_faults D.Wire.write_faults) D.Wire.tells
+        (doors_told D.held D.returned D.opened D.faults) size.workers joins.items address.now doors.old doors.new result }
 {
-    let Ok(seats) = make_seats(alloc, size.workers, size.cells) else {
-        return Ended::OutOfMemory;
+    let seats = match make_seats(alloc, size.workers, size.cells) {
+        Ok(seats) => seats,
+        Err(memory) => return Ended::OutOfMemory(memory),
     };
     let address = Address { text: address };
     serve_seats::<Brand, Brand, _, _, _>(rt, alloc, seats, size.rows, joins, address, doors, gate)

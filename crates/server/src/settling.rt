@@ -1,7 +1,6 @@
 // What workers leave when they have ended.
-ghost use Rattle.std.specs.Prelude.{◌≡◌, ◌+◌, ◌<◌, ◌≤◌, ◌++◌, [], length, map, vec_capacity};
+ghost use Rattle.std.specs.Prelude.{◌≡◌, ◌+◌, ◌<◌, ◌≤◌, ◌++◌, ◌∷◌, [], length, map, vec_capacity};
 ghost use Rattle.std.specs.List.{AllByRecursion};
-ghost use Rattle.semantics.specs.Histories.{IsPrefix};
 ghost use Rattle.pq_io.specs.Doors.{lists_of};
 ghost use Rattle.pq_io.specs.Links.{link_told};
 ghost use Rattle.door_queue.specs.Tallies.{all_parts};
@@ -13,13 +12,13 @@ use crate::worker::Worker;
 use crate::working::serve_left;
 use base_shards::Naming;
 use door_queue::{TalliedQueue, Tally};
-use pequod_cache::{Client, ClientService};
+use pequod_cache::{Client, ClientService, meet_all};
 use pq_io::{Gate, Link};
 use std::alloc::Global;
 use std::sync::Wait;
 
-/// Takes workers apart: joins their tallies to one, and puts their clients and their receipts behind the others, where there is room
-/// for them.
+/// Takes workers apart: joins their tallies to one, and puts their clients and their receipts behind the others, where there is
+/// room for them.
 fn part_all<'g, N: Naming, G, K: Link>(
     queue: &TalliedQueue<K>,
     tally: &mut Tally<K>,
@@ -49,29 +48,16 @@ fn part_all<'g, N: Naming, G, K: Link>(
     }
 }
 
-/// The client meets each of the others.
-fn meet_each<'g, N: Naming, G: Gate, R>(
-    rt: &R,
-    client: &mut Client<'g, N, G>,
-    others: Vec<Client<'g, N, G>>,
-)
-    ensures begins { IsPrefix client.old.view client.new.view }
-    ensures others { AllByRecursion (λ c. IsPrefix c.view client.new.view) others.entry.items }
-{
-    for mut other in others {
-        client.meet(rt, &mut other);
-    }
-}
-
-/// Serves with the last worker the links that are left in the queue, when the tallies of the others are joined to one. Then its client
-/// meets those of the others, and it gives its receipts.
+/// Serves with the last worker the links that are left in the queue, when the tallies of the others are joined to one. Then its
+/// client meets the others twice, and it gives its receipts: at the first meetings it sees all that they have written, and since
+/// they then see all that it had seen, none of them had written more.
 fn serve_rest<'g, N: Naming, G: Gate, K: Link, R: Wait>(
     rt: &R,
     alloc: Global,
     queue: &TalliedQueue<K>,
     tally: &mut Tally<K>,
     last: Worker<'g, N, G, K>,
-    others: Vec<Client<'g, N, G>>,
+    mut others: Vec<Client<'g, N, G>>,
 ) -> Vec<K::Receipt>
     requires queue { tally.old.queue ≡ queue.now }
     requires same_queue { last.tally.queue ≡ queue.now }
@@ -88,12 +74,14 @@ fn serve_rest<'g, N: Naming, G: Gate, K: Link, R: Wait>(
     let mut service = ClientService { rt, client };
     serve_left(rt, alloc, queue, &mut service, tally, &mut receipts);
     let ClientService { mut client, .. } = service;
-    meet_each(rt, &mut client, others);
+    meet_all(rt, &mut client, &mut others);
+    meet_all(rt, &mut client, &mut others);
     receipts
 }
 
-/// Gives the receipts of workers that have ended, a list of each, in order. Where links are left, the last worker serves them first.
-/// The two lists have room for the clients and the receipts.
+/// Gives the receipts of workers that have ended, a list of each, in order. Where links are left, the last worker serves them
+/// first. Of the clients there is the one that declared the joins, and the two lists have room for all but the last worker's client
+/// and for the receipts.
 pub fn settle<'g, N: Naming, J: Declaring, G: Gate, K: Link, R: Wait>(
     rt: &R,
     alloc: Global,
@@ -108,8 +96,7 @@ pub fn settle<'g, N: Naming, J: Declaring, G: Gate, K: Link, R: Wait>(
     requires whole { tally.parts + length workers.items ≡ all_parts }
     requires taken { tally.taken ≡ [] }
     requires some { 1 ≤ length workers.items }
-    requires worked { (starts : _) × AreStaff N.history J.joins starts × HaveWorked (link_told K.left K.taken K.read_faults K.write_faults) K.tells (hired queue.now starts) workers.items }
-    requires no_clients { clients.items ≡ [] }
+    requires worked { (first : _) × (starts : _) × (clients.items ≡ first ∷ []) × AreStaff N.history J.joins first starts × HaveWorked (link_told K.left K.taken K.read_faults K.write_faults) K.tells (hired queue.now starts) workers.items }
     requires no_receipts { receipts.items ≡ [] }
     requires room { length workers.items ≤ vec_capacity clients }
     requires place { length workers.items ≤ vec_capacity receipts }

@@ -43,8 +43,9 @@ fn take_turns<N: Naming, G: Gate, R: Wait>(rt: &R, updater: &mut Updater<'_, N, 
     for _ in rt.forever() {
         match updater.turn(rt) {
             Turn::Brought { .. } => thread::yield_now(),
+            Turn::TooWide { .. } => thread::yield_now(),
             Turn::Idle => return,
-            Turn::OutOfMemory => return,
+            Turn::OutOfMemory(_) => return,
         }
     }
     unreachable!()

@@ -7,7 +7,7 @@ use crate::beside::Labour;
 use crate::updating::Ringing;
 use crate::working::serve_queued;
 use base_shards::Naming;
-use door_queue::{AllPut, Bell, TalliedQueue, Tally};
+use door_queue::{Bell, Drained, TalliedQueue, Tally};
 use out_of_memory::OutOfMemory;
 use pequod_cache::{Client, ClientService};
 use pq_io::{Gate, Link};
@@ -60,15 +60,15 @@ impl<'g, N: Naming, G: Gate, K: Link> Labour for Worker<'g, N, G, K> {
 
     ghost leaves = { HasWorked (link_told K.left K.taken K.read_faults K.write_faults) K.tells };
 
-    /// Serves the links that the queue gives, one after another, until the queue is closed and empty. However one link ends, the next
-    /// is served. The bell is rung after each write that is acknowledged.
+    /// Serves the links that the queue gives, one after another, until the queue is closed and empty. However one link ends, the
+    /// next is served. The bell is rung after each write that is acknowledged.
     fn work<R: Wait>(
         self,
         rt: &R,
         alloc: Global,
         queue: &TalliedQueue<K>,
         bell: &Bell,
-    ) -> (Worker<'g, N, G, K>, AllPut<K>) {
+    ) -> (Worker<'g, N, G, K>, Drained<K>) {
         let Worker {
             client,
             mut tally,
@@ -76,7 +76,7 @@ impl<'g, N: Naming, G: Gate, K: Link> Labour for Worker<'g, N, G, K> {
         } = self;
         let service = ClientService { rt, client };
         let mut ringing = Ringing { rt, bell, service };
-        let all_put = serve_queued(rt, alloc, queue, &mut ringing, &mut tally, &mut receipts);
+        let drained = serve_queued(rt, alloc, queue, &mut ringing, &mut tally, &mut receipts);
         let Ringing { service, .. } = ringing;
         let ClientService { client, .. } = service;
         let worker = Worker {
@@ -84,7 +84,7 @@ impl<'g, N: Naming, G: Gate, K: Link> Labour for Worker<'g, N, G, K> {
             tally,
             receipts,
         };
-        (worker, all_put)
+        (worker, drained)
     }
 }
 

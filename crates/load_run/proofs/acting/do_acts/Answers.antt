@@ -1,4 +1,4 @@
-use Rattle.load_run.proofs.AddingLemmas.{none_added}
+use Rattle.pequod_cache.proofs.AddingLemmas.{none_added}
 use Rattle.load_run.proofs.ActLemmas.{act_added}
 use Rattle.load_run.proofs.acting.do_acts.Goals as goal
 

@@ -1,5 +1,5 @@
 use Rattle.load_gen.specs.Entries.{entries_of}
-use Rattle.load_run.specs.Adding.{HasAdded}
+use Rattle.pequod_cache.specs.Adding.{HasAdded}
 use Rattle.load_run.proofs.acting.do_acts.Given as goal
 
 abbrev pub invariant-loop-act : goal.invariant-loop-act

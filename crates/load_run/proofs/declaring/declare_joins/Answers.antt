@@ -1,6 +1,6 @@
 use Rattle.std.proofs.Common.{refl}
 use Rattle.write_history.proofs.Entering.{prefix_nil}
-use Rattle.load_run.proofs.AddingLemmas.{none_added}
+use Rattle.pequod_cache.proofs.AddingLemmas.{none_added}
 use Rattle.load_run.proofs.ActLemmas.{declared_more}
 use Rattle.load_run.proofs.declaring.declare_joins.Goals as goal
 

@@ -1,5 +1,5 @@
 use Rattle.semantics.specs.Histories.{declare}
-use Rattle.load_run.proofs.AddingLemmas.{write_added}
+use Rattle.pequod_cache.proofs.AddingLemmas.{write_added}
 use Rattle.load_run.proofs.declaring.declare_next.Goals as goal
 
 pub returns-clause-added : goal.returns-clause-added

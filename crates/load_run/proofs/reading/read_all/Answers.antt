@@ -1,7 +1,7 @@
 use Rattle.std.proofs.Common.{List, ◌∙◌, subst}
+use Rattle.growing_history.proofs.ElementLemmas.{put_back}
 use Rattle.write_history.specs.Passes.{PassView}
-use Rattle.load_run.specs.Meeting.{HaveMet}
-use Rattle.load_run.proofs.JobLemmas.{put_back}
+use Rattle.pequod_cache.specs.Meeting.{HaveMet}
 use Rattle.load_run.proofs.MeetLemmas.{all_held}
 use Rattle.load_run.proofs.reading.read_all.Goals as goal
 

@@ -1,7 +1,8 @@
 use Rattle.std.proofs.Common.{List, subst}
 use Rattle.std.proofs.lemmas.Result.{IfOk-weaker}
+use Rattle.growing_history.proofs.ElementLemmas.{put_back}
 use Rattle.load_run.specs.Jobs.{Assigned, AreDealt}
-use Rattle.load_run.proofs.JobLemmas.{put_back, have_worked}
+use Rattle.load_run.proofs.JobLemmas.{have_worked}
 use Rattle.load_run.proofs.working.work_all.Goals as goal
 
 pub returns : goal.returns

@@ -5,12 +5,12 @@ use Rattle.pq_io.specs.Streams.{Took, TookProperPrefix}
 use Rattle.pequod_commands.specs.Statuses.{written, cut}
 use Rattle.pequod_commands.proofs.check.check.Goals as goal
 
-pub returns-in-Err-clause-check : goal.returns-in-Err-clause-check
-returns-in-Err-clause-check g c =
+pub returns-in-Err-write_whole-clause-check : goal.returns-in-Err-write_whole-clause-check
+returns-in-Err-write_whole-clause-check g c =
     let text = c.as_slice-2.ensures.value ∙ c.in-Ok-report.ensures.text ∙ ap check_text c.as_slice.ensures.value in
     record {
       ending = cut c.in-Ok.bytes.items;
-      checked = (refl, c.in-Ok.ensures.bytes, subst (TookProperPrefix (g.W.Sink.taken c.args.sink.now) (g.W.Sink.taken c.write_whole.new.sink)) text c.in-Err.ensures.part);
+      checked = (refl, c.in-Ok.ensures.bytes, subst (TookProperPrefix (g.W.Sink.taken c.args.sink.now) (g.W.Sink.taken c.write_whole.new.sink)) text c.in-Err-write_whole.ensures.part);
     }
 
 pub returns-then-report-clause-check : goal.returns-then-report-clause-check

@@ -5,12 +5,12 @@ use Rattle.pq_io.specs.Streams.{Took, TookProperPrefix}
 use Rattle.pequod_commands.specs.Replays.{written, cut}
 use Rattle.pequod_commands.proofs.replay.replay.Goals as goal
 
-pub returns-in-Err-clause-replay : goal.returns-in-Err-clause-replay
-returns-in-Err-clause-replay g c =
+pub returns-in-Err-write_whole-clause-replay : goal.returns-in-Err-write_whole-clause-replay
+returns-in-Err-write_whole-clause-replay g c =
     let text = c.as_slice-2.ensures.value ∙ c.in-Ok-print_answers.ensures.text ∙ ap replay_text c.as_slice.ensures.value in
     record {
       ending = cut c.in-Ok.bytes.items;
-      replayed = (refl, c.in-Ok.ensures.bytes, subst (TookProperPrefix (g.W.Sink.taken c.args.sink.now) (g.W.Sink.taken c.write_whole.new.sink)) text c.in-Err.ensures.part);
+      replayed = (refl, c.in-Ok.ensures.bytes, subst (TookProperPrefix (g.W.Sink.taken c.args.sink.now) (g.W.Sink.taken c.write_whole.new.sink)) text c.in-Err-write_whole.ensures.part);
     }
 
 pub returns-then-printed-clause-replay : goal.returns-then-printed-clause-replay

@@ -1,5 +1,5 @@
 use Rattle.pequod_commands.proofs.RunLemmas.{runs_to_no_memory}
 use Rattle.pequod_commands.proofs.run.serve_alone.Goals as goal
 
-pub returns-in_default-clause-run : goal.returns-in_default-clause-run
-returns-in_default-clause-run g c = runs_to_no_memory _ _
+pub returns-in-Err-clause-run : goal.returns-in-Err-clause-run
+returns-in-Err-clause-run g c = runs_to_no_memory _ _ _ c.memory.ensures

@@ -20,7 +20,7 @@ returns-clause-serve g c =
     (λ six. record { ending = unserved no_memory; served = (six, nothing) })
     (λ eight. record {
       ending = failed joins;
-      served = (eight, c.in-Ok.ensures.joins, nothing, c.serve_links.ensures.links (λ six. omega arith));
+      served = (eight, c.in-Ok.ensures.joins, nothing, c.serve_links.ensures.nowhere_else eight, c.serve_links.ensures.links (λ six. omega arith));
     })
     others)
     c.serve_links.ensures.ends

@@ -1,6 +1,11 @@
-use Rattle.std.proofs.Common.{◌+◌, ap, ◌∙◌, subst}
+use Rattle.std.proofs.Common.{◌+◌, List, ap, ◌∙◌, subst}
 use Rattle.pq_io.specs.Links.{link_told}
 use Rattle.door_queue.specs.Tallies.{Tallied}
+use Rattle.growing_history.proofs.ElementLemmas.{put_back}
+use Rattle.write_history.specs.Passes.{PassView}
+use Rattle.pequod_cache.specs.Meeting.{HaveMet}
+use Rattle.pequod_cache.proofs.AddingLemmas.{none_more}
+use Rattle.pequod_cache.proofs.MeetLemmas.{have_all_of}
 use Rattle.server.specs.Receipts.{HasServed, ServedTheRest}
 use Rattle.server.proofs.settling.serve_rest.Goals as goal
 
@@ -20,12 +25,21 @@ returns g c =
     let last = c.last.inside in
     let left = c.serve_left.ensures in
     let new = c.serve_left.new in
+    let seen = new.service.client in
+    let first = c.meet_all.new.first in
+    let lent = c.deref_mut.ensures.value in
+    let same = c.meet_all.auto.others in
+    let back = put_back c.meet_all.new.others c.args.others.items c.args.others.len c.args.others.ok.0 (rw lent at same) in
+    let again = c.deref_mut-2.ensures.value ∙ back in
     subst (λ w. ServedTheRest told tells w c.args.others.items c.args.tally.now new.tally new.receipts.items) c.last.view_is
     (record {
-      seen = new.service.client.view;
-      history = c.meet_each.new.client.view;
+      seen = seen.view;
+      history = first.view;
       served = subst (λ t. HasServed told tells last.client.number last.client.view new.service.client.view t new.tally last.receipts.items new.receipts.items) c.join.ensures left.served;
       once = left.once;
-      within = c.meet_each.ensures.begins;
-      others_within = c.meet_each.ensures.others;
+      within = c.meet_all.ensures.added.begins;
+      all = none_more last.client.number seen first left.same_number c.meet_all.ensures.added;
+      met = have_all_of seen.view first.view c.meet_all-2.new.first.view c.args.others.items c.meet_all.new.others c.meet_all-2.new.others
+          (subst (λ (clients : List PassView). HaveMet seen.view first.view clients c.meet_all.new.others) lent c.meet_all.ensures.met)
+          (subst (λ (clients : List PassView). HaveMet first.view c.meet_all-2.new.first.view clients c.meet_all-2.new.others) again c.meet_all-2.ensures.met);
     })

@@ -1,11 +1,12 @@
-use Rattle.std.proofs.Common.{◌≡◌, length}
-use Rattle.semantics.specs.Histories.{IsPrefix}
-use Rattle.server.specs.Staffs.{declared}
+-- the joins so far are declared, and stand before those that are left
+use Rattle.std.proofs.Common.{◌≡◌, ◌++◌}
+use Rattle.server.specs.Staffs.{AreStaff}
 use Rattle.server.proofs.staffing.declare_all.Given as goal
 
 abbrev pub invariant-loop-join : goal.invariant-loop-join
 invariant-loop-join g l = record {
-  numbered : l.first.number ≡ 0;
-  counted : l.position ≡ length l.yielded;
-  begins : IsPrefix (declared l.yielded) l.first.view;
+  next : (goal.iterator-loop-join g).can_next l.join-iterator;
+  finite : (goal.iterator-loop-join g).is_finite l.join-iterator;
+  staff : AreStaff g.N.Naming.history l.yielded l.first l.others;
+  left : l.yielded ++ l.join-iterator.rest.items ≡ l.fn.joins.items;
 }

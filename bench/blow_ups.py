@@ -139,6 +139,12 @@ def product(keys, table="a"):
     return stored, [get("z|1")], [put(f"{table}|{keys:03}"), get("z|1")]
 
 
+def wide(keys):
+    """Pairs of three tables of checks, and a read that comes from more ranges than may be kept."""
+    stored, first, _ = product(keys)
+    return stored, first, []
+
+
 def friends(followed):
     """Users of which each follows all others, a scan of one's friends of friends, and one whom this one follows besides."""
     users = [f"u{number:02}" for number in range(followed + 1)]
@@ -198,6 +204,7 @@ CASES = {
     "product": (Run, ROOM, product(30), 1, "a product of three tables of 30 keys, and one key more"),
     "last-table": (Run, ROOM, product(30, "c"), 1, "the same, and one key more in the last of the three tables"),
     "large-product": (Run, [], product(60), 1, "a product of three tables of 60 keys with the default limits, and one key more"),
+    "wide": (Run, [], wide(300), 1, "a product of three tables of 300 keys with the default limits"),
     "friends": (Run, ROOM, friends(70), 71, "friends of friends of 70, and one friend more"),
     "timelines": (Serve, ROOM, timelines(50, 2550), 0, "50 timelines of 2,550 posters, and one post that reaches all"),
     "followers": (Run, ROOM, followers(5000), 10_000, "5,000 rows under one poster, and 5,000 followers more"),

@@ -1,5 +1,5 @@
 // What a layer asks of the cells.
-ghost use Rattle.std.specs.Prelude.{◌≡◌, ℕ, ◌+◌, ◌-◌, ◌≤◌, List, length, map, take, slice_get, slice_set, true, MatchOption, IfOk, OnErr, Some, None};
+ghost use Rattle.std.specs.Prelude.{◌≡◌, ℕ, ◌+◌, ◌-◌, ◌≤◌, Contains, List, length, map, take, slice_get, slice_set, true, MatchOption, IfOk, OnErr, Some, None};
 ghost use Rattle.semantics.specs.Texts.{Range as Bounds};
 ghost use Rattle.semantics.specs.Joins.{Join as PlainJoin, push};
 ghost use Rattle.semantics.specs.Histories.{History, joins_of};
@@ -10,7 +10,8 @@ ghost use Rattle.join_eval.specs.Answers.{TellsBetween};
 ghost use Rattle.kept_ranges.specs.Sound.{KeptRange};
 ghost use Rattle.range_serving.specs.Serving.{IsPast};
 ghost use Rattle.cell_slots.specs.declared.slot.Slot.TheVariants.{Lent, Held};
-ghost use Rattle.cell_slots.specs.Slots.{Frame, Holdings, IsDeclared, IsReached, IsReadySlot, IsRightFor, StandsAs, Takes, with_slot};
+ghost use Rattle.cell_slots.specs.Places.{LiesInPlace};
+ghost use Rattle.cell_slots.specs.Slots.{Frame, Holdings, IsDeclared, IsReached, IsReadySlot, IsRightFor, MeetsNone, StandsAs, Takes, place_at, with_slot};
 ghost use Rattle.cell_slots.specs.Spending.{CoversReady, MayKeep, Reserves, Spends};
 
 use crate::slot::Part;
@@ -45,9 +46,12 @@ pub trait Cells: Reader {
         requires { (j : PlainJoin) × IsDeclared (Self.list self.now) at j }
         ensures { IfOk result (IsDeclared (Self.list self.now) at) };
 
-    /// The range in parts, in order, each with the cell that holds it for the join, where one does.
+    /// The range in parts, in order, each with the cell in whose place for the join it lies, where it lies in one. One without a
+    /// cell meets no such place.
     fn parts(&self, at: u64, range: &Range) -> Result<Vec<Part>, OutOfMemory>
-        ensures { IfOk result (λ parts. JoinTo range.now (map (λ part. part.range) parts.items)) };
+        ensures join { IfOk result (λ parts. JoinTo range.now (map (λ part. part.range) parts.items)) }
+        ensures kept { IfOk result (λ parts. (id : ℕ) (part : Bounds) → Contains parts.items (record { range = part; cell = Some id }) → LiesInPlace (place_at (holdings self.now).slots) id at part) }
+        ensures gaps { IfOk result (λ parts. (part : Bounds) → Contains parts.items (record { range = part; cell = None }) → MeetsNone (holdings self.now).slots at part) };
 
     /// The range, which reaches the join's output, in parts, in order, each with the cell that holds it, where one does. For
     /// a push join the gaps between what is held are reserved: the lowest free cell holds each of them from now on, while

@@ -1,6 +1,10 @@
 -- What a turn says.
-use Rattle.std.specs.Prelude.{◌≡◌, ℕ, ◌≤◌, length, None, Result, Ok, Err, IfSome, MatchOption}
+use Rattle.std.specs.Prelude.{◌≡◌, ℕ, ◌+◌, ◌≤◌, length, None, Option, Result, Ok, Err, IfSome, MatchOption, OnOk}
+use Rattle.std.specs.Option.{IsSomeAnd}
 use Rattle.semantics.specs.Histories.{History}
+use Rattle.kept_ranges.specs.Sound.{KeptRange}
+use Rattle.range_state.specs.Work.{advance_steps, TouchesLittle}
+use Rattle.shared_cells.specs.Advancing.{CanAdvance}
 use Rattle.shared_cells.specs.Cells.{CellView, IsWideCell}
 use Rattle.range_cells.specs.declared.turning.Turn.{Turn}
 use Rattle.range_cells.specs.declared.turning.Turn.TheVariants.{Brought, TooWide, Idle, OutOfMemory}
@@ -25,3 +29,8 @@ done (Brought id position) = Ok tt
 done (TooWide id) = Err tt
 done Idle = Ok tt
 done (OutOfMemory _) = Err tt
+
+-- a call that brings a cell to a position for a rank, with so many steps, advances what stands behind with bare ranges: what no changed key touches is left, and it takes no more steps than an advance
+pub record AdvancesLittle {T E : Type 0} (h : History) (floor p : ℕ) (rank : Option ℕ) (done : Result T E) (old new : CellView) (before after : ℕ) : Type 0 where
+  pub little : (s : KeptRange) (q : ℕ) → CanAdvance h floor q p rank old s → OnOk done (IsSomeAnd new.held (TouchesLittle h q p s))
+  pub cost : (s : KeptRange) (q : ℕ) → CanAdvance h floor q p rank old s → OnOk done (after ≤ before + advance_steps h q p s.kept.needs)

@@ -10,6 +10,7 @@ ghost use Rattle.join_eval.specs.Moves.{Moves};
 ghost use Rattle.cell_slots.specs.Slots.{IsRankAt};
 ghost use Rattle.shared_cells.specs.Advancing.{AdvancesCell};
 ghost use Rattle.shared_cells.specs.Cells.{IsWideCell};
+ghost use Rattle.range_cells.specs.Turns.{AdvancesLittle};
 
 use base_shards::Naming;
 use join_eval::{Changed, KeepFault, Reader, TooMany};
@@ -176,7 +177,8 @@ fn changed_lower<'a, N: Naming, W: Wait, G: Gate, R: Stacked<N>, L: Ledger>(
 }
 
 /// Advances what a cell keeps to where the first p entries stand, by a reader, if the cell is for the rank. The cell follows the
-/// ranges of base pairs that are read for it.
+/// ranges of base pairs that are read for it. What stands behind with bare ranges is left as an advance leaves it, with no more
+/// steps than that takes.
 ///
 /// `TooWide` comes only where the cell's range is filled for that and takes more than `most` needs; then it is forgotten.
 fn advance_by<N: Naming, R: Stacked<N>, G: Gate, L: Ledger>(
@@ -194,6 +196,7 @@ fn advance_by<N: Naming, R: Stacked<N>, G: Gate, L: Ledger>(
     requires rank { IsRankAt (R.list reader.old) p cell.old.at rank }
     requires ranked { IfSome rank (λ r. r ≤ R.top) }
     ensures advances { AdvancesCell (R.floor reader.old) p rank result cell.old cell.new }
+    ensures little { AdvancesLittle (R.list reader.old) (R.floor reader.old) p rank result cell.old cell.new steps.old steps.new }
     ensures wide { IfErr result (OnTooWide (IsWideCell most (R.list reader.old) p cell.new)) }
     ensures met { cell.new.pass.view ≡ R.list reader.new }
     ensures moves { Moves R.list R.floor R.went reader.old reader.new }
@@ -222,6 +225,7 @@ fn advance_top<'a, N: Naming, W: Wait, G: Gate, R: Stacked<N>, L: Ledger>(
     requires rank { IsRankAt (R.list two.old.inner.inner) p cell.old.at rank }
     requires ranked { IfSome rank (λ r. r ≤ 7) }
     ensures advances { AdvancesCell (R.floor two.old.inner.inner) p rank result cell.old cell.new }
+    ensures little { AdvancesLittle (R.list two.old.inner.inner) (R.floor two.old.inner.inner) p rank result cell.old cell.new steps.old steps.new }
     ensures wide { IfErr result (OnTooWide (IsWideCell most (R.list two.old.inner.inner) p cell.new)) }
     ensures met { cell.new.pass.view ≡ R.list two.new.inner.inner }
     ensures went { R.went two.old.inner.inner two.new.inner.inner }
@@ -247,6 +251,7 @@ fn advance_upper<'a, N: Naming, W: Wait, G: Gate, R: Stacked<N>, L: Ledger>(
     requires rank { IsRankAt (R.list four.old.inner.inner.inner.inner) p cell.old.at rank }
     requires ranked { IfSome rank (λ r. r ≤ 7) }
     ensures advances { AdvancesCell (R.floor four.old.inner.inner.inner.inner) p rank result cell.old cell.new }
+    ensures little { AdvancesLittle (R.list four.old.inner.inner.inner.inner) (R.floor four.old.inner.inner.inner.inner) p rank result cell.old cell.new steps.old steps.new }
     ensures wide { IfErr result (OnTooWide (IsWideCell most (R.list four.old.inner.inner.inner.inner) p cell.new)) }
     ensures met { cell.new.pass.view ≡ R.list four.new.inner.inner.inner.inner }
     ensures went { R.went four.old.inner.inner.inner.inner four.new.inner.inner.inner.inner }
@@ -272,6 +277,7 @@ fn advance_middle<'a, N: Naming, W: Wait, G: Gate, R: Stacked<N>, L: Ledger>(
     requires rank { IsRankAt (R.list six.old.inner.inner.inner.inner.inner.inner) p cell.old.at rank }
     requires ranked { IfSome rank (λ r. r ≤ 7) }
     ensures advances { AdvancesCell (R.floor six.old.inner.inner.inner.inner.inner.inner) p rank result cell.old cell.new }
+    ensures little { AdvancesLittle (R.list six.old.inner.inner.inner.inner.inner.inner) (R.floor six.old.inner.inner.inner.inner.inner.inner) p rank result cell.old cell.new steps.old steps.new }
     ensures wide { IfErr result (OnTooWide (IsWideCell most (R.list six.old.inner.inner.inner.inner.inner.inner) p cell.new)) }
     ensures met { cell.new.pass.view ≡ R.list six.new.inner.inner.inner.inner.inner.inner }
     ensures went { R.went six.old.inner.inner.inner.inner.inner.inner six.new.inner.inner.inner.inner.inner.inner }
@@ -297,6 +303,7 @@ fn advance_lower<'a, N: Naming, W: Wait, G: Gate, R: Stacked<N>, L: Ledger>(
     requires rank { IsRankAt (R.list tower.old.inner.inner.inner.inner.inner.inner.inner.inner) p cell.old.at rank }
     requires ranked { IfSome rank (λ r. r ≤ 7) }
     ensures advances { AdvancesCell (R.floor tower.old.inner.inner.inner.inner.inner.inner.inner.inner) p rank result cell.old cell.new }
+    ensures little { AdvancesLittle (R.list tower.old.inner.inner.inner.inner.inner.inner.inner.inner) (R.floor tower.old.inner.inner.inner.inner.inner.inner.inner.inner) p rank result cell.old cell.new steps.old steps.new }
     ensures wide { IfErr result (OnTooWide (IsWideCell most (R.list tower.old.inner.inner.inner.inner.inner.inner.inner.inner) p cell.new)) }
     ensures met { cell.new.pass.view ≡ R.list tower.new.inner.inner.inner.inner.inner.inner.inner.inner }
     ensures went { R.went tower.old.inner.inner.inner.inner.inner.inner.inner.inner tower.new.inner.inner.inner.inner.inner.inner.inner.inner }
@@ -371,6 +378,7 @@ impl<'a, N: Naming, W: Wait, G: Gate> Stack<'a, N, W, G> {
     /// Advances what a cell with a number keeps to where the first p entries that the pass has seen stand, where it stands below.
     /// The rank is the one that its join has then, and none where the join does not stand; where it is not the cell's, what it
     /// keeps stays as it is. What stands below where the pin reaches back to is let go and filled there; the gate is passed before.
+    /// What stands from there on, below p with bare ranges, is left as an advance leaves it, with no more steps than that takes.
     /// The cell follows the ranges of base pairs that are read for it; its pass and this one see what either has seen.
     ///
     /// On a fault what is kept is as it was, or it is forgotten. `TooWide` comes only where the cell's range is filled and that
@@ -390,6 +398,7 @@ impl<'a, N: Naming, W: Wait, G: Gate> Stack<'a, N, W, G> {
         requires rank { IsRankAt self.old.view p cell.old.at rank }
         requires ranked { IfSome rank (λ r. r ≤ 7) }
         ensures advances { AdvancesCell (reach self.old.mark) p rank result cell.old cell.new }
+        ensures little { AdvancesLittle self.old.view (reach self.old.mark) p rank result cell.old cell.new steps.old steps.new }
         ensures wide { IfErr result (OnTooWide (IsWideCell most self.old.view p cell.new)) }
         ensures met { cell.new.pass.view ≡ self.new.view }
         ensures reads_on { ReadsOn self.old self.new }

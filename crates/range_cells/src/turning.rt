@@ -7,7 +7,7 @@ ghost use Rattle.base_shards.specs.Reading.{ReachesBack, ReadsOn};
 ghost use Rattle.write_history.specs.declared.known.Mark.TheVariants.{Pinned};
 ghost use Rattle.cell_slots.specs.Slots.{IsRankAt};
 ghost use Rattle.shared_cells.specs.Advancing.{AdvancesCell};
-ghost use Rattle.range_cells.specs.Turns.{IsWithinView, TellsCell, done};
+ghost use Rattle.range_cells.specs.Turns.{AdvancesLittle, IsWithinView, TellsCell, done};
 
 use crate::range_cells::RangeCells;
 use base_reader::reaching::rank_of;
@@ -72,7 +72,8 @@ impl<N: Naming> RangeCells<N> {
 
     /// Advances a cell to where the first p entries stand, says where it stands then, and which cells of lower ranks were used
     /// for it, in order. The rank is the one that its join has after p entries, and none where it does not stand then; a cell for
-    /// another rank keeps what it keeps.
+    /// another rank keeps what it keeps. What stands from where the pin reaches back to on, below p with bare ranges, is left as an
+    /// advance leaves it, with no more steps than that takes.
     ///
     /// On a fault what is kept is as it was, or it is forgotten. Where that fills the cell's range and takes more needs than may be
     /// kept, it is forgotten, and the turn says so.
@@ -97,6 +98,7 @@ impl<N: Naming> RangeCells<N> {
         requires ranked { IfSome rank (λ r. r ≤ 7) }
         ensures told { TellsCell self.now.most pass.view p id cell.new result.0.turn }
         ensures advances { AdvancesCell (reach pass.mark) p rank (done result.0.turn) cell.old cell.new }
+        ensures little { AdvancesLittle pass.view (reach pass.mark) p rank (done result.0.turn) cell.old cell.new steps.old steps.new }
         ensures within { IsWithinView result.0.turn result.0.pass.view }
         ensures reads_on { ReadsOn pass result.0.pass }
         ensures counted { steps.old ≤ steps.new }

@@ -5,7 +5,8 @@ ghost use Rattle.growing_history.specs.Entered.{HasEntered};
 ghost use Rattle.join_eval.specs.Moves.{Moves};
 ghost use Rattle.kept_ranges.specs.Sound.{KeptRange};
 ghost use Rattle.range_state.specs.Held.{forgotten};
-ghost use Rattle.range_state.specs.Since.{AnswersSince};
+ghost use Rattle.range_state.specs.Since.{AnswersSince, told_count};
+ghost use Rattle.range_state.specs.Work.{advance_steps, TouchesLittle};
 ghost use Rattle.cell_slots.specs.declared.slot.Slot.TheVariants.{Held};
 ghost use Rattle.cell_slots.specs.Slots.{Frame, IsOutput, IsReadySlot, StandsAs};
 ghost use Rattle.cell_slots.specs.Spending.{HoldsAdvanced, HoldsMended, KeepsJust, StandsBehind, StandsPending, StaysReady};
@@ -100,6 +101,9 @@ pub fn read_part<R: Cells, L: Ledger>(
 /// `All` comes where no cell holds the part, where the cell cannot be lent, and where what it holds does not know it once it
 /// stands at the later position: it keeps nothing, its notes start later, or slots meet the part that are pending or were
 /// noted since.
+///
+/// Where the cell stands behind and the ranges of its needs are bare from there on, what no changed key touches is left, and it
+/// takes no more steps than an advance, one step more and one for each key that it lists; it is not filled again.
 pub fn changes_of_part<R: Cells, L: Ledger>(
     query: Query,
     since: u64,
@@ -118,6 +122,10 @@ pub fn changes_of_part<R: Cells, L: Ledger>(
         IfOk result (λ told. (after : KeptRange) → slice_get (R.holdings reader.new).slots id ≡ Some (Held query.at after) → AnswersSince since part.now.range after told) }
     ensures advanced { (id : ℕ) (held : KeptRange) → part.now.cell ≡ Some id → slice_get (R.holdings reader.old).slots id ≡ Some (Held query.at held) → CanTell query.rank query.p part.now.range held →
         OnOk result (HoldsCaughtUp query.p query.at held (slice_get (R.holdings reader.new).slots id)) }
+    ensures little { (id q : ℕ) (s : KeptRange) → part.now.cell ≡ Some id → s.rank ≡ query.rank → StandsBehind (R.list reader.old) (R.holdings reader.old).slots id query.at q query.p part.now.range s →
+        OnOk result ((after : KeptRange) → slice_get (R.holdings reader.new).slots id ≡ Some (Held query.at after) → TouchesLittle (R.list reader.old) q query.p s after) }
+    ensures cost { (id q : ℕ) (s : KeptRange) → part.now.cell ≡ Some id → s.rank ≡ query.rank → StandsBehind (R.list reader.old) (R.holdings reader.old).slots id query.at q query.p part.now.range s →
+        IfOk result (λ told. steps.new ≤ steps.old + advance_steps (R.list reader.old) q query.p s.kept.needs + 1 + told_count told) }
     ensures moves { Moves R.list R.floor (λ a b. Frame (query.rank + 1) (R.holdings a) (R.holdings b)) reader.old reader.new }
     ensures counted { steps.old ≤ steps.new }
 {

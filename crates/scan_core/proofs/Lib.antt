@@ -6,6 +6,7 @@ pub mod LendingLemmas
 pub mod GoingLemmas
 pub mod StepLemmas
 pub mod SpendLemmas
+pub mod SettlingLemmas
 pub mod LettingLemmas
 pub mod ReaderLemmas
 pub mod WorldLemmas

@@ -5,7 +5,7 @@ use Rattle.std.proofs.lemmas.Option.{slice_get_within}
 use Rattle.semantics.specs.Texts.{is_range, Range}
 use Rattle.semantics.specs.Joins.{Join}
 use Rattle.semantics.specs.Histories.{History, IsPrefix, joins_of}
-use Rattle.semantics.specs.States.{ranks_of}
+use Rattle.semantics.specs.States.{below, ranks_of}
 use Rattle.semantics.proofs.OfRankLemmas.{all_at}
 use Rattle.semantics.proofs.AdmissibleSets.{entered_is_admissible_lem}
 use Rattle.growing_history.specs.Entered.{HasEntered, HasRank}
@@ -13,7 +13,7 @@ use Rattle.growing_history.proofs.EnteredLemmas.{has_entered_taken}
 use Rattle.kept_ranges.specs.Sound.{KeptRange, IsSound, IsSoundAt}
 use Rattle.range_state.specs.Ready.{StandsAt, pending_meets}
 use Rattle.source_changes.specs.Asking.{AreBareThroughout}
-use Rattle.range_state.specs.Work.{TouchesLittle, advance_steps}
+use Rattle.range_state.specs.Work.{AreBareUnder, TouchesLittle, advance_steps, mend_steps}
 use Rattle.range_serving.specs.Serving.{MendsPart, WasMended}
 use Rattle.cell_slots.specs.declared.slot.Slot.{Slot}
 use Rattle.cell_slots.specs.declared.slot.Slot.TheVariants.{Lent, Held}
@@ -142,6 +142,17 @@ mended_from (Ok x) h more before after id at part s t old new same was held rang
   mends = λ q stands. subst (λ (l : History). MendsPart l q part s t) same (mended q stands).mends;
 }
 mended_from (Err e) h more before after id at part s t old new same was held range places position clear mended = tt
+
+-- it costs what mending costs what the cell holds
+pub mend_cost_from : {X E : Type 0} (r : Result X E) (h more : History) (slots : List Slot) (id at first last : ℕ) (part : Range) (s t : KeptRange) → more ≡ h → HoldsAt slots id at s →
+    ((q : ℕ) → StandsAt q s → OnOk r (WasMended more q part s t first last)) →
+    (other q : ℕ) (k : KeptRange) → HoldsAt slots id other k → StandsAt q k → AreBareUnder k h q part → OnOk r (last ≤ first + mend_steps k (below (take q h) k.rank) part)
+mend_cost_from (Ok x) h more slots id at first last part s t same held mended other q k is stands bare =
+    let one : s ≡ k = held_state_same at other s k (sym held ∙ is) in
+    let cost : AreBareUnder k h q part → last ≤ first + mend_steps k (below (take q h) k.rank) part =
+    subst (λ (w : History × KeptRange). AreBareUnder w.1 w.0 q part → last ≤ first + mend_steps w.1 (below (take q w.0) w.1.rank) part) (λ i. (same i, one i)) (mended q (subst (StandsAt q) (sym one) stands)).cost in
+    cost bare
+mend_cost_from (Err e) h more slots id at first last part s t same held mended other q k is stands bare = tt
 
 -- ---- a piece
 

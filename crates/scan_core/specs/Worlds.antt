@@ -4,14 +4,14 @@ use Rattle.std.specs.Option.{IsSomeAnd}
 use Rattle.semantics.specs.Texts.{Range, pairs_within}
 use Rattle.semantics.specs.Joins.{push}
 use Rattle.semantics.specs.Histories.{History, DeclaredJoin, joins_of}
-use Rattle.semantics.specs.States.{state}
+use Rattle.semantics.specs.States.{below, state}
 use Rattle.key_ranges.specs.Ranges.{is_open}
 use Rattle.growing_history.specs.Entered.{HasRank}
 use Rattle.layering.specs.Reached.{reaches, ReachesOne}
 use Rattle.kept_ranges.specs.Sound.{KeptRange}
 use Rattle.range_state.specs.Ready.{StandsAt, pending_meets}
 use Rattle.source_changes.specs.Asking.{AreBareThroughout}
-use Rattle.range_state.specs.Work.{TouchesLittle, advance_steps}
+use Rattle.range_state.specs.Work.{AreBareUnder, TouchesLittle, advance_steps, mend_steps}
 use Rattle.range_serving.specs.Serving.{MendsPart}
 use Rattle.core_events.specs.Events.{Event, Done, brought, mended, evicted, nothing, append, begin, piece, advance, mend, evict, finish}
 use Rattle.core_events.specs.Plain.{World, Scan, scan_of, goes_on, freed, step}
@@ -119,7 +119,7 @@ pub record PieceSpends (h : History) (before after : Holdings) (p : ℕ) (range 
       (id : ℕ) (held : KeptRange) → IsReadySlot before.slots id s.position p range held → length held.kept.rows + 1 ≤ before.setting.room →
       IsReadySlot after.slots id s.position p range held
 
--- what each piece that is answered costs and leaves; and what it costs to bring a cell forward: where its kept range stands below, with the rank that its join has at the position, and the ranges of its needs are bare from there on, no more than an advance takes. A write, the beginning and the end of a scan and an eviction take no step
+-- what each piece that is answered costs and leaves; and what it costs to bring a cell forward: where its kept range stands below, with the rank that its join has at the position, and the ranges of its needs are bare from there on, no more than an advance takes; and to mend one where the ranges that are read for it are bare, no more than a mend takes. A write, the beginning and the end of a scan and an eviction take no step
 abbrev pub StepSpends : Event → CoreWorld → CoreWorld → ℕ → Type 0
 StepSpends (append client write) before after added = added ≡ 0
 StepSpends (begin scan range) before after added = added ≡ 0
@@ -128,6 +128,7 @@ StepSpends (piece number upto) before after added =
 StepSpends (advance cell to) before after added =
     (at q : ℕ) (s : KeptRange) → HoldsAt before.cells.slots cell at s → HasRank (joins_of (take to before.world.history)) s.join s.rank → StandsAt q s → q < to → to ≤ length before.world.history →
     AreBareThroughout before.world.history q to s.kept.needs → added ≤ advance_steps before.world.history q to s.kept.needs
-StepSpends (mend cell range) before after added = Unit {0}
+StepSpends (mend cell range) before after added =
+    (at q : ℕ) (s : KeptRange) → HoldsAt before.cells.slots cell at s → StandsAt q s → AreBareUnder s before.world.history q range → added ≤ mend_steps s (below (take q before.world.history) s.rank) range
 StepSpends (evict cell) before after added = added ≡ 0
 StepSpends (finish scan) before after added = added ≡ 0

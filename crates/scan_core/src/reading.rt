@@ -2,12 +2,12 @@
 ghost use Rattle.std.specs.Prelude.{◌≡◌, ℕ, ◌+◌, ◌-◌, ◌<◌, ◌≤◌, length, take, IfOk, OnOk};
 ghost use Rattle.semantics.specs.Texts.{pairs_within};
 ghost use Rattle.semantics.specs.Histories.{joins_of};
-ghost use Rattle.semantics.specs.States.{state};
+ghost use Rattle.semantics.specs.States.{below, state};
 ghost use Rattle.growing_history.specs.Entered.{HasEntered, HasRank};
 ghost use Rattle.kept_ranges.specs.Sound.{KeptRange};
 ghost use Rattle.range_state.specs.Ready.{StandsAt};
 ghost use Rattle.source_changes.specs.Asking.{AreBareThroughout};
-ghost use Rattle.range_state.specs.Work.{advance_steps};
+ghost use Rattle.range_state.specs.Work.{advance_steps, AreBareUnder, mend_steps};
 ghost use Rattle.range_serving.specs.Serving.{IsPast};
 ghost use Rattle.cell_slots.specs.Slots.{Frame};
 ghost use Rattle.cell_slots.specs.Spending.{Spends};
@@ -111,7 +111,8 @@ pub fn advance_cell<L: Ledger>(
     advanced
 }
 
-/// Finds anew what is pending in a range of what a cell holds.
+/// Finds anew what is pending in a range of what a cell holds. Where the ranges that are read for it are bare, it takes no more
+/// steps than a mend.
 ///
 /// On `OutOfMemory` the cell holds what it held, or nothing is kept for its range.
 pub fn mend_cell<L: Ledger>(
@@ -122,6 +123,8 @@ pub fn mend_cell<L: Ledger>(
 ) -> Result<(), OutOfMemory>
     requires { IsHeldAt reader.old.cells.slots id }
     ensures mended { OnOk result (IsMendedIn reader.old.history reader.old.cells.slots reader.new.cells.slots id range.now) }
+    ensures cost { (at q : ℕ) (s : KeptRange) → HoldsAt reader.old.cells.slots id at s → StandsAt q s → AreBareUnder s reader.old.history q range.now →
+        OnOk result (steps.new ≤ steps.old + mend_steps s (below (take q reader.old.history) s.rank) range.now) }
     ensures counted { steps.old ≤ steps.new }
     ensures history { reader.new.history ≡ reader.old.history }
     ensures unlent { NoneLent reader.old.cells.slots → NoneLent reader.new.cells.slots }

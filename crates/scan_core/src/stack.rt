@@ -10,7 +10,7 @@ ghost use Rattle.cell_slots.specs.Slots.{Frame, IsRankAt, IsRightFor, with_slot}
 ghost use Rattle.cell_slots.specs.FrameLaws.{frame_refl, frame_trans};
 ghost use Rattle.cell_slots.specs.Spending.{Spends};
 ghost use Rattle.cell_table.specs.Moves.{Evicts, IsHeld};
-ghost use Rattle.scan_core.specs.Cells.{IsTaken, KeepsLast};
+ghost use Rattle.scan_core.specs.Cells.{IsSettled, IsTaken, KeepsLast};
 ghost use Rattle.scan_core.specs.LettingGo.{LetsGo};
 ghost use Rattle.scan_core.specs.Rights.{AreRight};
 
@@ -188,10 +188,11 @@ impl Stack {
         core_of!(self.tower).clear_used();
     }
 
-    /// Tells the book of the cells that were used, and frees those that have to go.
+    /// Tells the book of the cells that were used, in order, and frees those that have to go, and no others.
     ///
     /// On `OutOfMemory` the book may not know of some of them.
     pub fn settle(&mut self) -> Result<(), OutOfMemory>
+        ensures settled { OnOk result (IsSettled self.old.cells self.new.cells) }
         ensures evicts { Evicts self.old.cells.slots self.new.cells.slots }
         ensures last { KeepsLast self.old self.new.cells.slots }
         ensures setting { self.new.cells.setting ≡ self.old.cells.setting }

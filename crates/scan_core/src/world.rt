@@ -196,6 +196,7 @@ impl World {
         ensures world { self.new.world ≡ self.old.world }
         ensures room { self.new.cells.setting.room ≡ self.old.cells.setting.room }
         ensures counted { steps.old ≤ steps.new }
+        ensures spends { OnOk result (StepSpends (plain.mend cell range.now) self.old self.new (steps.new - steps.old)) }
     {
         let Some(Slot::Held(_, _)) = self.reader.slot(cell) else {
             return Ok(Done::Nothing);
@@ -223,7 +224,7 @@ impl World {
     /// A write takes what judging it takes. A piece takes, for each join whose output it reaches, a search, what is wanted to
     /// bring what is kept to the scan's position, and is linear in the pairs that it reads. A write, the beginning and the end of a
     /// scan and an eviction take no step; what a piece costs in steps where one output alone is reached, and what bringing a cell
-    /// forward over bare ranges costs, is said by `spends`.
+    /// forward or mending it over bare ranges costs, is said by `spends`.
     ///
     /// On `OutOfMemory` the history and the scans are unchanged; cells may have been filled, brought forward, or freed.
     pub fn step<L: Ledger>(

@@ -1,14 +1,17 @@
-use Rattle.std.proofs.Common.{◌≡◌, ℕ, Option, Some, slice_get, sym, ap, ◌∙◌, subst}
+use Rattle.std.proofs.Common.{◌≡◌, ℕ, ◌+◌, ◌≤◌, Option, Some, slice_get, sym, ap, ◌∙◌, subst}
 use Rattle.std.proofs.lemmas.Option.{MatchOption-at_some, none-some, same_Some}
-use Rattle.semantics.specs.Histories.{IsPrefix}
+use Rattle.semantics.specs.Histories.{History, IsPrefix}
 use Rattle.kept_ranges.specs.Sound.{KeptRange}
-use Rattle.range_state.specs.Since.{AnswersSince}
+use Rattle.range_state.specs.Ready.{StandsAt}
+use Rattle.range_state.specs.Since.{AnswersSince, told_count}
+use Rattle.range_state.specs.Work.{advance_steps, TouchesLittle}
+use Rattle.source_changes.specs.Asking.{AreBareThroughout}
 use Rattle.range_serving.specs.Serving.{IsCaughtUp}
 use Rattle.cell_slots.specs.declared.slot.Slot.{Slot}
 use Rattle.cell_slots.specs.declared.slot.Slot.TheVariants.{Lent, Held}
 use Rattle.cell_slots.specs.Slots.{Frame}
 use Rattle.cell_slots.proofs.FrameLemmas.{given_back}
-use Rattle.rank_layers.proofs.PartLemmas.{moves_part, right_after, place_lent, rank_of_part}
+use Rattle.rank_layers.proofs.PartLemmas.{behind_not_past, moves_part, right_after, place_lent, rank_of_part}
 use Rattle.rank_layers.proofs.TellingLemmas.{told_of_part}
 use Rattle.rank_layers.proofs.part.changes_of_part.Goals as goal
 
@@ -94,3 +97,56 @@ returns-clause-advanced g c = λ id held cell stands can.
           ∙ given_back (g.R.Cells.holdings c.changes_since-told.new.reader) (g.R.Cells.holdings c.give_back.new.self) c.in-Some.id (Held c.args.query.at c.changes_since-told.new.state) (Lent c.args.query.at c.changes_since-told.new.state.range) lent c.give_back.ensures.held;
       advanced = subst (λ (s : KeptRange). IsCaughtUp c.args.query.p s c.changes_since-told.new.state) was c.in_ok-told.ensures.advanced;
     }
+
+-- ---- where it stands behind with bare ranges
+
+pub returns-in_default-2-clause-little : goal.returns-in_default-2-clause-little
+returns-in_default-2-clause-little g c = λ id q s cell ranked is.
+    let same : c.in-Some.id ≡ id = same_Some c.in-Some.id id (sym c.in-Some.is ∙ cell) in
+    let past = behind_not_past (g.R.Reader.list c.args.reader.now) (g.R.Cells.holdings c.args.reader.now).slots id c.args.query.at q c.args.query.p c.args.part.now.range s is in
+    let found = c.in_ok-state.ensures.held s (ap (slice_get (g.R.Cells.holdings c.args.reader.now).slots) same ∙ is.held) ranked past is.whole in
+    absurd (none-some s (sym c.in_default-2.is ∙ found))
+
+pub returns-in_default-2-clause-cost : goal.returns-in_default-2-clause-cost
+returns-in_default-2-clause-cost g c = λ id q s cell ranked is.
+    let same : c.in-Some.id ≡ id = same_Some c.in-Some.id id (sym c.in-Some.is ∙ cell) in
+    let past = behind_not_past (g.R.Reader.list c.args.reader.now) (g.R.Cells.holdings c.args.reader.now).slots id c.args.query.at q c.args.query.p c.args.part.now.range s is in
+    let found = c.in_ok-state.ensures.held s (ap (slice_get (g.R.Cells.holdings c.args.reader.now).slots) same ∙ is.held) ranked past is.whole in
+    absurd (none-some s (sym c.in_default-2.is ∙ found))
+
+pub returns-clause-little : goal.returns-clause-little
+returns-clause-little g c = λ id q s cell ranked is.
+    let list = g.R.Reader.list in
+    let holds = g.R.Cells.holdings in
+    let told = c.changes_since-told in
+    let same : c.in-Some.id ≡ id = same_Some c.in-Some.id id (sym c.in-Some.is ∙ cell) in
+    let past = behind_not_past (list c.args.reader.now) (holds c.args.reader.now).slots id c.args.query.at q c.args.query.p c.args.part.now.range s is in
+    let found = c.in_ok-state.ensures.held s (ap (slice_get (holds c.args.reader.now).slots) same ∙ is.held) ranked past is.whole in
+    let own : c.in-Some-2.state ≡ s = same_Some c.in-Some-2.state s (sym c.in-Some-2.is ∙ found) in
+    let takes = MatchOption-at_some _ _ c.in-Some-2.state c.in-Some-2.is c.in_ok-state.ensures.taken in
+    let frame = subst (λ t. Frame t (holds c.lend.new.self) (holds told.new.reader)) c.requires.next (g.met.R.Cells.went_frame c.lend.new.self told.new.reader told.ensures.moves.on) in
+    let lent = place_lent (list c.args.reader.now) (g.R.Reader.floor c.args.reader.now) (holds c.args.reader.now) (holds c.lend.new.self) (holds told.new.reader) c.in-Some.id c.args.query.at c.args.query.rank c.args.query.p c.args.part.now.range c.in-Some-2.state told.new.state takes frame told.ensures.same in
+    let stands : StandsAt q c.in-Some-2.state = subst (StandsAt q) (sym own) is.stands in
+    let bare : AreBareThroughout (list c.lend.new.self) q c.args.query.p c.in-Some-2.state.kept.needs =
+    subst (λ (w : History × KeptRange). AreBareThroughout w.0 q c.args.query.p w.1.kept.needs) (λ i. (sym c.in_ok-state.ensures.list i, sym own i)) is.bare in
+    let little : TouchesLittle (list c.args.reader.now) q c.args.query.p s told.new.state =
+    subst (λ (w : History × KeptRange). TouchesLittle w.0 q c.args.query.p w.1 told.new.state) (λ i. (c.in_ok-state.ensures.list i, own i)) (c.in_ok-told.ensures.little q stands is.behind bare) in
+    λ after there.
+    subst (TouchesLittle (list c.args.reader.now) q c.args.query.p s)
+    (held_once c.args.query.at told.new.state after (sym (given_back (holds told.new.reader) (holds c.give_back.new.self) c.in-Some.id (Held c.args.query.at told.new.state)
+    (Lent c.args.query.at told.new.state.range) lent c.give_back.ensures.held) ∙ ap (slice_get (holds c.give_back.new.self).slots) same ∙ there)) little
+
+pub returns-clause-cost : goal.returns-clause-cost
+returns-clause-cost g c = λ id q s cell ranked is.
+    let list = g.R.Reader.list in
+    let holds = g.R.Cells.holdings in
+    let told = c.changes_since-told in
+    let same : c.in-Some.id ≡ id = same_Some c.in-Some.id id (sym c.in-Some.is ∙ cell) in
+    let past = behind_not_past (list c.args.reader.now) (holds c.args.reader.now).slots id c.args.query.at q c.args.query.p c.args.part.now.range s is in
+    let found = c.in_ok-state.ensures.held s (ap (slice_get (holds c.args.reader.now).slots) same ∙ is.held) ranked past is.whole in
+    let own : c.in-Some-2.state ≡ s = same_Some c.in-Some-2.state s (sym c.in-Some-2.is ∙ found) in
+    let stands : StandsAt q c.in-Some-2.state = subst (StandsAt q) (sym own) is.stands in
+    let bare : AreBareThroughout (list c.lend.new.self) q c.args.query.p c.in-Some-2.state.kept.needs =
+    subst (λ (w : History × KeptRange). AreBareThroughout w.0 q c.args.query.p w.1.kept.needs) (λ i. (sym c.in_ok-state.ensures.list i, sym own i)) is.bare in
+    subst (λ (w : History × KeptRange). told.new.steps ≤ c.args.steps.now + advance_steps w.0 q c.args.query.p w.1.kept.needs + 1 + told_count c.in_ok-told.field-0) (λ i. (c.in_ok-state.ensures.list i, own i))
+    (c.in_ok-told.ensures.cost q stands is.behind bare)

@@ -5,6 +5,7 @@ use Rattle.semantics.specs.Histories.{History}
 use Rattle.cell_slots.specs.Slots.{IsRankAt}
 use Rattle.shared_cells.specs.Advancing.{AdvancesCell}
 use Rattle.shared_cells.specs.Cells.{IsWideCell}
+use Rattle.range_cells.specs.Turns.{AdvancesLittle}
 use Rattle.range_cells.proofs.TurnLemmas.{reaches_to}
 use Rattle.range_cells.proofs.range_cells.RangeCells.advance_cell.Goals as goal
 
@@ -39,3 +40,20 @@ pub returns-in-Err-OutOfMemory-clause-advances : goal.returns-in-Err-OutOfMemory
 returns-in-Err-OutOfMemory-clause-advances g c =
     let ended = subst (λ r. AdvancesCell (reach c.stack-stack.result.mark) c.args.p c.args.rank r c.args.cell.now c.advance_to-advanced.new.cell) c.in-Err-OutOfMemory.is c.advance_to-advanced.ensures.advances in
     record { advanced = λ same. tt; left = ended.left; failed = ended.failed }
+
+-- ---- where the ranges of the needs are bare
+
+pub returns-in-Ok-clause-little : goal.returns-in-Ok-clause-little
+returns-in-Ok-clause-little g c =
+    let advanced = c.advance_to-advanced in
+    let little =
+    subst (λ (v : PassView). AdvancesLittle v.view (reach v.mark) c.args.p c.args.rank advanced.result c.args.cell.now advanced.new.cell c.args.steps.now advanced.new.steps) c.stack-stack.ensures advanced.ensures.little in
+    let ended =
+    subst (λ r. AdvancesLittle c.args.pass.view (reach c.args.pass.mark) c.args.p c.args.rank r c.args.cell.now advanced.new.cell c.args.steps.now advanced.new.steps) c.in-Ok.is little in
+    record { little = ended.little; cost = ended.cost }
+
+pub returns-in-Err-TooWide-clause-little : goal.returns-in-Err-TooWide-clause-little
+returns-in-Err-TooWide-clause-little g c = record { little = λ s q can. tt; cost = λ s q can. tt }
+
+pub returns-in-Err-OutOfMemory-clause-little : goal.returns-in-Err-OutOfMemory-clause-little
+returns-in-Err-OutOfMemory-clause-little g c = record { little = λ s q can. tt; cost = λ s q can. tt }

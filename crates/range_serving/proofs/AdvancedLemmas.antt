@@ -18,7 +18,8 @@ use Rattle.kept_ranges.specs.Sound.{KeptRange}
 use Rattle.range_state.specs.Ready.{HasSameSubject, pending_meets, StandsAt, StandsOrIsForgotten}
 use Rattle.range_state.specs.Work.{advance_steps, AreBareUnder, fill_needs, IsFilledAfresh, meeting, mend_notes, mend_steps, needs_under_each, TouchesLittle}
 use Rattle.range_state.proofs.HeldLemmas.{afresh_few}
-use Rattle.range_serving.specs.Serving.{IsCaughtUp, IsLeftOrStandsAt, WasMended, WasAdvanced}
+use Rattle.range_serving.specs.Serving.{CountsForward, IsCaughtUp, IsLeftOrStandsAt, WasMended, WasAdvanced}
+use Rattle.range_serving.proofs.CountingLemmas.{forward_counted}
 
 -- ---- mended
 
@@ -27,10 +28,11 @@ pub mended_over : {X E : Type 0} (r : Result X E) (h here : History) (p : ℕ) (
     → OnOk r (new.position ≡ old.position) → OnOk r (new.kept.pending ≡ filter (λ given. not (meets_output old.join.output part given)) old.kept.pending)
     → ((x : ℕ) → StandsAt x old → OnOk r (AddsEach (needs_under_each old.join old.range (below (take x here) old.rank) (meeting old part)) old.kept.needs new.kept.needs))
     → ((x : ℕ) → StandsAt x old → OnOk r (new.notes ≡ noted old.notes (mend_notes x (meeting old part))))
+    → ((x : ℕ) → StandsAt x old → OnOk r (before + mend_steps old (below (take x here) old.rank) part ≤ after))
     → ((x : ℕ) → StandsAt x old → AreBareUnder old here x part → OnOk r (after ≤ before + mend_steps old (below (take x here) old.rank) part))
     → OnOk r (WasMended h p part old new before after)
-mended_over (Err e) h here p part old new before after prefix within at same position left adds notes cost = tt
-mended_over (Ok x) h here p part old new before after prefix within at same position left adds notes cost =
+mended_over (Err e) h here p part old new before after prefix within at same position left adds notes least cost = tt
+mended_over (Ok x) h here p part old new before after prefix within at same position left adds notes least cost =
     let grown : take p here ≡ take p h = take_prefix p h here within prefix in
     record {
       mends = record {
@@ -40,6 +42,7 @@ mended_over (Ok x) h here p part old new before after prefix within at same posi
         needs = subst (λ (es : History). AddsEach (needs_under_each old.join old.range (below es old.rank) (meeting old part)) old.kept.needs new.kept.needs) grown (adds p at);
         notes = notes p at;
       };
+      least = subst (λ (es : History). before + mend_steps old (below es old.rank) part ≤ after) grown (least p at);
       cost = λ bare.
           let there : AreBareUnder old here p part =
           subst (λ (es : History). AllByRecursion (λ (given : Slots). AreBare (joins_of es) (tree old.join given old.range (below es old.rank))) (meeting old part)) (sym grown) bare in
@@ -52,28 +55,30 @@ pub mended_still : {X E : Type 0} (r : Result X E) (h : History) (p : ℕ) (part
 mended_still r h p part old mid new before between after still free was = subst (λ (w : KeptRange × ℕ). OnOk r (WasMended h p part w.0 new w.1 after)) (λ i. (still i, free i)) was
 
 -- so with steps that are counted from another number on
-pub mended_counted : (h : History) (p : ℕ) (part : Range) (old new : KeptRange) (before after from upto : ℕ) → ((steps : ℕ) → after ≤ before + steps → upto ≤ from + steps) → WasMended h p part old new before after
-    → WasMended h p part old new from upto
-mended_counted h p part old new before after from upto shift was = record {
+pub mended_counted : (h : History) (p : ℕ) (part : Range) (old new : KeptRange) (before after from upto : ℕ) → ((steps : ℕ) → before + steps ≤ after → from + steps ≤ upto) → ((steps : ℕ) → after ≤ before + steps → upto ≤ from + steps)
+    → WasMended h p part old new before after → WasMended h p part old new from upto
+mended_counted h p part old new before after from upto low shift was = record {
   mends = was.mends;
+  least = low (mend_steps old (below (take p h) old.rank) part) was.least;
   cost = λ bare. shift (mend_steps old (below (take p h) old.rank) part) (was.cost bare);
 }
 
 -- a read after it takes one step more and one for each pair
 pub mended_and_read : (h : History) (p : ℕ) (part : Range) (old new : KeptRange) (before made after pairs : ℕ) → WasMended h p part old new before made → after ≡ made + 1 + pairs → WasMended h p part old new (before + 1 + pairs) after
-mended_and_read h p part old new before made after pairs was is = mended_counted h p part old new before made (before + 1 + pairs) after (λ steps up. omega (arith, up, is)) was
+mended_and_read h p part old new before made after pairs was is = mended_counted h p part old new before made (before + 1 + pairs) after (λ steps low. omega (arith, low, is)) (λ steps up. omega (arith, up, is)) was
 
 -- ---- advanced
 
 -- an advance after which nothing pending meets the part
 pub advanced_alone : (h : History) (q p : ℕ) (part : Range) (old mid : KeptRange) (before after : ℕ) → HasSameSubject old mid → StandsAt p mid → pending_meets mid part ≡ false → TouchesLittle h q p old mid
-    → after ≤ before + advance_steps h q p old.kept.needs → WasAdvanced h q p part old mid before after
-advanced_alone h q p part old mid before after same at clear little few = record {
+    → CountsForward h p old before after → after ≤ before + advance_steps h q p old.kept.needs → WasAdvanced h q p part old mid before after
+advanced_alone h q p part old mid before after same at clear little least few = record {
   mid = mid;
   same = same;
   at = at;
   little = little;
   between = after;
+  least = least;
   cost = few;
   alone = λ none. (refl, refl);
   mended = λ meets. absurd (true≢false (sym meets ∙ clear));
@@ -81,14 +86,16 @@ advanced_alone h q p part old mid before after same at clear little few = record
 
 -- an advance, and a mend
 pub advanced_and_mended : {X E : Type 0} (r : Result X E) (h : History) (q p : ℕ) (part : Range) (old mid new : KeptRange) (before between after : ℕ) → HasSameSubject old mid → StandsAt p mid → pending_meets mid part ≡ true
-    → TouchesLittle h q p old mid → between ≤ before + advance_steps h q p old.kept.needs → OnOk r (WasMended h p part mid new between after) → OnOk r (WasAdvanced h q p part old new before after)
-advanced_and_mended (Err e) h q p part old mid new before between after same at meets little few was = tt
-advanced_and_mended (Ok x) h q p part old mid new before between after same at meets little few was = record {
+    → TouchesLittle h q p old mid → CountsForward h p old before between → between ≤ before + advance_steps h q p old.kept.needs → OnOk r (WasMended h p part mid new between after)
+    → OnOk r (WasAdvanced h q p part old new before after)
+advanced_and_mended (Err e) h q p part old mid new before between after same at meets little least few was = tt
+advanced_and_mended (Ok x) h q p part old mid new before between after same at meets little least few was = record {
   mid = mid;
   same = same;
   at = at;
   little = little;
   between = between;
+  least = least;
   cost = few;
   alone = λ clear. absurd (true≢false (sym meets ∙ clear));
   mended = λ some. was;
@@ -103,6 +110,7 @@ advanced_and_read h q p part old new before made after pairs was is = record {
   at = was.at;
   little = was.little;
   between = was.between + 1 + pairs;
+  least = forward_counted h p old before was.between (before + 1 + pairs) (was.between + 1 + pairs) (λ steps low. omega (arith, low)) was.least;
   cost = let few = was.cost in omega (arith, few);
   alone = λ clear. let so = was.alone clear in let counted = so.1 in (so.0, omega (arith, counted, is));
   mended = λ meets. mended_and_read h p part was.mid new was.between made after pairs (was.mended meets) is;

@@ -16,7 +16,8 @@ use Rattle.kept_ranges.proofs.PathLemmas.{has_of_any}
 use Rattle.source_changes.specs.Asking.{AreBareThroughout, changed_count}
 use Rattle.source_changes.proofs.LongerLemmas.{bare_longer, changed_longer}
 use Rattle.range_state.specs.Work.{advance_steps, AreBareUnder, AreTouchedSlots, IsFilledBy, IsMarkOf, IsTouched, IsTouchedBy, meeting, mend_steps, needs_under_each, TouchesLittle}
-use Rattle.range_serving.specs.Serving.{WasMended, WasAdvanced}
+use Rattle.range_serving.specs.Serving.{CountsForward, CountsReach, WasMended, WasAdvanced}
+use Rattle.range_serving.proofs.CountingLemmas.{fill_over}
 
 -- ---- what is bare over the longer list
 
@@ -96,6 +97,25 @@ steps_before h more q p s t prefix within order same =
     ap (λ (k : KeptRange). advance_steps more q p k.kept.needs) same
     ∙ (λ i. sum_by (λ (need : Need). 1 + 3 * length (changed_longer h more q p need.range prefix within order i)) s.kept.needs)
 
+-- what is counted where a kept range is brought forward over the longer list is counted over the list
+forward_here : (h more : History) (p : ℕ) (s : KeptRange) (before after : ℕ) → IsPrefix h more → p ≤ length h → CountsForward more p s before after → CountsForward h p s before after
+forward_here h more p s before after prefix within (inl asked) = inl asked
+forward_here h more p s before after prefix within (inr read) = inr (fill_over h more p s s before after (record { join = refl; rank = refl; range = refl }) within prefix read)
+
+-- so it is by whatever name what is kept goes
+pub forward_before : (h more : History) (p : ℕ) (s t : KeptRange) (before after : ℕ) → IsPrefix h more → p ≤ length h → t ≡ s → CountsForward more p t before after → CountsForward h p s before after
+forward_before h more p s t before after prefix within same counts =
+    forward_here h more p s before after prefix within (subst (λ (k : KeptRange). CountsForward more p k before after) same counts)
+
+-- and where it is brought to a position from wherever it stands
+pub reach_before : (h more : History) (p : ℕ) (s t : KeptRange) (before after : ℕ) → IsPrefix h more → p ≤ length h → t ≡ s → CountsReach more p t before after → CountsReach h p s before after
+reach_before h more p s t before after prefix within same counts =
+    let here : CountsReach more p s before after = subst (λ (k : KeptRange). CountsReach more p k before after) same counts in
+    record {
+      filled = λ none. fill_over h more p s s before after (record { join = refl; rank = refl; range = refl }) within prefix (here.filled none);
+      forward = λ q stands less. forward_here h more p s before after prefix within (here.forward q stands less);
+    }
+
 -- ---- mended and advanced
 
 -- what was mended over the longer list was so over the list
@@ -110,6 +130,7 @@ mended_before h more p part old new before after prefix within was =
         needs = subst (λ (es : History). AddsEach (needs_under_each old.join old.range (below es old.rank) (meeting old part)) old.kept.needs new.kept.needs) grown was.mends.needs;
         notes = was.mends.notes;
       };
+      least = subst (λ (es : History). before + mend_steps old (below es old.rank) part ≤ after) grown was.least;
       cost = λ bare.
           let there : AreBareUnder old more p part =
           subst (λ (es : History). AllByRecursion (λ (given : Slots). AreBare (joins_of es) (tree old.join given old.range (below es old.rank))) (meeting old part)) (sym grown) bare in
@@ -124,6 +145,7 @@ advanced_before h more q p part old new before after prefix within order was = r
   at = was.at;
   little = little_before h more q p old was.mid prefix within order was.little;
   between = was.between;
+  least = forward_here h more p old before was.between prefix within was.least;
   cost = subst (λ n. was.between ≤ before + n) (steps_before h more q p old old prefix within order refl) was.cost;
   alone = was.alone;
   mended = λ meets. mended_before h more p part was.mid new was.between after prefix within (was.mended meets);

@@ -5,6 +5,7 @@ use Rattle.semantics.specs.Texts.{Table, Range, pairs_within}
 use Rattle.semantics.specs.Histories.{History}
 use Rattle.semantics.specs.Outputs.{out}
 use Rattle.semantics.specs.States.{below}
+use Rattle.range_evaluation.specs.Trees.{reading_steps}
 use Rattle.lazy_log.specs.Pending.{meets_output}
 use Rattle.join_rows.specs.Kept.{AddsEach}
 use Rattle.kept_ranges.specs.Notes.{noted}
@@ -35,6 +36,19 @@ pub record IsCaughtUp (p : ℕ) (old new : KeptRange) : Type 0 where
 abbrev pub IsLeftOrStandsAt : ℕ → KeptRange → KeptRange → Type 0
 IsLeftOrStandsAt p old new = StandsOrIsForgotten old new ⊎ StandsAt p new
 
+-- filling a kept range at a position counts what it reads: one step at least for each of the ranges that are read, and one for each pair in it
+abbrev pub CountsFill : History → ℕ → KeptRange → ℕ → ℕ → Type 0
+CountsFill h p s before after = before + reading_steps (fill_needs s.join s.range (below (take p h) s.rank)) (below (take p h) s.rank) ≤ after
+
+-- bringing a kept range forward to a position counts what it asks: one step at least for each need, or what filling it there reads
+abbrev pub CountsForward : History → ℕ → KeptRange → ℕ → ℕ → Type 0
+CountsForward h p s before after = (before + length s.kept.needs ≤ after) ⊎ CountsFill h p s before after
+
+-- so does bringing it there from where it stands, and where nothing is kept, filling it
+pub record CountsReach (h : History) (p : ℕ) (s : KeptRange) (before after : ℕ) : Type 0 where
+  pub filled : s.position ≡ None → CountsFill h p s before after
+  pub forward : (q : ℕ) → StandsAt q s → q < p → CountsForward h p s before after
+
 -- what stood at p was mended there for a part: the slots that meet it are pending no more, the needs under them are added, each once, and each of them is noted
 pub record MendsPart (h : History) (p : ℕ) (part : Range) (old new : KeptRange) : Type 0 where
   pub same : HasSameSubject old new
@@ -43,18 +57,20 @@ pub record MendsPart (h : History) (p : ℕ) (part : Range) (old new : KeptRange
   pub needs : AddsEach (needs_under_each old.join old.range (below (take p h) old.rank) (meeting old part)) old.kept.needs new.kept.needs
   pub notes : new.notes ≡ noted old.notes (mend_notes p (meeting old part))
 
--- and it took so many steps at most, where what is read under these slots is bare
+-- and it took so many steps at least, and no more where what is read under these slots is bare
 pub record WasMended (h : History) (p : ℕ) (part : Range) (old new : KeptRange) (before after : ℕ) : Type 0 where
   pub mends : MendsPart h p part old new
+  pub least : before + mend_steps old (below (take p h) old.rank) part ≤ after
   pub cost : AreBareUnder old h p part → after ≤ before + mend_steps old (below (take p h) old.rank) part
 
--- a kept range that stood at q, below p, was advanced to p: that touched little, and took so many steps at most; it is left so where nothing pending meets a part, and otherwise was mended for it
+-- a kept range that stood at q, below p, was advanced to p: that touched little, counted what it asked, and took so many steps at most; it is left so where nothing pending meets a part, and otherwise was mended for it
 pub record WasAdvanced (h : History) (q p : ℕ) (part : Range) (old new : KeptRange) (before after : ℕ) : Type 0 where
   pub mid : KeptRange
   pub same : HasSameSubject old mid
   pub at : StandsAt p mid
   pub little : TouchesLittle h q p old mid
   pub between : ℕ
+  pub least : CountsForward h p old before between
   pub cost : between ≤ before + advance_steps h q p old.kept.needs
   pub alone : pending_meets mid part ≡ false → (new ≡ mid) × (after ≡ between)
   pub mended : pending_meets mid part ≡ true → WasMended h p part mid new between after

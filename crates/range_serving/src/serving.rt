@@ -11,8 +11,8 @@ ghost use Rattle.kept_ranges.specs.Sound.{IsSound};
 ghost use Rattle.range_state.specs.Held.{forgotten};
 ghost use Rattle.range_state.specs.Ready.{HasSameSubject, IsReady, StandsAt, StandsOrIsForgotten, pending_meets};
 ghost use Rattle.source_changes.specs.Asking.{AreBareThroughout};
-ghost use Rattle.range_state.specs.Work.{advance_steps, StaysWithin, TakesTooMany, TouchesLittle};
-ghost use Rattle.range_serving.specs.Serving.{HasTooMany, IsLeftOrStandsAt, IsPast, ServesUpTo, StandsFrom, WasAdvanced, WasMended, output_within};
+ghost use Rattle.range_state.specs.Work.{advance_steps, CountsAdvance, StaysWithin, TakesTooMany, TouchesLittle};
+ghost use Rattle.range_serving.specs.Serving.{CountsFill, CountsReach, HasTooMany, IsLeftOrStandsAt, IsPast, ServesUpTo, StandsFrom, WasAdvanced, WasMended, output_within};
 
 use join_eval::{KeepFault, NeedBound, Reader, TooMany};
 use join_rows::Rows;
@@ -59,7 +59,8 @@ pub fn renew(alloc: Global, state: &RangeState, rank: u8) -> Result<RangeState, 
 
 /// Brings it to where p entries stand: fills it where it is forgotten, and advances it where it stands below. Where it stands
 /// below and the ranges of its needs are bare from there on, what no changed key touches is left, and it takes no more steps than
-/// an advance: one for each need, and three for each changed key of its range.
+/// an advance: one for each need, and three for each changed key of its range. It takes one step at least for each need, or what
+/// filling it takes.
 ///
 /// On a fault it stands where it stood, or is forgotten, and is right for the reader's list. The reader may have gone on and
 /// steps may have been taken. `TooWide` comes only where it is filled and that takes more needs than the bound allows; then it is
@@ -95,6 +96,8 @@ pub fn reach<E: Copy, R: Reader, L: Ledger>(
     ensures sound { IsSound state.new (R.list reader.new) }
     ensures moves { Moves R.list R.floor R.went reader.old reader.new }
     ensures counted { steps.old ≤ steps.new }
+    ensures least { (q : ℕ) → StandsAt q state.old → q < p → OnOk result (CountsAdvance p (below (take p (R.list reader.old)) state.old.rank) state.old state.new steps.old steps.new) }
+    ensures least_filled { state.old.position ≡ None → OnOk result (CountsFill (R.list reader.old) p state.old steps.old steps.new) }
     ensures cost { (q : ℕ) → StandsAt q state.old → q < p → AreBareThroughout (R.list reader.old) q p state.old.kept.needs →
         OnOk result (steps.new ≤ steps.old + advance_steps (R.list reader.old) q p state.old.kept.needs) }
 {
@@ -145,6 +148,7 @@ fn make_ready<E: Copy, R: Reader, G: Gate, L: Ledger>(
     ensures sound { IsSound state.new (R.list reader.new) }
     ensures moves { Moves R.list R.floor R.went reader.old reader.new }
     ensures counted { steps.old ≤ steps.new }
+    ensures least { OnOk result (CountsReach (R.list reader.old) p state.old steps.old steps.new) }
 {
     if state.position().is_none() {
         gate.pass(range.table());
@@ -162,9 +166,10 @@ fn make_ready<E: Copy, R: Reader, G: Gate, L: Ledger>(
 /// pending meets the piece it is mended there. Then it is read. The gate is passed before a fill and before a mend.
 ///
 /// Where it is ready, that is, at p with nothing pending that meets the piece, it takes one step and one for each pair, and
-/// neither it nor the reader changes. Otherwise it takes these and those of the calls that make it ready. Where it stands at p and
-/// something pending meets the piece, these are those of a mend, and where it stands below p and the ranges of its needs are bare
-/// from there on, those of an advance and of a mend, if then something pending meets the piece; it is not filled again.
+/// neither it nor the reader changes. Otherwise it takes these and those of the calls that make it ready: of a fill, or, where it
+/// stands below p, one for each need at least. Where it stands at p and something pending meets the piece, these are those of a
+/// mend, and where it stands below p and the ranges of its needs are bare from there on, those of an advance and of a mend, if then
+/// something pending meets the piece; it is not filled again.
 ///
 /// On a fault it stands where it stood, or at p, or is forgotten, and is right for the reader's list. The reader may have gone on
 /// and steps may have been taken. `TooWide` comes only where it is filled and that takes more needs than the bound allows, or where
@@ -201,6 +206,7 @@ pub fn serve<E: Copy, R: Reader, G: Gate, L: Ledger>(
     ensures moves { Moves R.list R.floor R.went reader.old reader.new }
     ensures counted { steps.old ≤ steps.new }
     ensures cost { IfOk result (λ pairs. steps.old + 1 + length pairs.items ≤ steps.new) }
+    ensures least { IfOk result (λ pairs. CountsReach (R.list reader.old) p state.old (steps.old + 1 + length pairs.items) steps.new) }
     ensures at_once { IsReady p range.now state.old → IfOk result (λ pairs. steps.new ≡ steps.old + 1 + length pairs.items) }
     ensures behind { (q : ℕ) → StandsAt q state.old → q < p → AreBareThroughout (R.list reader.old) q p state.old.kept.needs →
         IfOk result (λ pairs. WasAdvanced (R.list reader.old) q p range.now state.old state.new (steps.old + 1 + length pairs.items) steps.new) }
@@ -256,6 +262,7 @@ fn fill_and_read<R: Reader, G: Gate, L: Ledger>(
     ensures moves { Moves R.list R.floor R.went reader.old reader.new }
     ensures counted { steps.old ≤ steps.new }
     ensures cost { IfOk result (λ pairs. steps.old + 1 + length pairs.items ≤ steps.new) }
+    ensures least { IfOk result (λ pairs. CountsFill (R.list reader.old) p state.old (steps.old + 1 + length pairs.items) steps.new) }
 {
     gate.pass(range.table());
     let left = state.fill_up_to(p, most, reader, steps)?;
@@ -295,6 +302,7 @@ fn serve_kept<R: Reader, G: Gate, L: Ledger>(
     ensures moves { Moves R.list R.floor R.went reader.old reader.new }
     ensures counted { steps.old ≤ steps.new }
     ensures cost { IfOk result (λ pairs. steps.old + 1 + length pairs.items ≤ steps.new) }
+    ensures least { IfOk result (λ pairs. CountsReach (R.list reader.old) p state.old (steps.old + 1 + length pairs.items) steps.new) }
     ensures at_once { IsReady p range.now state.old → IfOk result (λ pairs. steps.new ≡ steps.old + 1 + length pairs.items) }
     ensures behind { (q : ℕ) → StandsAt q state.old → q < p → AreBareThroughout (R.list reader.old) q p state.old.kept.needs →
         IfOk result (λ pairs. WasAdvanced (R.list reader.old) q p range.now state.old state.new (steps.old + 1 + length pairs.items) steps.new ⊎ HasTooMany (Some most) (R.list reader.old) p range.now state.old) }
@@ -349,6 +357,7 @@ pub fn serve_up_to<R: Reader, G: Gate, L: Ledger>(
     ensures moves { Moves R.list R.floor R.went reader.old reader.new }
     ensures counted { steps.old ≤ steps.new }
     ensures cost { IfOk result (λ pairs. steps.old + 1 + length pairs.items ≤ steps.new) }
+    ensures least { IfOk result (λ pairs. CountsReach (R.list reader.old) p state.old (steps.old + 1 + length pairs.items) steps.new) }
     ensures at_once { IsReady p range.now state.old → IfOk result (λ pairs. steps.new ≡ steps.old + 1 + length pairs.items) }
     ensures behind { (q : ℕ) → StandsAt q state.old → q < p → AreBareThroughout (R.list reader.old) q p state.old.kept.needs →
         IfOk result (λ pairs. WasAdvanced (R.list reader.old) q p range.now state.old state.new (steps.old + 1 + length pairs.items) steps.new ⊎ HasTooMany (Some most) (R.list reader.old) p range.now state.old) }
@@ -384,6 +393,7 @@ pub fn serve_alone<R: Reader, G: Gate, L: Ledger>(
     ensures moves { Moves R.list R.floor R.went reader.old reader.new }
     ensures counted { steps.old ≤ steps.new }
     ensures cost { IfOk result (λ pairs. steps.old + 1 + length pairs.items ≤ steps.new) }
+    ensures least { IfOk result (λ pairs. CountsFill (R.list reader.old) p (forgotten join rank range) (steps.old + 1 + length pairs.items) steps.new) }
 {
     let piece = range.copy()?;
     let mut state = RangeState::new(alloc, join, rank, range);

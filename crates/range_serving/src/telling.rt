@@ -1,6 +1,7 @@
 // What changed in the output of a kept range.
 ghost use Rattle.std.specs.Prelude.{◌≡◌, ℕ, ◌+◌, ◌<◌, ◌≤◌, length, take, IfErr, IfOk, OnOk, OnErr, None};
 ghost use Rattle.semantics.specs.Histories.{joins_of};
+ghost use Rattle.semantics.specs.States.{below};
 ghost use Rattle.growing_history.specs.Entered.{HasEntered, HasRank};
 ghost use Rattle.join_eval.specs.Bounds.{OnTooWide, most_of};
 ghost use Rattle.join_eval.specs.Moves.{Moves};
@@ -8,8 +9,8 @@ ghost use Rattle.kept_ranges.specs.Sound.{IsSound};
 ghost use Rattle.range_state.specs.Ready.{HasSameSubject, StandsAt, StandsOrIsForgotten};
 ghost use Rattle.range_state.specs.Since.{AnswersSince, told_count};
 ghost use Rattle.source_changes.specs.Asking.{AreBareThroughout};
-ghost use Rattle.range_state.specs.Work.{advance_steps, StaysWithin, TakesTooMany, TouchesLittle};
-ghost use Rattle.range_serving.specs.Serving.{IsCaughtUp, IsLeftOrStandsAt, StandsFrom};
+ghost use Rattle.range_state.specs.Work.{advance_steps, CountsAdvance, StaysWithin, TakesTooMany, TouchesLittle};
+ghost use Rattle.range_serving.specs.Serving.{CountsForward, IsCaughtUp, IsLeftOrStandsAt, StandsFrom};
 ghost use Rattle.range_serving.specs.Telling.{TellsOutput};
 
 use join_eval::{Changed, KeepFault, NeedBound, Reader};
@@ -21,7 +22,8 @@ use steps::Steps;
 
 /// Advances it to where p entries stand, where it stands below. Otherwise nothing changes, and no step is taken. Where it stands
 /// below and the ranges of its needs are bare from there on, what no changed key touches is left, and it takes no more steps than
-/// an advance: one for each need, and three for each changed key of its range.
+/// an advance: one for each need, and three for each changed key of its range. It takes one step at least for each need, or what
+/// filling it takes.
 ///
 /// On a fault it stands where it stood, or is forgotten, and is right for the reader's list. The reader may have gone on and steps
 /// may have been taken. `TooWide` comes only where it is filled instead and that takes more needs than the bound allows; then it is
@@ -55,6 +57,7 @@ pub fn catch_up<E: Copy, R: Reader, L: Ledger>(
     ensures sound { IsSound state.new (R.list reader.new) }
     ensures moves { Moves R.list R.floor R.went reader.old reader.new }
     ensures counted { steps.old ≤ steps.new }
+    ensures least { (at : ℕ) → StandsAt at state.old → at < p → OnOk result (CountsAdvance p (below (take p (R.list reader.old)) state.old.rank) state.old state.new steps.old steps.new) }
     ensures cost { (at : ℕ) → StandsAt at state.old → at < p → AreBareThroughout (R.list reader.old) at p state.old.kept.needs →
         OnOk result (steps.new ≤ steps.old + advance_steps (R.list reader.old) at p state.old.kept.needs) }
 {
@@ -114,6 +117,7 @@ pub fn changes_since<E: Copy, R: Reader, L: Ledger>(
     ensures sound { IsSound state.new (R.list reader.new) }
     ensures moves { Moves R.list R.floor R.went reader.old reader.new }
     ensures counted { steps.old ≤ steps.new }
+    ensures least { (at : ℕ) → StandsAt at state.old → at < p → IfOk result (λ answer. CountsForward (R.list reader.old) p state.old (steps.old + 1 + told_count answer) steps.new) }
     ensures cost { (at : ℕ) → StandsAt at state.old → at < p → AreBareThroughout (R.list reader.old) at p state.old.kept.needs →
         IfOk result (λ answer. steps.new ≤ steps.old + advance_steps (R.list reader.old) at p state.old.kept.needs + 1 + told_count answer) }
 {

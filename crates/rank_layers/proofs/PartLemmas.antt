@@ -1,5 +1,5 @@
 -- One part of a range that is read from a cell.
-use Rattle.std.proofs.Common.{◌≡◌, ℕ, ◌+◌, ◌-◌, ◌<◌, List, [], length, take, slice_get, Some, None, Result, Ok, Err, IfOk, OnOk, sym, ap, ◌∙◌, subst, arith}
+use Rattle.std.proofs.Common.{◌≡◌, ℕ, ◌+◌, ◌-◌, ◌<◌, ◌≤◌, List, [], length, take, slice_get, Some, None, Result, Ok, Err, IfOk, OnOk, sym, ap, ◌∙◌, subst, arith}
 use Rattle.std.specs.Option.{IsSomeAnd}
 use Rattle.semantics.specs.Texts.{Table, Range, pairs_within}
 use Rattle.semantics.specs.Joins.{Join}
@@ -16,6 +16,7 @@ use Rattle.range_state.specs.Held.{forgotten}
 use Rattle.range_state.specs.Ready.{HasSameSubject, IsReady, StandsAt}
 use Rattle.range_serving.specs.Serving.{IsPast, WasAdvanced, WasMended, output_within}
 use Rattle.range_serving.proofs.AdvancedLemmas.{mended_counted}
+use Rattle.range_serving.proofs.CountingLemmas.{forward_counted, forward_order}
 use Rattle.cell_slots.specs.declared.slot.Part.{Part}
 use Rattle.cell_slots.specs.declared.slot.Slot.{Slot}
 use Rattle.cell_slots.specs.declared.slot.Slot.TheVariants.{Lent, Held}
@@ -156,27 +157,30 @@ holds_mended rows h more mid after id n at p part s lent t old new same number o
 
 -- steps that are counted from 0 on
 added_steps : (h : History) (slots : List Slot) (id at q p : ℕ) (part : Range) (s : KeptRange) (old new rows : ℕ) → HoldsAdvanced h slots id at q p part s (old + 1 + rows) new → HoldsAdvanced h slots id at q p part s (1 + rows) (new - old)
-added_steps h slots id at q p part s old new rows is = record {
-  state = is.state;
-  held = is.held;
-  was = record {
-    mid = is.was.mid;
-    same = is.was.same;
-    at = is.was.at;
-    little = is.was.little;
-    between = is.was.between - old;
-    cost = let few = is.was.cost in omega (arith, few);
-    alone = λ clear. let so = is.was.alone clear in (so.0, ap (λ n. n - old) so.1);
-    mended = λ meets. mended_counted h p part is.was.mid is.state is.was.between new (is.was.between - old) (new - old) (λ steps up. omega (arith, up)) (is.was.mended meets);
-  };
-}
+added_steps h slots id at q p part s old new rows is =
+    let begun : old + 1 + rows ≤ is.was.between = forward_order h p s (old + 1 + rows) is.was.between is.was.least in
+    record {
+      state = is.state;
+      held = is.held;
+      was = record {
+        mid = is.was.mid;
+        same = is.was.same;
+        at = is.was.at;
+        little = is.was.little;
+        between = is.was.between - old;
+        least = forward_counted h p s (old + 1 + rows) is.was.between (1 + rows) (is.was.between - old) (λ steps low. omega (arith, low)) is.was.least;
+        cost = let few = is.was.cost in omega (arith, few);
+        alone = λ clear. let so = is.was.alone clear in (so.0, ap (λ n. n - old) so.1);
+        mended = λ meets. mended_counted h p part is.was.mid is.state is.was.between new (is.was.between - old) (new - old) (λ steps low. omega (arith, low, begun)) (λ steps up. omega (arith, up)) (is.was.mended meets);
+      };
+    }
 
 -- so of a mend
 mended_steps : (h : History) (slots : List Slot) (id at p : ℕ) (part : Range) (s : KeptRange) (old new rows : ℕ) → HoldsMended h slots id at p part s (old + 1 + rows) new → HoldsMended h slots id at p part s (1 + rows) (new - old)
 mended_steps h slots id at p part s old new rows is = record {
   state = is.state;
   held = is.held;
-  was = mended_counted h p part s is.state (old + 1 + rows) new (1 + rows) (new - old) (λ steps up. omega (arith, up)) is.was;
+  was = mended_counted h p part s is.state (old + 1 + rows) new (1 + rows) (new - old) (λ steps low. omega (arith, low)) (λ steps up. omega (arith, up)) is.was;
 }
 
 -- a part that is read as it may be

@@ -21,8 +21,9 @@ use Rattle.kept_ranges.proofs.SoundLemmas.{sound_over_longer}
 use Rattle.range_state.specs.Held.{forgotten}
 use Rattle.range_state.specs.Ready.{HasSameSubject, IsReady, StandsAt}
 use Rattle.range_state.specs.Work.{TakesTooMany}
-use Rattle.range_serving.specs.Serving.{IsLeftOrStandsAt, IsPast, IsTooWide, StandsFrom, output_within}
+use Rattle.range_serving.specs.Serving.{CountsFill, CountsReach, IsLeftOrStandsAt, IsPast, IsTooWide, StandsFrom, output_within}
 use Rattle.range_serving.specs.Telling.{TellsOutput}
+use Rattle.range_serving.proofs.CountingLemmas.{fill_over}
 use Rattle.range_serving.proofs.LongerLemmas.{bare_all}
 use Rattle.range_serving.proofs.UpToLemmas.{gone_is_wide, wide_over}
 use Rattle.cell_slots.specs.Slots.{IsDeclared, IsOutput, IsRightFor, StandsAs, IsRankIn, IsRankAt}
@@ -223,6 +224,19 @@ nowhere_from floor s is = subst (λ (o : Option ℕ). IfSome o (λ q. floor ≤ 
 -- what a cell keeps is taken out of it, where it does not stand below a floor
 pub taken_from : (floor : ℕ) (held taken : Option KeptRange) (s : KeptRange) → held ≡ Some s → StandsFrom floor s → (IfSome held (StandsFrom floor) → taken ≡ held) → taken ≡ Some s
 taken_from floor held taken s holds from takes = takes (subst (λ (o : Option KeptRange). IfSome o (StandsFrom floor)) (sym holds) from) ∙ holds
+
+-- what is taken out of a cell keeps nothing, where nothing was kept in it from a floor on
+taken_empty : (floor : ℕ) (held : Option KeptRange) (s : KeptRange) → IfSome held (λ k. StandsFrom floor k → ⊥) → IsHeldOrEmpty held s → StandsFrom floor s → s.position ≡ None
+taken_empty floor held s away (inl is) from = absurd (subst (λ (o : Option KeptRange). IfSome o (λ k. StandsFrom floor k → ⊥)) is away from)
+taken_empty floor held s away (inr empty) from = empty.0
+
+-- what filling it counts, filling the cell's range counts for the join that is asked for
+pub fill_of_lent : (cell : CellView) (h more : History) (at rank p floor before after : ℕ) (part whole : Range) (held : Option KeptRange) (s : KeptRange) (j : Join) → p ≤ length h → IsPrefix h more → cell.pass.view ≡ more → IsLentFor cell at rank p part s
+    → StandsAs h p at rank j → cell.range ≡ whole → IfSome held (λ k. StandsFrom floor k → ⊥) → IsHeldOrEmpty held s → StandsFrom floor s → CountsReach more p s before after → CountsFill h p (forgotten j rank whole) before after
+fill_of_lent cell h more at rank p floor before after part whole held s j within prefix met lent stands same away whose from counts =
+    let subject : HasSameSubject (forgotten j rank whole) s =
+    record { join = same_join cell h more at rank p part s j prefix met lent stands; rank = ranked_of_lent cell at rank p part s lent; range = lent.right.just ∙ same } in
+    fill_over h more p (forgotten j rank whole) s before after subject within prefix (counts.filled (taken_empty floor held s away whose from))
 
 -- ---- what is given back
 

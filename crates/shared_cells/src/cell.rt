@@ -1,15 +1,16 @@
 // What lies behind the lock of a cell.
-ghost use Rattle.std.specs.Prelude.{◌≡◌, ℕ, ◌+◌, ◌≤◌, ◌⊎◌, [], length, take, false, true, IfErr, IfOk, IfSome, MatchOption, OnErr, OnOk, Some, None};
+ghost use Rattle.std.specs.Prelude.{◌≡◌, ℕ, ◌+◌, ◌<◌, ◌≤◌, ◌⊎◌, [], length, take, false, true, IfErr, IfOk, IfSome, MatchOption, OnErr, OnOk, Some, None};
 ghost use Rattle.std.specs.Option.{IsSomeAnd};
 ghost use Rattle.semantics.specs.Joins.{Join as PlainJoin};
 ghost use Rattle.growing_history.specs.Entered.{HasEntered};
 ghost use Rattle.join_eval.specs.Bounds.{OnTooWide};
 ghost use Rattle.join_eval.specs.Moves.{Moves};
 ghost use Rattle.kept_ranges.specs.Sound.{KeptRange};
+ghost use Rattle.range_state.specs.Held.{forgotten};
 ghost use Rattle.range_state.specs.Ready.{StandsAt, pending_meets};
 ghost use Rattle.range_state.specs.Since.{AnswersSince, told_count};
 ghost use Rattle.range_state.specs.Work.{advance_steps, TouchesLittle};
-ghost use Rattle.range_serving.specs.Serving.{HasTooMany, IsCaughtUp, IsPast, StandsFrom, WasAdvanced, WasMended};
+ghost use Rattle.range_serving.specs.Serving.{CountsFill, CountsForward, CountsReach, HasTooMany, IsCaughtUp, IsPast, StandsFrom, WasAdvanced, WasMended};
 ghost use Rattle.cell_slots.specs.Slots.{IsOutput, IsRankAt, IsRightFor, StandsAs};
 ghost use Rattle.rank_layers.specs.Telling.{TellsJoin};
 ghost use Rattle.shared_cells.specs.Advancing.{AdvancesCell, CanAdvance, StandsBare};
@@ -293,8 +294,9 @@ impl<N: Naming> Cell<N> {
     /// step and one for each pair, and what it keeps stays as it is; where it gave pairs, it can be so read afterwards, or its range
     /// takes too many needs. Where what it keeps stands from the floor on, below p with bare ranges, or at p with something pending
     /// that meets the part, it is not filled again unless it would have more than `most` needs, and takes these steps and no more
-    /// than those of an advance and a mend. Where it cannot serve, it takes no step, so that the reader reads nothing below a rank
-    /// that is not the cell's.
+    /// than those of an advance and a mend. What it fills and what it advances it counts: where it serves, it takes beside one step
+    /// and one for each pair what filling takes, or, where what it keeps stands below p, from the floor on, one for each of its
+    /// needs at least. Where it cannot serve, it takes no step, so that the reader reads nothing below a rank that is not the cell's.
     ///
     /// On `OutOfMemory` what is kept is as it was, or stands at p, or nothing is kept.
     pub fn serve<R: Stacked<N>, G: Gate, L: Ledger>(
@@ -325,6 +327,10 @@ impl<N: Naming> Cell<N> {
         ensures moves { Moves R.list R.floor R.went reader.old reader.new }
         ensures counted { steps.old ≤ steps.new }
         ensures cost { IfOk result (λ found. IfSome found (λ pairs. steps.old + 1 + length pairs.items ≤ steps.new)) }
+        ensures least { (s : KeptRange) → CanBeLent self.old query.at query.rank query.p (R.floor reader.old) part.now s →
+            IfOk result (λ found. IfSome found (λ pairs. CountsReach (R.list reader.old) query.p s (steps.old + 1 + length pairs.items) steps.new)) }
+        ensures least_filled { (j : PlainJoin) → StandsAs (R.list reader.old) query.p query.at query.rank j → IfSome self.old.held (λ s. StandsFrom (R.floor reader.old) s → ⊥) →
+            IfOk result (λ found. IfSome found (λ pairs. CountsFill (R.list reader.old) query.p (forgotten j query.rank self.old.range) (steps.old + 1 + length pairs.items) steps.new)) }
         ensures at_once { IsReadyCell self.old query.at query.rank query.p part.now → IfOk result (λ found. IsSomeAnd found (λ pairs. steps.new ≡ steps.old + 1 + length pairs.items)) }
         ensures behind { (s : KeptRange) (q : ℕ) → CanBeLent self.old query.at query.rank query.p (R.floor reader.old) part.now s → StandsBare (R.list reader.old) q query.p s →
             IfOk result (λ found. IfSome found (λ pairs. IsSomeAnd self.new.held (λ after. WasAdvanced (R.list reader.old) q query.p part.now s after (steps.old + 1 + length pairs.items) steps.new)
@@ -350,7 +356,8 @@ impl<N: Naming> Cell<N> {
     ///
     /// The cell's pass and the reader see what either has seen. Where what is kept stands from the floor on, below the later
     /// position with bare ranges, what no changed key touches is left, and it takes no more steps than an advance, one step more
-    /// and one for each key that it lists.
+    /// and one for each key that it lists. Where it stands below, from the floor on, it takes beside these one step at least for each
+    /// need, or what filling takes.
     ///
     /// On a fault what is kept is as it was, or stands at the later position, or nothing is kept. `TooWide` comes only where the
     /// cell's range is filled instead of advanced and that takes more than `most` needs; then nothing is kept. Where it kept no more
@@ -387,6 +394,8 @@ impl<N: Naming> Cell<N> {
         ensures met { self.new.pass.view ≡ R.list reader.new }
         ensures moves { Moves R.list R.floor R.went reader.old reader.new }
         ensures counted { steps.old ≤ steps.new }
+        ensures least { (s : KeptRange) (q : ℕ) → CanBeLent self.old query.at query.rank query.p (R.floor reader.old) part.now s → StandsAt q s → q < query.p →
+            IfOk result (λ told. CountsForward (R.list reader.old) query.p s (steps.old + 1 + told_count told) steps.new) }
         ensures cost { (s : KeptRange) (q : ℕ) → CanBeLent self.old query.at query.rank query.p (R.floor reader.old) part.now s → StandsBare (R.list reader.old) q query.p s →
             IfOk result (λ told. steps.new ≤ steps.old + advance_steps (R.list reader.old) q query.p s.kept.needs + 1 + told_count told) }
     {
@@ -405,7 +414,8 @@ impl<N: Naming> Cell<N> {
     /// cell's whole range is filled; the gate is passed before. The rank is the one that the join has after p entries, and none
     /// where it does not stand then; where it is not the cell's, what is kept stays as it is and no step is taken, so that nothing
     /// changes but what the cell's pass has seen. It and the reader see what either has seen. Where what is kept stands from the
-    /// floor on, below p with bare ranges, what no changed key touches is left, and it takes no more steps than an advance.
+    /// floor on, below p with bare ranges, what no changed key touches is left, and it takes no more steps than an advance. Where it
+    /// stands below p, it takes one step at least for each need, or what filling takes.
     ///
     /// On a fault what is kept is as it was, or it is forgotten. `TooWide` comes only where the cell's range is filled, because
     /// what is kept stands below the floor or the reader does not know what changed, and that takes more than `most` needs; then it
@@ -433,6 +443,7 @@ impl<N: Naming> Cell<N> {
         ensures met { self.new.pass.view ≡ R.list reader.new }
         ensures moves { Moves R.list R.floor R.went reader.old reader.new }
         ensures counted { steps.old ≤ steps.new }
+        ensures least { (s : KeptRange) (q : ℕ) → rank ≡ Some self.old.rank → self.old.held ≡ Some s → StandsAt q s → q < p → OnOk result (CountsForward (R.list reader.old) p s steps.old steps.new) }
         ensures cost { (s : KeptRange) (q : ℕ) → CanAdvance (R.list reader.old) (R.floor reader.old) q p rank self.old s → OnOk result (steps.new ≤ steps.old + advance_steps (R.list reader.old) q p s.kept.needs) }
     {
         self.meet(reader);

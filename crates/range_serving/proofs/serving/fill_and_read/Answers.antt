@@ -1,9 +1,10 @@
-use Rattle.std.proofs.Common.{◌≡◌, ℕ, ◌≤◌, length, take, Option, IsSome, Some, refl, sym, ap, subst, inl, inr, arith}
+use Rattle.std.proofs.Common.{◌≡◌, ℕ, ◌+◌, ◌≤◌, length, take, Option, IsSome, Some, refl, sym, ap, subst, inl, inr, arith}
 use Rattle.std.proofs.lemmas.Result.{IfOk-weaker}
 use Rattle.semantics.specs.States.{below}
 use Rattle.kept_ranges.specs.Kept.{Kept}
 use Rattle.range_state.proofs.HeldLemmas.{afresh_few}
 use Rattle.range_serving.proofs.AdvancedLemmas.{on_err_always, on_ok_always}
+use Rattle.range_serving.proofs.CountingLemmas.{fill_counted}
 use Rattle.range_serving.proofs.UpToLemmas.{afresh_ready, afresh_serves, fills_none, fills_some, left_serves}
 use Rattle.range_serving.proofs.serving.fill_and_read.Goals as goal
 
@@ -37,6 +38,12 @@ pub returns-in-None-clause-cost : goal.returns-in-None-clause-cost
 returns-in-None-clause-cost g c =
     IfOk-weaker c.read.result _ _ (λ pairs is. omega (arith, is, c.in_ok-left.ensures.counted)) c.read.ensures.cost
 
+pub returns-in-None-clause-least : goal.returns-in-None-clause-least
+returns-in-None-clause-least g c =
+    IfOk-weaker c.read.result _ _ (λ pairs is.
+    fill_counted (g.R.Reader.list c.args.reader.now) c.args.p c.args.state.now c.args.steps.now c.fill_up_to.new.steps (c.args.steps.now + 1 + length pairs.items) c.read.new.steps
+    (λ steps low. omega (arith, low, is)) c.in_ok-left.ensures.least) c.read.ensures.cost
+
 pub returns-in-None-clause-few : goal.returns-in-None-clause-few
 returns-in-None-clause-few g c =
     let table = below (take c.args.p (g.R.Reader.list c.args.reader.now)) c.args.state.now.rank in
@@ -67,6 +74,12 @@ returns-in-Some-clause-given g c =
 pub returns-in-Some-clause-cost : goal.returns-in-Some-clause-cost
 returns-in-Some-clause-cost g c =
     IfOk-weaker c.read_rows.result _ _ (λ pairs is. omega (arith, is, c.in_ok-left.ensures.counted)) c.read_rows.ensures.cost
+
+pub returns-in-Some-clause-least : goal.returns-in-Some-clause-least
+returns-in-Some-clause-least g c =
+    IfOk-weaker c.read_rows.result _ _ (λ pairs is.
+    fill_counted (g.R.Reader.list c.args.reader.now) c.args.p c.args.state.now c.args.steps.now c.fill_up_to.new.steps (c.args.steps.now + 1 + length pairs.items) c.read_rows.new.steps
+    (λ steps low. omega (arith, low, is)) c.in_ok-left.ensures.least) c.read_rows.ensures.cost
 
 pub returns-in-Some-clause-few : goal.returns-in-Some-clause-few
 returns-in-Some-clause-few g c =

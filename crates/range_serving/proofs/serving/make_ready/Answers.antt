@@ -1,4 +1,4 @@
-use Rattle.std.proofs.Common.{◌≡◌, take, sym, ap, ◌∙◌, subst, inl, inr}
+use Rattle.std.proofs.Common.{◌≡◌, take, sym, ap, ◌∙◌, subst, inl, inr, arith}
 use Rattle.std.proofs.lemmas.Bool.{true≢false}
 use Rattle.std.proofs.lemmas.Result.{IfErr-weaker, err_from_is_err_and, on_err_weaker, on_ok_weaker}
 use Rattle.semantics.specs.Histories.{History}
@@ -10,7 +10,8 @@ use Rattle.join_eval.proofs.MovesLemmas.{moves_trans}
 use Rattle.kept_ranges.specs.Sound.{KeptRange}
 use Rattle.range_state.specs.Ready.{pending_meets}
 use Rattle.range_state.specs.Work.{MendsTooMany}
-use Rattle.range_serving.proofs.AdvancedLemmas.{advanced_alone, advanced_and_mended, left_there, mended_over, mended_still, on_err_always}
+use Rattle.range_serving.proofs.AdvancedLemmas.{advanced_alone, advanced_and_mended, left_there, mended_over, mended_still, on_err_always, on_ok_always}
+use Rattle.range_serving.proofs.CountingLemmas.{advance_counts, reach_counted, reach_counts}
 use Rattle.range_serving.proofs.UpToLemmas.{fills_wide}
 use Rattle.range_serving.proofs.serving.make_ready.Goals as goal
 
@@ -24,9 +25,10 @@ returns-then-pending_meets-clause-behind g c = λ q stands less bare.
     let mid = c.in_ok-reach.ensures in
     let list = g.R.Reader.list in
     advanced_and_mended c.mend.result (list c.args.reader.now) q c.args.p c.args.range.now c.args.state.now c.reach.new.state c.mend.new.self c.args.steps.now c.reach.new.steps c.mend.new.steps
-    mid.same mid.at (sym c.pending_meets.ensures ∙ c.if-pending_meets.true) (mid.little q stands less bare) (mid.cost q stands less bare)
+    mid.same mid.at (sym c.pending_meets.ensures ∙ c.if-pending_meets.true) (mid.little q stands less bare)
+    (advance_counts (list c.args.reader.now) c.args.p c.args.state.now c.reach.new.state c.args.steps.now c.reach.new.steps (mid.least q stands less)) (mid.cost q stands less bare)
     (mended_over c.mend.result (list c.args.reader.now) (list c.reach.new.reader) c.args.p c.args.range.now c.reach.new.state c.mend.new.self c.reach.new.steps c.mend.new.steps
-    mid.moves.kept c.requires.within mid.at c.mend.ensures.same c.mend.ensures.at c.mend.ensures.left c.mend.ensures.needs c.mend.ensures.notes c.mend.ensures.cost)
+    mid.moves.kept c.requires.within mid.at c.mend.ensures.same c.mend.ensures.at c.mend.ensures.left c.mend.ensures.needs c.mend.ensures.notes c.mend.ensures.least c.mend.ensures.cost)
 
 pub returns-then-pending_meets-clause-pending : goal.returns-then-pending_meets-clause-pending
 returns-then-pending_meets-clause-pending g c = λ stands meets.
@@ -35,13 +37,14 @@ returns-then-pending_meets-clause-pending g c = λ stands meets.
     mended_still c.mend.result (list c.args.reader.now) c.args.p c.args.range.now c.args.state.now c.reach.new.state c.mend.new.self c.args.steps.now c.reach.new.steps c.mend.new.steps
     (mid.still stands) (mid.free stands)
     (mended_over c.mend.result (list c.args.reader.now) (list c.reach.new.reader) c.args.p c.args.range.now c.reach.new.state c.mend.new.self c.reach.new.steps c.mend.new.steps
-    mid.moves.kept c.requires.within mid.at c.mend.ensures.same c.mend.ensures.at c.mend.ensures.left c.mend.ensures.needs c.mend.ensures.notes c.mend.ensures.cost)
+    mid.moves.kept c.requires.within mid.at c.mend.ensures.same c.mend.ensures.at c.mend.ensures.left c.mend.ensures.needs c.mend.ensures.notes c.mend.ensures.least c.mend.ensures.cost)
 
 pub returns-clause-behind : goal.returns-clause-behind
 returns-clause-behind g c = λ q stands less bare.
     let mid = c.in_ok-reach.ensures in
     advanced_alone (g.R.Reader.list c.args.reader.now) q c.args.p c.args.range.now c.args.state.now c.reach.new.state c.args.steps.now c.reach.new.steps
-    mid.same mid.at (sym c.pending_meets.ensures ∙ c.if-pending_meets.false) (mid.little q stands less bare) (mid.cost q stands less bare)
+    mid.same mid.at (sym c.pending_meets.ensures ∙ c.if-pending_meets.false) (mid.little q stands less bare)
+    (advance_counts (g.R.Reader.list c.args.reader.now) c.args.p c.args.state.now c.reach.new.state c.args.steps.now c.reach.new.steps (mid.least q stands less)) (mid.cost q stands less bare)
 
 pub returns-clause-pending : goal.returns-clause-pending
 returns-clause-pending g c = λ stands meets.
@@ -87,3 +90,18 @@ returns-then-pending_meets-clause-wide g c =
       meets = sym c.pending_meets.ensures ∙ c.if-pending_meets.true;
       many = subst (λ (es : History). MendsTooMany most (below es mid.rank) c.args.range.now mid) (take_prefix c.args.p h here c.requires.within reached.moves.kept) many;
     })) is) (c.mend.ensures.wide c.args.p reached.at)
+
+-- ---- what is counted
+
+pub returns-then-pending_meets-clause-least : goal.returns-then-pending_meets-clause-least
+returns-then-pending_meets-clause-least g c =
+    let mid = c.in_ok-reach.ensures in
+    let h = g.R.Reader.list c.args.reader.now in
+    on_ok_always c.mend.result
+    (reach_counted h c.args.p c.args.state.now c.args.steps.now c.reach.new.steps c.args.steps.now c.mend.new.steps (λ steps low. omega (arith, low, c.mend.ensures.counted))
+    (reach_counts h c.args.p c.args.state.now c.reach.new.state c.args.steps.now c.reach.new.steps mid.least_filled mid.least))
+
+pub returns-clause-least : goal.returns-clause-least
+returns-clause-least g c =
+    let mid = c.in_ok-reach.ensures in
+    reach_counts (g.R.Reader.list c.args.reader.now) c.args.p c.args.state.now c.reach.new.state c.args.steps.now c.reach.new.steps mid.least_filled mid.least

@@ -1,6 +1,7 @@
 use Rattle.std.proofs.Common.{ℕ, ◌+◌, length, inr, ap, ◌∙◌, arith}
 use Rattle.std.proofs.lemmas.Result.{err_from_is_err_and}
 use Rattle.range_serving.proofs.AdvancedLemmas.{advanced_and_read, mended_and_read, on_err_always}
+use Rattle.range_serving.proofs.CountingLemmas.{reach_counted}
 use Rattle.range_serving.proofs.ServingLemmas.{same_output}
 use Rattle.range_serving.proofs.serving.serve.Goals as goal
 
@@ -23,6 +24,11 @@ returns-clause-output g c =
 
 pub returns-clause-cost : goal.returns-clause-cost
 returns-clause-cost g c = omega (arith, c.in_ok-pairs.ensures.cost, c.in_ok-make_ready.ensures.counted)
+
+pub returns-clause-least : goal.returns-clause-least
+returns-clause-least g c =
+    reach_counted (g.R.Reader.list c.args.reader.now) c.args.p c.args.state.now c.args.steps.now c.make_ready.new.steps (c.args.steps.now + 1 + length c.in_ok-pairs.pairs.items) c.read.new.steps
+    (λ steps low. omega (arith, low, c.in_ok-pairs.ensures.cost)) c.in_ok-make_ready.ensures.least
 
 pub returns-clause-at_once : goal.returns-clause-at_once
 returns-clause-at_once g c = λ ready. c.in_ok-pairs.ensures.cost ∙ ap (λ (n : ℕ). n + 1 + length c.in_ok-pairs.pairs.items) (c.in_ok-make_ready.ensures.free ready)

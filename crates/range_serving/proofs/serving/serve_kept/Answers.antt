@@ -1,4 +1,4 @@
-use Rattle.std.proofs.Common.{◌≡◌, ℕ, ◌≤◌, None, Some, sym, ap, ◌∙◌, subst, inl, inr, arith}
+use Rattle.std.proofs.Common.{◌≡◌, ℕ, ◌+◌, ◌≤◌, length, None, Some, sym, ap, ◌∙◌, subst, inl, inr, arith}
 use Rattle.std.proofs.lemmas.Option.{none-some}
 use Rattle.std.proofs.lemmas.Result.{IfOk-weaker, on_err_weaker, on_ok_weaker}
 use Rattle.growing_history.proofs.PrefixLemmas.{prefix_length}
@@ -6,11 +6,15 @@ use Rattle.join_eval.proofs.MovesLemmas.{moves_trans}
 use Rattle.kept_ranges.specs.Sound.{KeptRange}
 use Rattle.range_serving.specs.Serving.{HasTooMany}
 use Rattle.range_serving.proofs.AdvancedLemmas.{filled_there}
+use Rattle.range_serving.proofs.CountingLemmas.{fill_counted, fill_over, reach_filled}
 use Rattle.range_serving.proofs.UpToLemmas.{served_over, stands_on}
 use Rattle.range_serving.proofs.serving.serve_kept.Goals as goal
 
 pub returns-in-Ok-clause-given : goal.returns-in-Ok-clause-given
 returns-in-Ok-clause-given g c = record { output = c.in-Ok.ensures.output; kept = inl c.in-Ok.ensures.ready }
+
+pub returns-in-Ok-clause-least : goal.returns-in-Ok-clause-least
+returns-in-Ok-clause-least g c = c.in-Ok.ensures.least
 
 pub returns-in-Ok-clause-behind : goal.returns-in-Ok-clause-behind
 returns-in-Ok-clause-behind g c = λ q stands less bare. inl (c.in-Ok.ensures.behind q stands less bare)
@@ -80,6 +84,18 @@ returns-in-Err-TooWide-clause-moves g c =
 pub returns-in-Err-TooWide-clause-cost : goal.returns-in-Err-TooWide-clause-cost
 returns-in-Err-TooWide-clause-cost g c =
     IfOk-weaker c.fill_and_read.result _ _ (λ pairs is. omega (arith, is, c.serve.ensures.counted)) c.fill_and_read.ensures.cost
+
+pub returns-in-Err-TooWide-clause-least : goal.returns-in-Err-TooWide-clause-least
+returns-in-Err-TooWide-clause-least g c =
+    let h = g.R.Reader.list c.args.reader.now in
+    let more = g.R.Reader.list c.serve.new.reader in
+    let old = c.args.state.now in
+    let mid = c.serve.new.state in
+    let made = c.fill_and_read.new.steps in
+    IfOk-weaker c.fill_and_read.result _ _ (λ pairs counts.
+    let from = c.args.steps.now + 1 + length pairs.items in
+    reach_filled h c.args.p old from made (fill_over h more c.args.p old mid from made c.serve.ensures.same c.requires.within c.serve.ensures.moves.kept
+    (fill_counted more c.args.p mid (c.serve.new.steps + 1 + length pairs.items) made from made (λ steps low. omega (arith, low, c.serve.ensures.counted)) counts))) c.fill_and_read.ensures.least
 
 pub returns-in-Err-TooWide-clause-behind : goal.returns-in-Err-TooWide-clause-behind
 returns-in-Err-TooWide-clause-behind g c = λ q stands less bare.

@@ -1,7 +1,8 @@
-use Rattle.std.proofs.Common.{◌∙◌}
+use Rattle.std.proofs.Common.{◌+◌, length, ◌∙◌}
 use Rattle.std.proofs.lemmas.Option.{none-some}
-use Rattle.std.proofs.lemmas.Result.{on_err_weaker, on_ok_weaker}
+use Rattle.std.proofs.lemmas.Result.{IfOk-weaker, on_err_weaker, on_ok_weaker}
 use Rattle.range_serving.proofs.AdvancedLemmas.{filled_there}
+use Rattle.range_serving.proofs.CountingLemmas.{reach_filled}
 use Rattle.range_serving.proofs.serving.serve_up_to.Goals as goal
 
 pub returns-in-None-clause-still : goal.returns-in-None-clause-still
@@ -19,6 +20,11 @@ returns-in-None-clause-filled g c = λ none. c.fill_and_read.ensures.clear
 pub returns-in-None-clause-err : goal.returns-in-None-clause-err
 returns-in-None-clause-err g c =
     on_err_weaker c.fill_and_read.result (λ left. filled_there c.args.p c.args.state.now c.fill_and_read.new.state left) c.fill_and_read.ensures.err
+
+pub returns-in-None-clause-least : goal.returns-in-None-clause-least
+returns-in-None-clause-least g c =
+    IfOk-weaker c.fill_and_read.result _ _ (λ pairs counts.
+    reach_filled (g.R.Reader.list c.args.reader.now) c.args.p c.args.state.now (c.args.steps.now + 1 + length pairs.items) c.fill_and_read.new.steps counts) c.fill_and_read.ensures.least
 
 pub returns-in-None-clause-at_once : goal.returns-in-None-clause-at_once
 returns-in-None-clause-at_once g c = λ ready. absurd (none-some c.args.p (c.in-None.ensures ∙ ready.stands))

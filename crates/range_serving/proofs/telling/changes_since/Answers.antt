@@ -1,8 +1,9 @@
-use Rattle.std.proofs.Common.{inl, refl, subst}
+use Rattle.std.proofs.Common.{◌+◌, length, inl, refl, subst, arith}
 use Rattle.std.proofs.lemmas.Result.{err_from_is_err_and}
 use Rattle.join_eval.specs.declared.reading.Changed.TheVariants.{Keys}
 use Rattle.range_state.specs.Since.{AnswersSince, as_changed}
 use Rattle.range_serving.proofs.AdvancedLemmas.{caught_there, on_err_always}
+use Rattle.range_serving.proofs.CountingLemmas.{advance_counts, forward_counted}
 use Rattle.range_serving.proofs.TellingLemmas.{told_from}
 use Rattle.range_serving.proofs.telling.changes_since.Goals as goal
 
@@ -37,3 +38,19 @@ returns-in_err-catch_up-clause-err g c = on_err_always c.from_residual.result (i
 pub returns-in_err-keys-clause-err : goal.returns-in_err-keys-clause-err
 returns-in_err-keys-clause-err g c =
     on_err_always c.from_residual-in_err-keys.result (caught_there c.args.p c.args.state.now c.catch_up.new.state c.in_ok-catch_up.ensures.advanced)
+
+-- ---- what is counted
+
+pub returns-in-Some-clause-least : goal.returns-in-Some-clause-least
+returns-in-Some-clause-least g c = λ at stands less.
+    let h = g.R.Reader.list c.args.reader.now in
+    let counted = rw c.in-Some.is at c.in_ok-keys.ensures.cost in
+    forward_counted h c.args.p c.args.state.now c.args.steps.now c.catch_up.new.steps (c.args.steps.now + 1 + length c.in-Some.keys.items) c.touched_since.new.steps (λ steps low. omega (arith, low, counted))
+    (advance_counts h c.args.p c.args.state.now c.catch_up.new.state c.args.steps.now c.catch_up.new.steps (c.in_ok-catch_up.ensures.least at stands less))
+
+pub returns-in-None-clause-least : goal.returns-in-None-clause-least
+returns-in-None-clause-least g c = λ at stands less.
+    let h = g.R.Reader.list c.args.reader.now in
+    let counted = rw c.in-None.is at c.in_ok-keys.ensures.cost in
+    forward_counted h c.args.p c.args.state.now c.args.steps.now c.catch_up.new.steps (c.args.steps.now + 1 + 0) c.touched_since.new.steps (λ steps low. omega (arith, low, counted))
+    (advance_counts h c.args.p c.args.state.now c.catch_up.new.state c.args.steps.now c.catch_up.new.steps (c.in_ok-catch_up.ensures.least at stands less))

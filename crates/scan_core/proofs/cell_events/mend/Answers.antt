@@ -11,4 +11,4 @@ returns-clause-mended g c = λ q stands.
     let done : Result ⊤ ⊤ = Ok tt in
     let mended = c.in_ok-mend.ensures in
     mended_over done h h q c.args.range.now c.args.state.now c.mend.new.self c.args.steps.now c.mend.new.steps (prefix_refl h) (sound_where c.args.state.now h q stands c.requires.sound).place stands
-    mended.same mended.at mended.left mended.needs mended.notes mended.cost
+    mended.same mended.at mended.left mended.needs mended.notes mended.least mended.cost

@@ -1,12 +1,13 @@
-use Rattle.std.proofs.Common.{ℕ, IfErr, take, inr, refl, sym, subst}
+use Rattle.std.proofs.Common.{ℕ, IfErr, OnOk, take, inr, refl, sym, subst}
 use Rattle.std.proofs.lemmas.Result.{IfErr-weaker, on_err_weaker, on_ok_weaker}
 use Rattle.semantics.specs.States.{below}
 use Rattle.join_eval.specs.Bounds.{OnTooWide, most_of}
 use Rattle.join_eval.proofs.CollectingLemmas.{on_too_wide_always}
 use Rattle.kept_ranges.specs.Sound.{KeptRange}
 use Rattle.range_state.specs.Work.{TakesTooMany}
-use Rattle.range_serving.specs.Serving.{StandsFrom}
+use Rattle.range_serving.specs.Serving.{CountsFill, StandsFrom}
 use Rattle.range_serving.proofs.AdvancedLemmas.{filled_within}
+use Rattle.range_serving.proofs.CountingLemmas.{advance_counts}
 use Rattle.shared_cells.proofs.advancing.advance_to.Goals as goal
 
 pub returns-then-stands_from-clause-advanced : goal.returns-then-stands_from-clause-advanced
@@ -47,3 +48,14 @@ returns-clause-wide g c =
 
 pub returns-clause-gone : goal.returns-clause-gone
 returns-clause-gone g c = IfErr-weaker c.fill.result _ _ (λ fault nothing. on_too_wide_always fault nothing) c.fill.ensures.err
+
+-- ---- what is counted
+
+pub returns-then-stands_from-clause-least : goal.returns-then-stands_from-clause-least
+returns-then-stands_from-clause-least g c = λ q stands less.
+    on_ok_weaker c.catch_up.result (λ counts. advance_counts (g.R.Reader.list c.args.reader.now) c.args.p c.args.state.now c.catch_up.new.state c.args.steps.now c.catch_up.new.steps counts) (c.catch_up.ensures.least q stands less)
+
+pub returns-clause-least : goal.returns-clause-least
+returns-clause-least g c = λ q stands less.
+    on_ok_weaker c.fill.result (λ counts. inr counts)
+    (subst (λ (s : KeptRange). OnOk c.fill.result (CountsFill (g.R.Reader.list c.args.reader.now) c.args.p s c.args.steps.now c.fill.new.steps)) c.forget.ensures c.fill.ensures.least)

@@ -1,4 +1,4 @@
-use Rattle.std.proofs.Common.{◌-◌, ◌≤◌, sym, subst, arith}
+use Rattle.std.proofs.Common.{◌-◌, sym, subst, arith}
 use Rattle.core_events.specs.Events as plain
 use Rattle.scan_core.specs.Going.{AreGoing}
 use Rattle.scan_core.specs.Worlds.{CoreWorld, StepSpends}

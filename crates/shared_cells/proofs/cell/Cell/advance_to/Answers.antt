@@ -7,10 +7,10 @@ use Rattle.join_eval.proofs.MovesLemmas.{moves_trans}
 use Rattle.rank_layers.proofs.PartLemmas.{right_after}
 use Rattle.write_history.specs.Passes.{PassView}
 use Rattle.kept_ranges.specs.Sound.{KeptRange}
-use Rattle.range_state.specs.Ready.{StandsOrIsForgotten}
+use Rattle.range_state.specs.Ready.{StandsAt, StandsOrIsForgotten}
 use Rattle.range_state.specs.Work.{TouchesLittle}
 use Rattle.range_serving.specs.Serving.{StandsFrom}
-use Rattle.range_serving.proofs.LongerLemmas.{little_before, steps_before}
+use Rattle.range_serving.proofs.LongerLemmas.{forward_before, little_before, steps_before}
 use Rattle.cell_slots.specs.Slots.{IsRankAt}
 use Rattle.shared_cells.specs.Advancing.{IsAdvancedFrom, StandsBare}
 use Rattle.shared_cells.specs.Cells.{KeepsWithin}
@@ -143,3 +143,19 @@ returns-clause-cost g c = λ s q can.
     let order : q ≤ c.args.p = let less = can.is_bare.behind in omega (arith, less) in
     on_ok_weaker advanced.result (λ few.
     subst (λ n. advanced.new.steps ≤ c.args.steps.now + n) (steps_before (list c.args.reader.now) (list c.meet.new.reader) q c.args.p s c.in-Some.state kept c.requires.within order own) few) (advanced.ensures.cost q from there)
+
+-- ---- what is counted
+
+pub returns-then-not-is_for-clause-least : goal.returns-then-not-is_for-clause-least
+returns-then-not-is_for-clause-least g c = λ s q same holds stands less. absurd (false≢true (c.if-not-is_for.ensures.no (same ∙ ap (λ (n : ℕ). Some n) (sym c.meet.ensures.same_place.rank))))
+
+pub returns-in_default-clause-least : goal.returns-in_default-clause-least
+returns-in_default-clause-least g c = λ s q same holds stands less. absurd (none-some s (sym c.in_default.is ∙ c.take_held.ensures.taken ∙ c.meet.ensures.held ∙ holds))
+
+pub returns-clause-least : goal.returns-clause-least
+returns-clause-least g c = λ s q same holds stands less.
+    let advanced = c.advance_to-advanced in
+    let own : c.in-Some.state ≡ s = same_Some c.in-Some.state s (sym c.in-Some.is ∙ c.take_held.ensures.taken ∙ c.meet.ensures.held ∙ holds) in
+    on_ok_weaker advanced.result (λ counts.
+    forward_before (g.R.Reader.list c.args.reader.now) (g.R.Reader.list c.meet.new.reader) c.args.p s c.in-Some.state c.args.steps.now advanced.new.steps c.meet.ensures.moves.kept c.requires.within own counts)
+    (advanced.ensures.least q (subst (StandsAt q) (sym own) stands) less)

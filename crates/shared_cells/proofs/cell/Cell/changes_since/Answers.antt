@@ -5,11 +5,12 @@ use Rattle.join_eval.proofs.MovesLemmas.{moves_trans}
 use Rattle.std.proofs.lemmas.Option.{none-some, same_Some}
 use Rattle.rank_layers.proofs.PartLemmas.{right_after}
 use Rattle.kept_ranges.specs.Sound.{KeptRange}
+use Rattle.range_state.specs.Ready.{StandsAt}
 use Rattle.range_state.specs.Since.{AnswersSince, told_count}
 use Rattle.range_state.specs.Work.{TouchesLittle}
 use Rattle.range_serving.specs.Serving.{IsCaughtUp, StandsFrom}
 use Rattle.range_serving.proofs.AdvancedLemmas.{on_err_always}
-use Rattle.range_serving.proofs.LongerLemmas.{little_before, steps_before}
+use Rattle.range_serving.proofs.LongerLemmas.{forward_before, little_before, steps_before}
 use Rattle.shared_cells.specs.Advancing.{StandsBare}
 use Rattle.shared_cells.specs.Cells.{IsHeldOrEmpty, IsHeldOrStandsAt, IsLentFor, KeepsWithin}
 use Rattle.shared_cells.proofs.CellLemmas.{held_there, lent_within, right_of_lent, rank_of_lent, stands_longer, told_of_lent, wide_cell}
@@ -128,3 +129,16 @@ returns-clause-cost g c = λ s q can is.
     IfOk-weaker c.changes_since-told.result _ _ (λ told few.
     subst (λ n. c.changes_since-told.new.steps ≤ c.args.steps.now + n + 1 + told_count told) (steps_before (list c.args.reader.now) (list c.lend.new.reader) q c.args.query.p s c.in-Some.state kept c.requires.within order lent) few)
     (c.changes_since-told.ensures.cost q there.stands there.behind there.bare)
+
+-- ---- what is counted
+
+pub returns-in_default-clause-least : goal.returns-in_default-clause-least
+returns-in_default-clause-least g c = λ s q can stands less. absurd (none-some s (sym c.in_default.is ∙ c.in_ok-state.ensures.kept s can))
+
+pub returns-clause-least : goal.returns-clause-least
+returns-clause-least g c = λ s q can stands less.
+    let told = c.changes_since-told in
+    let own : c.in-Some.state ≡ s = same_Some c.in-Some.state s (sym c.in-Some.is ∙ c.in_ok-state.ensures.kept s can) in
+    IfOk-weaker told.result _ _ (λ changed counts.
+    forward_before (g.R.Reader.list c.args.reader.now) (g.R.Reader.list c.lend.new.reader) c.args.query.p s c.in-Some.state (c.args.steps.now + 1 + told_count changed) told.new.steps c.lend.ensures.moves.kept c.requires.within own counts)
+    (told.ensures.least q (subst (StandsAt q) (sym own) stands) less)

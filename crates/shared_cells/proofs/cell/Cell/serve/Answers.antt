@@ -7,11 +7,11 @@ use Rattle.kept_ranges.specs.Sound.{KeptRange}
 use Rattle.range_state.specs.Ready.{IsReady, StandsAt, pending_meets}
 use Rattle.range_serving.specs.Serving.{HasTooMany, StandsFrom, WasAdvanced, WasMended}
 use Rattle.range_serving.proofs.AdvancedLemmas.{on_err_always}
-use Rattle.range_serving.proofs.LongerLemmas.{advanced_before, mended_before}
+use Rattle.range_serving.proofs.LongerLemmas.{advanced_before, mended_before, reach_before}
 use Rattle.range_serving.proofs.UpToLemmas.{many_over}
 use Rattle.shared_cells.specs.Advancing.{StandsBare}
 use Rattle.shared_cells.specs.Cells.{IsHeldOrEmpty, IsHeldOrStandsAt, IsLentFor, KeepsWithin}
-use Rattle.shared_cells.proofs.CellLemmas.{held_there, lent_within, right_of_lent, rank_of_lent, output_of_lent, served_cell, stands_longer}
+use Rattle.shared_cells.proofs.CellLemmas.{fill_of_lent, held_there, lent_within, right_of_lent, rank_of_lent, output_of_lent, served_cell, stands_longer}
 use Rattle.shared_cells.proofs.cell.Cell.serve.Goals as goal
 
 pub serve_up_to-read-requires-clause-stands : goal.serve_up_to-read-requires-clause-stands
@@ -150,3 +150,25 @@ returns-clause-pending g c = λ s can stands meets.
     (subst (λ (t : KeptRange). WasMended more p part t new.state spent new.steps) own was))))
     (λ (many : HasTooMany most more p part c.in-Some.state). inr (many_over most h more p part s kept c.requires.within (subst (λ (t : KeptRange). HasTooMany most more p part t) own many)))
     (c.in_ok-read.ensures.pending at some)
+
+-- ---- what is counted
+
+pub returns-clause-least : goal.returns-clause-least
+returns-clause-least g c = λ s can.
+    let spent = c.args.steps.now + 1 + length c.in_ok-read.field-0.items in
+    let own : c.in-Some.state ≡ s = same_Some c.in-Some.state s (sym c.in-Some.is ∙ c.in_ok-state.ensures.kept s can) in
+    reach_before (g.R.Reader.list c.args.reader.now) (g.R.Reader.list c.lend.new.reader) c.args.query.p s c.in-Some.state spent c.serve_up_to-read.new.steps c.lend.ensures.moves.kept c.requires.within own c.in_ok-read.ensures.least
+
+pub returns-clause-least_filled : goal.returns-clause-least_filled
+returns-clause-least_filled g c = λ j stands away.
+    let query = c.args.query in
+    let lend = c.lend in
+    let floor = g.R.Reader.floor c.args.reader.now in
+    let spent = c.args.steps.now + 1 + length c.in_ok-read.field-0.items in
+    let lent : IsLentFor lend.new.self query.at query.rank query.p c.args.part.now c.in-Some.state =
+    subst (λ o. IfSome o (IsLentFor lend.new.self query.at query.rank query.p c.args.part.now)) c.in-Some.is c.in_ok-state.ensures.lent in
+    let whose : IsHeldOrEmpty c.args.self.now.held c.in-Some.state = subst (λ o. IfSome o (IsHeldOrEmpty c.args.self.now.held)) c.in-Some.is c.in_ok-state.ensures.whose in
+    let there : StandsFrom (g.R.Reader.floor lend.new.reader) c.in-Some.state = subst (λ o. IfSome o (StandsFrom (g.R.Reader.floor lend.new.reader))) c.in-Some.is c.in_ok-state.ensures.from in
+    let from : StandsFrom floor c.in-Some.state = subst (λ (n : ℕ). StandsFrom n c.in-Some.state) lend.ensures.moves.same_floor there in
+    fill_of_lent lend.new.self (g.R.Reader.list c.args.reader.now) (g.R.Reader.list lend.new.reader) query.at query.rank query.p floor spent c.serve_up_to-read.new.steps c.args.part.now c.args.self.now.range c.args.self.now.held c.in-Some.state j
+    c.requires.within lend.ensures.moves.kept lend.ensures.met lent stands lend.ensures.same_place.range away whose from c.in_ok-read.ensures.least

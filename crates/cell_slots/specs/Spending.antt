@@ -16,7 +16,8 @@ use Rattle.range_serving.specs.Serving.{WasAdvanced, WasMended}
 use Rattle.cell_slots.specs.declared.slot.Part.{Part}
 use Rattle.cell_slots.specs.declared.slot.Slot.{Slot}
 use Rattle.cell_slots.specs.declared.slot.Slot.TheVariants.{Free, Held}
-use Rattle.cell_slots.specs.Slots.{Holdings, with_slot, HasFree, MeetsNone, IsReadySlot, HoldsReady, HoldsWhole, StandsAs}
+use Rattle.cell_slots.specs.Places.{LiesInPlace}
+use Rattle.cell_slots.specs.Slots.{Holdings, place_at, with_slot, HasFree, MeetsNone, IsReadySlot, HoldsReady, HoldsWhole, StandsAs}
 
 -- the number of base pairs in a range after the first p entries
 abbrev pub base_count : History → ℕ → Range → ℕ
@@ -34,8 +35,8 @@ one_part range id = record { range = range; cell = Some id } ∷ []
 abbrev pub one_gap : Range → List Part
 one_gap range = record { range = range; cell = None } ∷ []
 
--- a ready range is covered by its cell alone, and no cell changes
-pub record CoversReady (before after : Holdings) (id : ℕ) (range : Range) (parts : List Part) : Type 0 where
+-- a range is covered by one cell alone, and no cell changes
+pub record CoversAlone (before after : Holdings) (id : ℕ) (range : Range) (parts : List Part) : Type 0 where
   pub one : parts ≡ one_part range id
   pub still : after ≡ before
 
@@ -71,6 +72,12 @@ pub record HoldsAdvanced (h : History) (slots : List Slot) (id at q p : ℕ) (pa
   pub held : slice_get slots id ≡ Some (Held at state)
   pub was : WasAdvanced h q p part s state before after
 
+-- what such a slot held was advanced, with so many steps beside what that costs, and no more than some number
+pub record AdvancesWithin (h : History) (slots : List Slot) (id at q p : ℕ) (range : Range) (s : KeptRange) (most added : ℕ) : Type 0 where
+  pub beside : ℕ
+  pub few : beside ≤ most
+  pub holds : HoldsAdvanced h slots id at q p range s beside added
+
 -- the slot with a number holds a kept range of the join at a position: it stands at p, something pending meets a part, and the part lies within it
 pub record StandsPending (slots : List Slot) (id at p : ℕ) (part : Range) (s : KeptRange) : Type 0 where
   pub held : slice_get slots id ≡ Some (Held at s)
@@ -90,15 +97,17 @@ pub record MayKeep (slots : List Slot) (at : ℕ) (j : Join) (range : Range) : T
   pub free : HasFree slots
   pub apart : MeetsNone slots at range
 
--- reading what one join gives in a range: where a cell can be read over it, it costs one step and its rows, and the cell stays; where it may be kept, a cell holds it afterwards
+-- reading what one join gives in a range: where a cell can be read over it, it costs one step and its rows, and the cell stays; what a cell of the join's rank holds behind is advanced, and mended where something is pending then; where it may be kept, a cell holds it afterwards
 pub record OneSpends (h : History) (before after : Holdings) (p : ℕ) (range : Range) (rank at : ℕ) (j : Join) (added : ℕ) : Type 0 where
   pub used : is_open range ≡ true → HoldsReady before.slots at p range → added ≤ 1 + row_count h p range rank j
   pub stays : (id : ℕ) (s : KeptRange) → is_open range ≡ true → IsReadySlot before.slots id at p range s → StaysReady before after id at p range s
+  pub behind : (id q : ℕ) (s : KeptRange) → is_open range ≡ true → s.rank ≡ rank → StandsBehind h before.slots id at q p range s →
+      HoldsAdvanced h after.slots id at q p range s (1 + row_count h p range rank j) added
   pub kept : is_open range ≡ true → MayKeep before.slots at j range → KeepsJust before after rank at p range
 
--- a range is covered by parts: by the cell alone that can be read over it, and where it may be kept by a cell that was free; for a pull join no cell changes
+-- a range is covered by parts: by the cell alone in whose place it lies, and where it may be kept by a cell that was free; for a pull join no cell changes
 pub record Covers (h : History) (before after : Holdings) (at rank p : ℕ) (range : Range) (parts : List Part) : Type 0 where
-  pub ready : (id : ℕ) (s : KeptRange) → is_open range ≡ true → IsReadySlot before.slots id at p range s → CoversReady before after id range parts
+  pub alone : (id : ℕ) → is_open range ≡ true → LiesInPlace (place_at before.slots) id at range → CoversAlone before after id range parts
   pub ranked : (id : ℕ) (s : KeptRange) → IsReadySlot before.slots id at p range s → s.rank ≡ rank
   pub reserved : (j : Join) → StandsAs h p at rank j → is_open range ≡ true → MayKeep before.slots at j range → Reserves before after at rank j range parts
   pub pulled : (j : Join) → StandsAs h p at rank j → (j.kind ≡ push → ⊥) → after ≡ before
@@ -131,5 +140,7 @@ pub record Spends (h : History) (before after : Holdings) (p : ℕ) (range : Ran
       added ≤ 2 + base_count h p range + row_count h p range rank s.join
   pub stays : (rank : ℕ) (s : DeclaredJoin) → ReachesOnly (joins_of (take p h)) range top rank s → is_open range ≡ true → (id : ℕ) (kept : KeptRange) → IsReadySlot before.slots id s.position p range kept →
       StaysReady before after id s.position p range kept
+  pub behind : (rank : ℕ) (s : DeclaredJoin) → ReachesOnly (joins_of (take p h)) range top rank s → is_open range ≡ true → (id q : ℕ) (kept : KeptRange) → kept.rank ≡ rank →
+      StandsBehind h before.slots id s.position q p range kept → AdvancesWithin h after.slots id s.position q p range kept (2 + base_count h p range + row_count h p range rank s.join) added
   pub kept : (rank : ℕ) (s : DeclaredJoin) → ReachesOnly (joins_of (take p h)) range top rank s → is_open range ≡ true → MayKeep before.slots s.position s.join range →
       KeepsJust before after rank s.position p range

@@ -12,7 +12,7 @@ ghost use Rattle.range_serving.specs.Serving.{IsPast};
 ghost use Rattle.cell_slots.specs.declared.slot.Slot.TheVariants.{Lent, Held};
 ghost use Rattle.cell_slots.specs.Places.{LiesInPlace};
 ghost use Rattle.cell_slots.specs.Slots.{Frame, Holdings, IsDeclared, IsReached, IsReadySlot, IsRightFor, MeetsNone, StandsAs, Takes, place_at, with_slot};
-ghost use Rattle.cell_slots.specs.Spending.{CoversReady, MayKeep, Reserves, Spends};
+ghost use Rattle.cell_slots.specs.Spending.{CoversAlone, MayKeep, Reserves, Spends};
 
 use crate::slot::Part;
 use join_eval::{Between, Reader};
@@ -53,14 +53,15 @@ pub trait Cells: Reader {
         ensures kept { IfOk result (λ parts. (id : ℕ) (part : Bounds) → Contains parts.items (record { range = part; cell = Some id }) → LiesInPlace (place_at (holdings self.now).slots) id at part) }
         ensures gaps { IfOk result (λ parts. (part : Bounds) → Contains parts.items (record { range = part; cell = None }) → MeetsNone (holdings self.now).slots at part) };
 
-    /// The range, which reaches the join's output, in parts, in order, each with the cell that holds it, where one does. For
-    /// a push join the gaps between what is held are reserved: the lowest free cell holds each of them from now on, while
-    /// there is one, with nothing kept yet. For a pull join no cell changes.
+    /// The range, which reaches the join's output, in parts, in order, each with the cell that holds it, where one does. What is
+    /// not empty and lies in one cell's place is one part, and no cell changes. For a push join the gaps between what is held are
+    /// reserved: the lowest free cell holds each of them from now on, while there is one, with nothing kept yet. For a pull join
+    /// no cell changes.
     fn cover(&mut self, at: u64, rank: u8, p: u64, range: &Range) -> Result<Vec<Part>, OutOfMemory>
         requires within { p ≤ length (Self.list self.old) }
         requires reached { IsReached (Self.list self.old) p at rank range.now }
         ensures parts { IfOk result (λ parts. JoinTo range.now (map (λ part. part.range) parts.items)) }
-        ensures ready { IfOk result (λ parts. (id : ℕ) (s : KeptRange) → is_open range.now ≡ true → IsReadySlot (holdings self.old).slots id at p range.now s → CoversReady (holdings self.old) (holdings self.new) id range.now parts.items) }
+        ensures alone { IfOk result (λ parts. (id : ℕ) → is_open range.now ≡ true → LiesInPlace (place_at (holdings self.old).slots) id at range.now → CoversAlone (holdings self.old) (holdings self.new) id range.now parts.items) }
         ensures ranked { (id : ℕ) (s : KeptRange) → IsReadySlot (holdings self.old).slots id at p range.now s → s.rank ≡ rank }
         ensures reserved { IfOk result (λ parts. (j : PlainJoin) → StandsAs (Self.list self.old) p at rank j → is_open range.now ≡ true → MayKeep (holdings self.old).slots at j range.now →
             Reserves (holdings self.old) (holdings self.new) at rank j range.now parts.items) }

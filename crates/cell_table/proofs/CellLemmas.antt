@@ -21,7 +21,7 @@ use Rattle.cell_slots.specs.declared.slot.Slot.TheVariants.{Free, Lent, Held}
 use Rattle.cell_slots.specs.declared.slot.Part.{Part}
 use Rattle.cell_slots.specs.Places.{KeepsPlace}
 use Rattle.cell_slots.specs.Slots.{Frame, HasFree, Holdings, IsLeft, MeetsNone, place_at, place_of}
-use Rattle.cell_slots.specs.Spending.{CoversReady, Reserves, one_gap, one_part}
+use Rattle.cell_slots.specs.Spending.{CoversAlone, Reserves, one_gap, one_part}
 use Rattle.cell_slots.proofs.FrameLemmas.{get-set_other, get-set_same}
 use Rattle.cell_slots.proofs.PlaceLemmas.{one_place, place_from_slot}
 use Rattle.cell_table.specs.Stores.{AreOfTable, IsGap, Store}
@@ -204,13 +204,13 @@ same_ranges at rank j a b (x ∷ xs) [] h = absurd h
 same_ranges at rank j a b (x ∷ xs) (y ∷ ys) h = ap (λ (r : Range). r ∷ ranges ys) h.1.same_range ∙ ap (λ (rs : List Range). x.range ∷ rs) (same_ranges at rank j h.0 b xs ys h.2)
 
 -- a part with a cell alone stays
-pub ready_from : (at rank : ℕ) (j : Join) (a b : Store) (range : Range) (id : ℕ) (ys : List Part) → GetCells at rank j a (one_part range id) ys b → CoversReady a.holdings b.holdings id range ys
-ready_from at rank j a b range id [] h = absurd h
-ready_from at rank j a b range id (y ∷ []) h = record {
+pub alone_from : (at rank : ℕ) (j : Join) (a b : Store) (range : Range) (id : ℕ) (ys : List Part) → GetCells at rank j a (one_part range id) ys b → CoversAlone a.holdings b.holdings id range ys
+alone_from at rank j a b range id [] h = absurd h
+alone_from at rank j a b range id (y ∷ []) h = record {
   one = ap (λ (r : Range). part r y.cell ∷ []) h.1.same_range ∙ ap (λ (c : Option ℕ). part range c ∷ []) h.1.cell.0;
   still = ap (λ (s : Store). s.holdings) (h.2 ∙ h.1.cell.1);
 }
-ready_from at rank j a b range id (y ∷ z ∷ ys) h = absurd h.2
+alone_from at rank j a b range id (y ∷ z ∷ ys) h = absurd h.2
 
 reserved_one : (at rank : ℕ) (j : Join) (a b : Store) (range : Range) (y : Part) (gets : Option ℕ) → y.range ≡ range → y.cell ≡ gets → GetsCell at rank j range a None gets b → HasFree a.holdings.slots → Reserves a.holdings b.holdings at rank j range (y ∷ [])
 reserved_one at rank j a b range y (Some id) same is g free = record {

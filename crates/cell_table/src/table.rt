@@ -11,7 +11,7 @@ ghost use Rattle.evict_book.specs.Books.{total_weight};
 ghost use Rattle.cell_slots.specs.declared.slot.Slot.TheVariants.{Free, Lent, Held};
 ghost use Rattle.cell_slots.specs.Places.{LiesInPlace};
 ghost use Rattle.cell_slots.specs.Slots.{Frame, HasFree, MeetsNone, place_at};
-ghost use Rattle.cell_slots.specs.Spending.{CoversReady, MayKeep, Reserves, one_gap, one_part};
+ghost use Rattle.cell_slots.specs.Spending.{CoversAlone, MayKeep, Reserves, one_gap, one_part};
 ghost use Rattle.cell_table.specs.Stores.{AreBooked, AreOfTable, IsGap, IsLowestFree, Store, free_cells, unused, with_slot_in, without_cell};
 ghost use Rattle.cell_table.specs.Moves.{Evicts, GetCells, GetsCellAs, IsHeld, IsLent, IsTooHeavy, MayLend, ReservesParts, SettlesFirst, TakesOut, at_rank, freed_all, settled_all, weighed};
 
@@ -134,7 +134,7 @@ impl CellTable {
     ) -> Result<Vec<Part>, OutOfMemory>
         requires { AreOfTable self.old.holdings.slots at (table_of range.now.low) }
         ensures join { IfOk result (λ parts. JoinTo range.now (map (λ part. part.range) parts.items)) }
-        ensures ready { IfOk result (λ parts. (id : ℕ) → is_open range.now ≡ true → LiesInPlace (place_at self.old.holdings.slots) id at range.now → CoversReady self.old.holdings self.new.holdings id range.now parts.items) }
+        ensures alone { IfOk result (λ parts. (id : ℕ) → is_open range.now ≡ true → LiesInPlace (place_at self.old.holdings.slots) id at range.now → CoversAlone self.old.holdings self.new.holdings id range.now parts.items) }
         ensures reserved { IfOk result (λ parts. is_open range.now ≡ true → MayKeep self.old.holdings.slots at join.now range.now → Reserves self.old.holdings self.new.holdings at rank join.now range.now parts.items) }
         ensures pulled { (join.now.kind ≡ push → ⊥) → self.new ≡ self.old }
         ensures slots { ReservesParts self.old.holdings self.new.holdings at rank join.now range.now }

@@ -50,11 +50,11 @@ impl<R: Cells> RangeCache<R> for OwnCells {
 
     ghost left_looked = { λ rank a b same. frame_of_same R.holdings rank a b same };
 
-    ghost cost_of_part = { λ a b c at rank p range part j n m stands rows covers took. cost_of_part (R.list a) (R.list b) (R.holdings a) (R.holdings b) (R.holdings c) at rank p range part j n m stands rows covers took };
+    ghost cost_of_part = { λ a b c at rank p range part j n m within prefix stands rows covers took. cost_of_part (R.list a) (R.list b) (R.holdings a) (R.holdings b) (R.holdings c) at rank p range part j n m within prefix stands rows covers took };
 
     ghost cost_of_parts = { λ a b c at rank p range parts j m stands covers several. cost_of_parts (R.list a) (R.holdings a) (R.holdings b) (R.holdings c) at rank p range parts j m stands covers several };
 
-    ghost spends_next = { λ a b c d p range rank n m k sum same first looked joins. spends_next R.list R.holdings a b c d p range rank n m k sum same (R.spends_so a b p range rank n first) looked joins };
+    ghost spends_next = { λ a b c d p range rank n m k sum within prefix first looked joins. spends_next R.list R.holdings a b c d p range rank n m k sum within prefix (R.spends_so a b p range rank n first) looked joins };
 
     fn alloc(&self) -> Global {
         self.alloc

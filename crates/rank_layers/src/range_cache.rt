@@ -2,7 +2,7 @@
 ghost use Rattle.std.specs.Prelude.{◌≡◌, ℕ, ◌+◌, ◌-◌, ◌≤◌, List, [], ◌∷◌, length, map, take, IfOk};
 ghost use Rattle.semantics.specs.Texts.{Range as Bounds, pairs_within};
 ghost use Rattle.semantics.specs.Joins.{Join as PlainJoin};
-ghost use Rattle.semantics.specs.Histories.{joins_of};
+ghost use Rattle.semantics.specs.Histories.{IsPrefix, joins_of};
 ghost use Rattle.semantics.specs.Outputs.{out};
 ghost use Rattle.semantics.specs.States.{below};
 ghost use Rattle.growing_history.specs.Entered.{HasEntered};
@@ -153,7 +153,7 @@ pub trait RangeCache<R: Reader> {
     ghost left_looked: { (rank : ℕ) (a b : R) → looked a b → left rank a b };
 
     /// What is spent where one part was covered and read, and the join gives so many pairs in the range.
-    ghost cost_of_part: { (a b c : R) (at rank p : ℕ) (range : Bounds) (part : Self.Part) (j : PlainJoin) (n m : ℕ) → StandsAs (R.list a) p at rank j →
+    ghost cost_of_part: { (a b c : R) (at rank p : ℕ) (range : Bounds) (part : Self.Part) (j : PlainJoin) (n m : ℕ) → p ≤ length (R.list a) → IsPrefix (R.list a) (R.list b) → StandsAs (R.list a) p at rank j →
         n ≡ length (pairs_within range (out j (below (take p (R.list a)) rank))) →
         covered a b at rank p range (part ∷ []) → took b c at rank p part n m → cost_one a c at rank p range j m };
 
@@ -162,6 +162,6 @@ pub trait RangeCache<R: Reader> {
         covered a b at rank p range parts → (length parts ≡ 1 → ⊥) → cost_one a c at rank p range j m };
 
     /// What is spent below the next rank: what the reader below spends, and what the joins of the rank cost.
-    ghost spends_next: { (a b c d : R) (p : ℕ) (range : Bounds) (rank n m k : ℕ) → k ≡ n + m → take p (R.list c) ≡ take p (R.list a) → R.spends a b p range rank n → looked b c →
+    ghost spends_next: { (a b c d : R) (p : ℕ) (range : Bounds) (rank n m k : ℕ) → k ≡ n + m → p ≤ length (R.list a) → IsPrefix (R.list a) (R.list c) → R.spends a b p range rank n → looked b c →
         JoinsSpend (λ x y at j added. cost_one x y at rank p range j added) c d (reached range rank (joins_of (take p (R.list c)))) m → spends a d p range (rank + 1) k };
 }

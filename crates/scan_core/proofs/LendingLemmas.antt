@@ -9,7 +9,7 @@ use Rattle.cell_slots.specs.declared.slot.Slot.{Slot}
 use Rattle.cell_slots.specs.declared.slot.Slot.TheVariants.{Lent, Held}
 use Rattle.cell_slots.specs.Slots.{Holdings, Setting, held_over, with_lent, Frame, Takes, IsRightFor}
 use Rattle.cell_slots.specs.declared.slot.Part.{Part}
-use Rattle.cell_slots.specs.Spending.{CoversReady, Reserves}
+use Rattle.cell_slots.specs.Spending.{CoversAlone, Reserves}
 use Rattle.semantics.specs.Joins.{Join}
 use Rattle.cell_table.specs.Stores.{Store}
 use Rattle.cell_table.specs.Moves.{IsLent, TakesOut}
@@ -116,9 +116,9 @@ lends_from h before after id at rank p part (Some state) right same lent = takes
 -- ---- what is covered
 
 -- a ready range
-pub ready_over : (h : History) (before after : Store) (id : ℕ) (range : Range) (parts : List Part) → after.limit ≡ before.limit → CoversReady before.holdings after.holdings id range parts →
-    CoversReady (contents_of h before).cells (contents_of h after).cells id range parts
-ready_over h before after id range parts same covers = record { one = covers.one; still = over_same h before after same ∙ ap (held_over (setting_of h before)) covers.still }
+pub alone_over : (h : History) (before after : Store) (id : ℕ) (range : Range) (parts : List Part) → after.limit ≡ before.limit → CoversAlone before.holdings after.holdings id range parts →
+    CoversAlone (contents_of h before).cells (contents_of h after).cells id range parts
+alone_over h before after id range parts same covers = record { one = covers.one; still = over_same h before after same ∙ ap (held_over (setting_of h before)) covers.still }
 
 -- a range that is reserved
 pub reserves_over : (h : History) (before after : Store) (at rank : ℕ) (j : Join) (range : Range) (parts : List Part) → after.limit ≡ before.limit → Reserves before.holdings after.holdings at rank j range parts →

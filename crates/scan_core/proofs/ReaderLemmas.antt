@@ -18,16 +18,17 @@ use Rattle.range_serving.specs.Serving.{MendsPart, WasMended}
 use Rattle.cell_slots.specs.declared.slot.Slot.{Slot}
 use Rattle.cell_slots.specs.declared.slot.Slot.TheVariants.{Lent, Held}
 use Rattle.cell_slots.specs.Slots.{Holdings, with_slot, KeepPlaces, Frame, HasFree, MeetsNone, IsReadySlot, HoldsReady, IsDeclared, IsRightFor}
-use Rattle.cell_slots.specs.Spending.{Spends}
+use Rattle.cell_slots.specs.Spending.{Spends, StandsBehind}
 use Rattle.cell_slots.proofs.DeclaredLemmas.{declared_over_longer}
 use Rattle.cell_slots.proofs.FrameLemmas.{get-set_same, get-set_other, places_around}
+use Rattle.cell_table.specs.Moves.{Evicts}
 use Rattle.scan_core.specs.Places.{HasSamePlace}
 use Rattle.scan_core.specs.Cells.{HoldsAt, IsTaken, IsTakenOut, KeepsLast}
 use Rattle.scan_core.specs.Rights.{AreRight, Contents}
 use Rattle.scan_core.specs.Worlds.{NoneLent, IsAdvancedIn, IsMendedIn, PieceSpends}
 use Rattle.scan_core.proofs.RightLemmas.{one_rank}
 use Rattle.scan_core.proofs.LettingLemmas.{held_state_same}
-use Rattle.scan_core.proofs.SpendLemmas.{index_stands, rank_within, kept_after, used_after, stays_after}
+use Rattle.scan_core.proofs.SpendLemmas.{behind_after, index_stands, rank_within, kept_after, used_after, stays_after}
 
 -- what was found is what was taken out
 pub taken_out : (h : History) (id : ℕ) (before after : Holdings) (found : Option (ℕ × KeptRange)) (at : ℕ) (s : KeptRange) → found ≡ Some (at, s) → IsTaken h id before after found → IsTakenOut h id before after at s
@@ -159,8 +160,8 @@ mend_cost_from (Err e) h more slots id at first last part s t same held mended o
 -- what a piece leaves and costs
 pub piece_from : (h read : History) (before cleared : Holdings) (mid : Contents) (after : Holdings) (p : ℕ) (range : Range) (added : ℕ) → read ≡ h → cleared.slots ≡ before.slots → cleared.used ≡ [] → cleared.setting ≡ before.setting →
     mid.history ≡ read → mid.cells.setting ≡ cleared.setting → HasEntered read → is_range range.low range.high ≡ true → Spends read cleared mid.cells p range 8 added → AreRight mid.history mid.cells.slots → KeepsLast mid after.slots →
-    PieceSpends h before after p range added
-piece_from h read before cleared mid after p range added same slots unused setting same_mid setting_mid entered is spends right keeps =
+    Evicts mid.cells.slots after.slots → PieceSpends h before after p range added
+piece_from h read before cleared mid after p range added same slots unused setting same_mid setting_mid entered is spends right keeps evicts =
     let entered_h = subst HasEntered same entered in
     let spends_h = subst (λ l. Spends l cleared mid.cells p range 8 added) same spends in
     record {
@@ -172,4 +173,6 @@ piece_from h read before cleared mid after p range added same slots unused setti
       stays = λ place s reach not_empty id held is_ready few.
           stays_after h p range place s cleared mid after.slots before.setting.room added entered_h unused (ap (λ x. x.room) (setting_mid ∙ setting)) spends_h keeps reach not_empty
           id held (subst (λ xs. IsReadySlot xs id s.position p range held) (sym slots) is_ready) few;
+      behind = λ place s reach not_empty id q held stands behind.
+          behind_after h p range place s cleared mid.cells after.slots added entered_h is spends_h evicts reach not_empty id q held stands (subst (λ xs. StandsBehind h xs id s.position q p range held) (sym slots) behind);
     }

@@ -1,5 +1,5 @@
 -- What a piece of a scan leaves in the cells, and what it costs.
-use Rattle.std.proofs.Common.{◌≡◌, ◌++◌, ◌+◌, ◌-◌, ℕ, zero, suc, ◌<◌, ◌≤◌, true, cond, List, [], ◌∷◌, length, take, slice_get, slice_index, Some, IfSome, refl, sym, ap, ◌∙◌, subst, arith}
+use Rattle.std.proofs.Common.{◌≡◌, ◌++◌, ◌+◌, ◌-◌, ℕ, zero, suc, ◌<◌, ◌≤◌, ◌⊎◌, inl, inr, true, cond, List, [], ◌∷◌, length, take, slice_get, slice_index, Some, IfSome, refl, sym, ap, ◌∙◌, subst, arith}
 use Rattle.std.specs.List.{AllByRecursion}
 use Rattle.std.proofs.lemmas.List.Sums.{length-filter, count_by-le-length}
 use Rattle.std.proofs.lemmas.Option.{slice_get_within}
@@ -19,13 +19,14 @@ use Rattle.kept_ranges.specs.Kept.{Kept, IsRight, IsRowKey, is_covered}
 use Rattle.kept_ranges.specs.Sound.{KeptRange, IsSoundAt}
 use Rattle.kept_ranges.proofs.ReadLemmas.{rows_are_output}
 use Rattle.cell_slots.specs.declared.slot.Slot.{Slot}
-use Rattle.cell_slots.specs.declared.slot.Slot.TheVariants.{Held}
+use Rattle.cell_slots.specs.declared.slot.Slot.TheVariants.{Free, Held}
 use Rattle.cell_slots.specs.Slots.{Holdings, IsDeclared, StandsAs, HasFree, MeetsNone, IsReadySlot, HoldsReady, HoldsJust, IsRightFor}
-use Rattle.cell_slots.specs.Spending.{base_count, row_count, ReachesOnly, Spends}
+use Rattle.cell_slots.specs.Spending.{base_count, row_count, ReachesOnly, Spends, StandsBehind}
 use Rattle.cell_slots.proofs.DeclaredLemmas.{declared_once, has_rank}
+use Rattle.cell_table.specs.Moves.{Evicts, IsEvicted}
 use Rattle.scan_core.specs.Rights.{AreRight, Contents}
-use Rattle.scan_core.specs.Cells.{KeepsLast}
-use Rattle.scan_core.specs.Worlds.{ReachesPush}
+use Rattle.scan_core.specs.Cells.{HoldsAt, KeepsLast}
+use Rattle.scan_core.specs.Worlds.{LeavesAdvanced, ReachesPush}
 use Rattle.scan_core.proofs.RightLemmas.{one_rank}
 
 -- what was declared is a join
@@ -129,4 +130,28 @@ stays_after h p range place s before mid after limit added entered unused same_l
       held = keeps id s.position held used stays.is.held (omega (arith, few, same_limit));
       ready = stays.is.ready;
       whole = stays.is.whole;
+    }
+
+left_or_free : (mid after : List Slot) (id at : ℕ) (s : KeptRange) → HoldsAt mid id at s → (slice_get after id ≡ slice_get mid id) ⊎ IsEvicted mid after id → HoldsAt after id at s ⊎ (slice_get after id ≡ Some Free)
+left_or_free mid after id at s held (inl same) = inl (same ∙ held)
+left_or_free mid after id at s held (inr gone) = inr gone.free
+
+-- what a cell held behind, with the rank of its join, was advanced: the cell holds what that leaves, or was freed
+pub behind_after : (h : History) (p : ℕ) (range : Range) (place : ℕ) (s : DeclaredJoin) (before mid : Holdings) (after : List Slot) (added : ℕ) → HasEntered h → is_range range.low range.high ≡ true →
+    Spends h before mid p range 8 added → Evicts mid.slots after → ReachesPush (joins_of (take p h)) range place s → is_open range ≡ true →
+    (id q : ℕ) (held : KeptRange) → StandsAs h p s.position held.rank s.join → StandsBehind h before.slots id s.position q p range held →
+    LeavesAdvanced h after id s.position q p range held (2 + base_count h p range + length (pairs_within range (state (take p h)))) added
+behind_after h p range place s before mid after added entered is spends evicts reach not_empty id q held stands behind =
+    let joins = joins_of (take p h) in
+    let rank = slice_index (ranks_of joins) place in
+    let same : held.rank ≡ rank = one_rank (take p h) s.join held.rank rank (has_entered_taken p h entered) (has_rank h p s.position held.rank s.join stands) (record { place = place; standing = s; stands = reach.one.stands; is = refl; ranked = refl }) in
+    let advances = spends.behind rank s (reaches_only h p range place s entered reach) not_empty id q held same behind in
+    let few = advances.few in
+    let whole = one_reached_length (take p h) range place s (has_entered_taken p h entered) is reach.one in
+    record {
+      state = advances.holds.state;
+      beside = advances.beside;
+      few = omega (arith, few, whole);
+      was = advances.holds.was;
+      left = left_or_free mid.slots after id s.position advances.holds.state advances.holds.held (evicts.each id);
     }

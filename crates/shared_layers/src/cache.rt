@@ -41,11 +41,11 @@ impl<'a, N: Naming, W: Wait, G: Gate, R: Stacked<N>> RangeCache<R> for Room<'a, 
 
     ghost left_looked = { λ _ _ _ on. on };
 
-    ghost cost_of_part = { λ _ _ _ _ _ _ _ _ _ _ _ _ _ _ _. tt };
+    ghost cost_of_part = { λ _ _ _ _ _ _ _ _ _ _ _ _ _ _ _ _ _. tt };
 
     ghost cost_of_parts = { λ _ _ _ _ _ _ _ _ _ _ _ _ _. tt };
 
-    ghost spends_next = { λ _ _ _ _ _ _ _ _ _ _ _ _ _ _ _. tt };
+    ghost spends_next = { λ _ _ _ _ _ _ _ _ _ _ _ _ _ _ _ _. tt };
 
     fn alloc(&self) -> Global {
         self.alloc

@@ -84,7 +84,6 @@ pub returns-clause-spent : goal.returns-clause-spent
 returns-clause-spent g c =
     let list = g.R.Reader.list in
     let prefix = prefix_trans (list c.args.reader.now) (list c.pairs.new.self) (list c.reached.new.reader) c.pairs.ensures.kept c.reached.ensures.moves.kept in
-    let same = take_prefix c.args.p (list c.args.reader.now) (list c.reached.new.reader) c.requires.within prefix in
     IfOk-weaker c.add_outputs.result _ _ (λ all spends.
     g.met.C.RangeCache.spends_next c.args.reader.now c.pairs.new.self c.reached.new.reader c.add_outputs.new.reader c.args.p c.args.range.now c.args.rank (c.pairs.new.steps - c.args.steps.now) (c.add_outputs.new.steps - c.pairs.new.steps)
-    (c.add_outputs.new.steps - c.args.steps.now) (omega (arith, c.pairs.ensures.counted, c.add_outputs.ensures.counted)) same c.in_ok-pairs.ensures.spent c.reached.ensures.moves.on spends) c.add_outputs.ensures.spent
+    (c.add_outputs.new.steps - c.args.steps.now) (omega (arith, c.pairs.ensures.counted, c.add_outputs.ensures.counted)) c.requires.within prefix c.in_ok-pairs.ensures.spent c.reached.ensures.moves.on spends) c.add_outputs.ensures.spent

@@ -51,5 +51,5 @@ returns-clause-spent g c =
     c.in_ok-parts.ensures.covered
     (λ part is. c.read_parts.ensures.took part (c.as_slice.ensures.value ∙ is))
     (IfOk-weaker c.read_parts.result _ _ (λ pairs is. ap length (is j stands)) (returns-clause-output g c))
-    (λ part covered took. g.met.C.RangeCache.cost_of_part a b d at rank p range part j rows added stands refl covered took)
+    (λ part covered took. g.met.C.RangeCache.cost_of_part a b d at rank p range part j rows added c.requires.within c.cover.ensures.moves.kept stands refl covered took)
     (λ several covered. g.met.C.RangeCache.cost_of_parts a b d at rank p range c.in_ok-parts.parts.items j added stands covered several))

@@ -6,7 +6,7 @@ use Rattle.rank_layers.proofs.own_cells.OwnCellsRangeCache.cover.Goals as goal
 
 pub returns-clause-covered : goal.returns-clause-covered
 returns-clause-covered g c =
-    ok_both c.cover.result _ _ _ (λ parts ready reserved. record { ready = ready; ranked = c.cover.ensures.ranked; reserved = reserved; pulled = c.cover.ensures.pulled }) c.cover.ensures.ready c.cover.ensures.reserved
+    ok_both c.cover.result _ _ _ (λ parts alone reserved. record { alone = alone; ranked = c.cover.ensures.ranked; reserved = reserved; pulled = c.cover.ensures.pulled }) c.cover.ensures.alone c.cover.ensures.reserved
 
 pub returns-clause-moves : goal.returns-clause-moves
 returns-clause-moves g c =

@@ -1,18 +1,17 @@
 use Rattle.std.proofs.Common.{◌≡◌, ℕ, true, IfOk, is_some, sym, ap, subst}
-use Rattle.std.specs.Option.{option_and_then}
 use Rattle.std.proofs.lemmas.Result.{IfOk-weaker}
 use Rattle.semantics.specs.Texts.{table_of}
 use Rattle.semantics.specs.Joins.{Join, push}
 use Rattle.key_ranges.specs.Ranges.{is_open}
 use Rattle.key_ranges.specs.Containing.{bind_range}
 use Rattle.growing_history.proofs.EnteredLemmas.{has_entered_taken}
-use Rattle.kept_ranges.specs.Sound.{KeptRange}
-use Rattle.cell_slots.specs.Slots.{Frame, IsReached, IsReadySlot, place_of, StandsAs}
-use Rattle.cell_slots.specs.Spending.{CoversReady, MayKeep, Reserves}
+use Rattle.cell_slots.specs.Places.{LiesInPlace}
+use Rattle.cell_slots.specs.Slots.{Frame, IsReached, IsReadySlot, place_at, StandsAs}
+use Rattle.cell_slots.specs.Spending.{CoversAlone, MayKeep, Reserves}
 use Rattle.cell_slots.proofs.DeclaredLemmas.{declared_once}
 use Rattle.cell_table.specs.Stores.{Store}
 use Rattle.scan_core.specs.Rights.{Contents, contents_of}
-use Rattle.scan_core.proofs.LendingLemmas.{ready_over, reserves_over, frame_over}
+use Rattle.scan_core.proofs.LendingLemmas.{alone_over, reserves_over, frame_over}
 use Rattle.scan_core.proofs.RightLemmas.{places_of_table, reached_table, ready_rank, right_reserved}
 use Rattle.scan_core.proofs.contents.CoreCells.cover.Goals as goal
 
@@ -32,13 +31,13 @@ invariant_of-self c =
     right_reserved c.self.inside.base c.self.inside.cells.holdings c.cover.new.self.holdings c.args.at c.args.rank c.declared-join.result.now c.args.range.now c.cover.ensures.slots c.declared-join.ensures c.look_at.ensures.range
     (reached_table c.declared-join.result.now c.args.range.now c.look_at.ensures.join c.look_at.ensures.range reaches) c.self.invariant
 
-pub returns-clause-ready : goal.returns-clause-ready
-returns-clause-ready c =
+pub returns-clause-alone : goal.returns-clause-alone
+returns-clause-alone c =
     let after = (contents_of c.self.inside.base c.cover.new.self).cells in
-    subst (λ (v : Contents). IfOk c.cover.result (λ parts. (id : ℕ) (s : KeptRange) → is_open c.args.range.now ≡ true → IsReadySlot v.cells.slots id c.args.at c.args._p c.args.range.now s →
-    CoversReady v.cells after id c.args.range.now parts.items)) c.self.view_is
-    (IfOk-weaker c.cover.result _ _ (λ parts covers. λ id s not_empty ready. ready_over c.self.inside.base c.self.inside.cells c.cover.new.self id c.args.range.now parts.items c.cover.ensures.same_limit
-    (covers id not_empty (record { place = s.range; kept = ap (option_and_then place_of) ready.held; inside = ready.whole }))) c.cover.ensures.ready)
+    subst (λ (v : Contents). IfOk c.cover.result (λ parts. (id : ℕ) → is_open c.args.range.now ≡ true → LiesInPlace (place_at v.cells.slots) id c.args.at c.args.range.now →
+    CoversAlone v.cells after id c.args.range.now parts.items)) c.self.view_is
+    (IfOk-weaker c.cover.result _ _ (λ parts covers. λ id not_empty lies. alone_over c.self.inside.base c.self.inside.cells c.cover.new.self id c.args.range.now parts.items c.cover.ensures.same_limit (covers id not_empty lies))
+    c.cover.ensures.alone)
 
 pub returns-clause-reserved : goal.returns-clause-reserved
 returns-clause-reserved c =

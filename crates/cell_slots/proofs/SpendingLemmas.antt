@@ -15,13 +15,13 @@ use Rattle.kept_ranges.specs.Sound.{KeptRange}
 use Rattle.range_state.specs.Held.{forgotten}
 use Rattle.range_serving.proofs.AdvancedLemmas.{mended_counted}
 use Rattle.range_serving.proofs.CountingLemmas.{forward_counted}
-use Rattle.range_serving.proofs.LongerLemmas.{advanced_before, bare_all}
+use Rattle.range_serving.proofs.LongerLemmas.{advanced_before, bare_all, mended_before}
 use Rattle.cell_slots.specs.declared.slot.Part.{Part}
 use Rattle.cell_slots.specs.declared.slot.Slot.{Slot}
 use Rattle.cell_slots.specs.declared.slot.Slot.TheVariants.{Free, Held}
 use Rattle.cell_slots.specs.Places.{LiesInPlace}
 use Rattle.cell_slots.specs.Slots.{Holdings, HoldsReady, IsReadySlot, place_at, place_of, StandsAs}
-use Rattle.cell_slots.specs.Spending.{base_count, row_count, AdvancesWithin, Covers, HoldsAdvanced, JoinsSpend, KeepsJust, MayKeep, OneSpends, ReachesOnly, Spends, StandsBehind, StaysReady, Took}
+use Rattle.cell_slots.specs.Spending.{base_count, row_count, AdvancesWithin, Covers, HoldsAdvanced, HoldsMended, JoinsSpend, KeepsJust, MayKeep, MendsWithin, OneSpends, ReachesOnly, Spends, StandsBehind, StandsPending, StaysReady, Took}
 use Rattle.cell_slots.proofs.FrameLemmas.{get-set_same}
 
 -- ---- one join
@@ -64,6 +64,14 @@ holds_before h more slots id at q p range s before after within prefix less is =
   was = advanced_before h more q p range s is.state before after prefix within (omega (arith, less)) is.was;
 }
 
+-- and what was mended
+mended_over_list : (h more : History) (slots : List Slot) (id at p : ℕ) (range : Range) (s : KeptRange) (before after : ℕ) → p ≤ length h → IsPrefix h more → HoldsMended more slots id at p range s before after → HoldsMended h slots id at p range s before after
+mended_over_list h more slots id at p range s before after within prefix is = record {
+  state = is.state;
+  held = is.held;
+  was = mended_before h more p range s is.state before after prefix within is.was;
+}
+
 -- what is spent where a range was covered by one part and that was read
 pub cost_of_part : (h more : History) (a b c : Holdings) (at rank p : ℕ) (range : Range) (part : Part) (j : Join) (n m : ℕ) → p ≤ length h → IsPrefix h more → StandsAs h p at rank j → n ≡ row_count h p range rank j →
     Covers h a b at rank p range (part ∷ []) → Took more b c at rank p part n m → OneSpends h a c p range rank at j m
@@ -88,6 +96,14 @@ cost_of_part h more a b c at rank p range part j n m within prefix stands rows c
       let was : HoldsAdvanced more c.slots id at q p part.range s (1 + n) m = took.behind id q s (ap (λ (x : Part). x.cell) one) ranked (subst (λ r. StandsBehind more b.slots id at q p r s) (sym same) here) in
       holds_before h more c.slots id at q p range s (1 + row_count h p range rank j) m within prefix is.behind
       (subst (λ (w : Range × ℕ). HoldsAdvanced more c.slots id at q p w.0 s (1 + w.1) m) (λ i. (same i, rows i)) was);
+  pending = λ id s opened ranked is.
+      let alone = covers.alone id opened (lies_held a.slots id at range s is.held is.whole) in
+      let one = same_part part (record { range = range; cell = Some id }) alone.one in
+      let same : part.range ≡ range = ap (λ (x : Part). x.range) one in
+      let here : StandsPending b.slots id at p range s = subst (λ (cells : Holdings). StandsPending cells.slots id at p range s) (sym alone.still) is in
+      let was : HoldsMended more c.slots id at p part.range s (1 + n) m = took.pending id s (ap (λ (x : Part). x.cell) one) ranked (subst (λ r. StandsPending b.slots id at p r s) (sym same) here) in
+      mended_over_list h more c.slots id at p range s (1 + row_count h p range rank j) m within prefix
+      (subst (λ (w : Range × ℕ). HoldsMended more c.slots id at p w.0 s (1 + w.1) m) (λ i. (same i, rows i)) was);
   kept = λ opened may.
       let reserves = covers.reserved j stands opened may in
       let is = same_part part (record { range = range; cell = Some reserves.id }) reserves.one in
@@ -106,6 +122,7 @@ cost_of_parts h a b c at rank p range parts j m stands covers several = record {
   used = λ opened holds. absurd (several (ap length (covers.alone holds.id opened (lies_ready a.slots holds.id at p range holds.state holds.is)).one));
   stays = λ id s opened is. absurd (several (ap length (covers.alone id opened (lies_ready a.slots id at p range s is)).one));
   behind = λ id q s opened ranked is. absurd (several (ap length (covers.alone id opened (lies_held a.slots id at range s is.held is.whole)).one));
+  pending = λ id s opened ranked is. absurd (several (ap length (covers.alone id opened (lies_held a.slots id at range s is.held is.whole)).one));
   kept = λ opened may. absurd (several (ap length (covers.reserved j stands opened may).one));
 }
 
@@ -121,6 +138,9 @@ one_spends_over h more before after p range rank at j added within prefix one =
           subst (λ (l : History). HoldsAdvanced h after.slots id at q p range s (1 + length (pairs_within range (out j (below l rank)))) added) same
           (holds_before h more after.slots id at q p range s (1 + row_count more p range rank j) added within prefix is.behind
           (one.behind id q s opened ranked (behind_longer h more before before id at q p range s within prefix refl is)));
+      pending = λ id s opened ranked is.
+          subst (λ (l : History). HoldsMended h after.slots id at p range s (1 + length (pairs_within range (out j (below l rank)))) added) same
+          (mended_over_list h more after.slots id at p range s (1 + row_count more p range rank j) added within prefix (one.pending id s opened ranked is));
       kept = one.kept;
     }
 
@@ -160,6 +180,18 @@ advances_after h slots id at q p range s n m k rows most sum few is = record {
   beside = n + (1 + rows);
   few = few;
   holds = subst (λ (x : ℕ). HoldsAdvanced h slots id at q p range s (n + (1 + rows)) x) (sym sum) (holds_later h slots id at q p range s n (1 + rows) m is);
+}
+
+-- so it is of what was mended
+mends_after : (h : History) (slots : List Slot) (id at p : ℕ) (range : Range) (s : KeptRange) (n m k rows most : ℕ) → k ≡ n + m → n + (1 + rows) ≤ most → HoldsMended h slots id at p range s (1 + rows) m → MendsWithin h slots id at p range s most k
+mends_after h slots id at p range s n m k rows most sum few is = record {
+  beside = n + (1 + rows);
+  few = few;
+  holds = subst (λ (x : ℕ). HoldsMended h slots id at p range s (n + (1 + rows)) x) (sym sum) (record {
+    state = is.state;
+    held = is.held;
+    was = mended_counted h p range s is.state (1 + rows) m (n + (1 + rows)) (n + m) (λ steps low. omega (arith, low)) (λ steps up. omega (arith, up)) is.was;
+  });
 }
 
 -- below the next rank: what is spent below the rank, and by its joins
@@ -209,6 +241,21 @@ next_spends h a b c p range rank n m k sum first joins = record {
         let count : n ≡ k = omega (arith, none, sum) in
         subst (λ (w : Holdings × ℕ). AdvancesWithin h w.0.slots id s.position q p range kept (2 + base_count h p range + row_count h p range rk s.join) w.1) (λ i. (sym here.1 i, count i))
         (first.behind rk s (lower_only rk s only apart) opened id q kept ranked is)
+  ];
+  pending = λ rk s only opened id kept ranked is. elim (cases_eq rk rank) [
+    | inl e ↦
+        let none = lower_none rk s only e in
+        let one : OneSpends h b c p range rank s.position s.join m = one_of h b c p range rank m (reached range rank (joins_of (take p h))) s (subst (λ r. reached range r (joins_of (take p h)) ≡ s ∷ []) e only.one) joins in
+        let lower : n ≤ 1 + base_count h p range = first.none none in
+        let rows : row_count h p range rk s.join ≡ row_count h p range rank s.join = ap (λ r. row_count h p range r s.join) e in
+        mends_after h c.slots id s.position p range kept n m k (row_count h p range rank s.join) (2 + base_count h p range + row_count h p range rk s.join) sum (omega (arith, lower, rows))
+        (one.pending id kept opened (ranked ∙ e) (subst (λ cells. StandsPending cells.slots id s.position p range kept) (sym (first.still none)) is))
+    | inr apart ↦
+        let here = none_take h b c p range rank m (reached range rank (joins_of (take p h))) (only.alone rank (omega arith) (λ e. apart (sym e))) joins in
+        let none : m ≡ 0 = here.0 in
+        let count : n ≡ k = omega (arith, none, sum) in
+        subst (λ (w : Holdings × ℕ). MendsWithin h w.0.slots id s.position p range kept (2 + base_count h p range + row_count h p range rk s.join) w.1) (λ i. (sym here.1 i, count i))
+        (first.pending rk s (lower_only rk s only apart) opened id kept ranked is)
   ];
   kept = λ rk s only opened may. elim (cases_eq rk rank) [
     | inl e ↦

@@ -91,18 +91,25 @@ pub record HoldsMended (h : History) (slots : List Slot) (id at p : ℕ) (part :
   pub held : slice_get slots id ≡ Some (Held at state)
   pub was : WasMended h p part s state before after
 
+-- what such a slot held was mended, with so many steps beside what that costs, and no more than some number
+pub record MendsWithin (h : History) (slots : List Slot) (id at p : ℕ) (range : Range) (s : KeptRange) (most added : ℕ) : Type 0 where
+  pub beside : ℕ
+  pub few : beside ≤ most
+  pub holds : HoldsMended h slots id at p range s beside added
+
 -- a range may be kept: its join is a push join, a cell is free, and none keeps a part of the range
 pub record MayKeep (slots : List Slot) (at : ℕ) (j : Join) (range : Range) : Type 0 where
   pub pushed : j.kind ≡ push
   pub free : HasFree slots
   pub apart : MeetsNone slots at range
 
--- reading what one join gives in a range: where a cell can be read over it, it costs one step and its rows, and the cell stays; what a cell of the join's rank holds behind is advanced, and mended where something is pending then; where it may be kept, a cell holds it afterwards
+-- reading what one join gives in a range: where a cell can be read over it, it costs one step and its rows, and the cell stays; what a cell of the join's rank holds behind is advanced, and mended where something is pending then; what it holds there with something pending is mended; where it may be kept, a cell holds it afterwards
 pub record OneSpends (h : History) (before after : Holdings) (p : ℕ) (range : Range) (rank at : ℕ) (j : Join) (added : ℕ) : Type 0 where
   pub used : is_open range ≡ true → HoldsReady before.slots at p range → added ≤ 1 + row_count h p range rank j
   pub stays : (id : ℕ) (s : KeptRange) → is_open range ≡ true → IsReadySlot before.slots id at p range s → StaysReady before after id at p range s
   pub behind : (id q : ℕ) (s : KeptRange) → is_open range ≡ true → s.rank ≡ rank → StandsBehind h before.slots id at q p range s →
       HoldsAdvanced h after.slots id at q p range s (1 + row_count h p range rank j) added
+  pub pending : (id : ℕ) (s : KeptRange) → is_open range ≡ true → s.rank ≡ rank → StandsPending before.slots id at p range s → HoldsMended h after.slots id at p range s (1 + row_count h p range rank j) added
   pub kept : is_open range ≡ true → MayKeep before.slots at j range → KeepsJust before after rank at p range
 
 -- a range is covered by parts: by the cell alone in whose place it lies, and where it may be kept by a cell that was free; for a pull join no cell changes
@@ -142,5 +149,7 @@ pub record Spends (h : History) (before after : Holdings) (p : ℕ) (range : Ran
       StaysReady before after id s.position p range kept
   pub behind : (rank : ℕ) (s : DeclaredJoin) → ReachesOnly (joins_of (take p h)) range top rank s → is_open range ≡ true → (id q : ℕ) (kept : KeptRange) → kept.rank ≡ rank →
       StandsBehind h before.slots id s.position q p range kept → AdvancesWithin h after.slots id s.position q p range kept (2 + base_count h p range + row_count h p range rank s.join) added
+  pub pending : (rank : ℕ) (s : DeclaredJoin) → ReachesOnly (joins_of (take p h)) range top rank s → is_open range ≡ true → (id : ℕ) (kept : KeptRange) → kept.rank ≡ rank →
+      StandsPending before.slots id s.position p range kept → MendsWithin h after.slots id s.position p range kept (2 + base_count h p range + row_count h p range rank s.join) added
   pub kept : (rank : ℕ) (s : DeclaredJoin) → ReachesOnly (joins_of (take p h)) range top rank s → is_open range ≡ true → MayKeep before.slots s.position s.join range →
       KeepsJust before after rank s.position p range

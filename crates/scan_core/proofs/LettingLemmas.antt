@@ -15,7 +15,7 @@ use Rattle.cell_slots.specs.declared.slot.Slot.{Slot}
 use Rattle.cell_slots.specs.declared.slot.Slot.TheVariants.{Free, Lent, Held}
 use Rattle.cell_slots.specs.Places.{KeepsPlace}
 use Rattle.cell_slots.specs.Slots.{Holdings, with_slot, place_at, place_of, Frame, HasFree, IsReadySlot, HoldsReady, IsRankAt, IsRightFor, MeetsNone, StandsAs}
-use Rattle.cell_slots.specs.Spending.{row_count, StandsBehind}
+use Rattle.cell_slots.specs.Spending.{row_count, StandsBehind, StandsPending}
 use Rattle.cell_slots.proofs.DeclaredLemmas.{declared_once, has_rank, rank_declared, stands_as}
 use Rattle.cell_slots.proofs.FrameLemmas.{get-set_same, get-set_other}
 use Rattle.cell_slots.proofs.PlaceLemmas.{place_from_slot}
@@ -143,6 +143,15 @@ still_behind h p at q j range a b id s stands goes is = record {
   bare = is.bare;
 }
 
+-- so it does where something is pending
+still_pending : (h : History) (p at : ℕ) (j : Join) (range : Range) (a b : Holdings) (id : ℕ) (s : KeptRange) → StandsAs h p at s.rank j → LetsGo h p a b → StandsPending a.slots id at p range s → StandsPending b.slots id at p range s
+still_pending h p at j range a b id s stands goes is = record {
+  held = ready_by h p a.slots b.slots id at s (j, stands.stands) is.held (goes.each id);
+  whole = is.whole;
+  stands = is.stands;
+  meets = is.meets;
+}
+
 -- ---- a piece
 
 -- what a piece leaves and costs, where cells let go before it
@@ -160,6 +169,8 @@ piece_over h before gone after p range added entered right goes spends = record 
       (subst (λ (n : ℕ). length held.kept.rows + 1 ≤ n) (sym (ap (λ x. x.room) goes.same_setting)) few);
   behind = λ place s reach not_empty id q held stands is_behind.
       spends.behind place s reach not_empty id q held stands (still_behind h p s.position q s.join range before gone id held stands goes is_behind);
+  pending = λ place s reach not_empty id held stands is_pending.
+      spends.pending place s reach not_empty id held stands (still_pending h p s.position s.join range before gone id held stands goes is_pending);
 }
 
 unlent_by : (a b : List Slot) (id at : ℕ) (range : Range) → (slice_get b id ≡ slice_get a id) ⊎ IsEvicted a b id → slice_get b id ≡ Some (Lent at range) → slice_get a id ≡ Some (Lent at range)

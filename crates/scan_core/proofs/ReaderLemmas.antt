@@ -18,7 +18,7 @@ use Rattle.range_serving.specs.Serving.{MendsPart, WasMended}
 use Rattle.cell_slots.specs.declared.slot.Slot.{Slot}
 use Rattle.cell_slots.specs.declared.slot.Slot.TheVariants.{Lent, Held}
 use Rattle.cell_slots.specs.Slots.{Holdings, with_slot, KeepPlaces, Frame, HasFree, MeetsNone, IsReadySlot, HoldsReady, IsDeclared, IsRightFor}
-use Rattle.cell_slots.specs.Spending.{Spends, StandsBehind}
+use Rattle.cell_slots.specs.Spending.{Spends, StandsBehind, StandsPending}
 use Rattle.cell_slots.proofs.DeclaredLemmas.{declared_over_longer}
 use Rattle.cell_slots.proofs.FrameLemmas.{get-set_same, get-set_other, places_around}
 use Rattle.cell_table.specs.Moves.{Evicts}
@@ -28,7 +28,7 @@ use Rattle.scan_core.specs.Rights.{AreRight, Contents}
 use Rattle.scan_core.specs.Worlds.{NoneLent, IsAdvancedIn, IsMendedIn, PieceSpends}
 use Rattle.scan_core.proofs.RightLemmas.{one_rank}
 use Rattle.scan_core.proofs.LettingLemmas.{held_state_same}
-use Rattle.scan_core.proofs.SpendLemmas.{behind_after, index_stands, rank_within, kept_after, used_after, stays_after}
+use Rattle.scan_core.proofs.SpendLemmas.{behind_after, index_stands, kept_after, pending_after, rank_within, stays_after, used_after}
 
 -- what was found is what was taken out
 pub taken_out : (h : History) (id : ℕ) (before after : Holdings) (found : Option (ℕ × KeptRange)) (at : ℕ) (s : KeptRange) → found ≡ Some (at, s) → IsTaken h id before after found → IsTakenOut h id before after at s
@@ -175,4 +175,6 @@ piece_from h read before cleared mid after p range added same slots unused setti
           id held (subst (λ xs. IsReadySlot xs id s.position p range held) (sym slots) is_ready) few;
       behind = λ place s reach not_empty id q held stands behind.
           behind_after h p range place s cleared mid.cells after.slots added entered_h is spends_h evicts reach not_empty id q held stands (subst (λ xs. StandsBehind h xs id s.position q p range held) (sym slots) behind);
+      pending = λ place s reach not_empty id held stands pending.
+          pending_after h p range place s cleared mid.cells after.slots added entered_h is spends_h evicts reach not_empty id held stands (subst (λ xs. StandsPending xs id s.position p range held) (sym slots) pending);
     }

@@ -21,12 +21,12 @@ use Rattle.kept_ranges.proofs.ReadLemmas.{rows_are_output}
 use Rattle.cell_slots.specs.declared.slot.Slot.{Slot}
 use Rattle.cell_slots.specs.declared.slot.Slot.TheVariants.{Free, Held}
 use Rattle.cell_slots.specs.Slots.{Holdings, IsDeclared, StandsAs, HasFree, MeetsNone, IsReadySlot, HoldsReady, HoldsJust, IsRightFor}
-use Rattle.cell_slots.specs.Spending.{base_count, row_count, ReachesOnly, Spends, StandsBehind}
+use Rattle.cell_slots.specs.Spending.{base_count, row_count, ReachesOnly, Spends, StandsBehind, StandsPending}
 use Rattle.cell_slots.proofs.DeclaredLemmas.{declared_once, has_rank}
 use Rattle.cell_table.specs.Moves.{Evicts, IsEvicted}
 use Rattle.scan_core.specs.Rights.{AreRight, Contents}
 use Rattle.scan_core.specs.Cells.{HoldsAt, KeepsLast}
-use Rattle.scan_core.specs.Worlds.{LeavesAdvanced, ReachesPush}
+use Rattle.scan_core.specs.Worlds.{LeavesAdvanced, LeavesMended, ReachesPush}
 use Rattle.scan_core.proofs.RightLemmas.{one_rank}
 
 -- what was declared is a join
@@ -154,4 +154,24 @@ behind_after h p range place s before mid after added entered is spends evicts r
       few = omega (arith, few, whole);
       was = advances.holds.was;
       left = left_or_free mid.slots after id s.position advances.holds.state advances.holds.held (evicts.each id);
+    }
+
+-- so it is of what stood there with something pending, which was mended
+pub pending_after : (h : History) (p : ℕ) (range : Range) (place : ℕ) (s : DeclaredJoin) (before mid : Holdings) (after : List Slot) (added : ℕ) → HasEntered h → is_range range.low range.high ≡ true →
+    Spends h before mid p range 8 added → Evicts mid.slots after → ReachesPush (joins_of (take p h)) range place s → is_open range ≡ true →
+    (id : ℕ) (held : KeptRange) → StandsAs h p s.position held.rank s.join → StandsPending before.slots id s.position p range held →
+    LeavesMended h after id s.position p range held (2 + base_count h p range + length (pairs_within range (state (take p h)))) added
+pending_after h p range place s before mid after added entered is spends evicts reach not_empty id held stands pending =
+    let joins = joins_of (take p h) in
+    let rank = slice_index (ranks_of joins) place in
+    let same : held.rank ≡ rank = one_rank (take p h) s.join held.rank rank (has_entered_taken p h entered) (has_rank h p s.position held.rank s.join stands) (record { place = place; standing = s; stands = reach.one.stands; is = refl; ranked = refl }) in
+    let mends = spends.pending rank s (reaches_only h p range place s entered reach) not_empty id held same pending in
+    let few = mends.few in
+    let whole = one_reached_length (take p h) range place s (has_entered_taken p h entered) is reach.one in
+    record {
+      state = mends.holds.state;
+      beside = mends.beside;
+      few = omega (arith, few, whole);
+      was = mends.holds.was;
+      left = left_or_free mid.slots after id s.position mends.holds.state mends.holds.held (evicts.each id);
     }

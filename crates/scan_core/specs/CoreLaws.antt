@@ -20,5 +20,6 @@ bottom_spends a b p range rank added so = record {
   used = λ r s only not_empty ready. absurd (omega (arith, so.bottom, only.is_below));
   stays = λ r s only not_empty id kept is. absurd (omega (arith, so.bottom, only.is_below));
   behind = λ r s only not_empty id q kept ranked is. absurd (omega (arith, so.bottom, only.is_below));
+  pending = λ r s only not_empty id kept ranked is. absurd (omega (arith, so.bottom, only.is_below));
   kept = λ r s only not_empty may. absurd (omega (arith, so.bottom, only.is_below));
 }

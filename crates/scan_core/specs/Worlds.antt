@@ -12,14 +12,14 @@ use Rattle.kept_ranges.specs.Sound.{KeptRange}
 use Rattle.range_state.specs.Ready.{StandsAt, pending_meets}
 use Rattle.source_changes.specs.Asking.{AreBareThroughout}
 use Rattle.range_state.specs.Work.{AreBareUnder, TouchesLittle, advance_steps, mend_steps}
-use Rattle.range_serving.specs.Serving.{MendsPart, WasAdvanced}
+use Rattle.range_serving.specs.Serving.{MendsPart, WasAdvanced, WasMended}
 use Rattle.core_events.specs.Events.{Event, Done, brought, mended, evicted, nothing, append, begin, piece, advance, mend, evict, finish}
 use Rattle.core_events.specs.Plain.{World, Scan, scan_of, goes_on, freed, step}
 use Rattle.core_events.specs.PlainLaws.{AnswersAs, LookAlike}
 use Rattle.cell_slots.specs.declared.slot.Slot.{Slot}
 use Rattle.cell_slots.specs.declared.slot.Slot.TheVariants.{Free, Lent}
 use Rattle.cell_slots.specs.Slots.{KeepPlaces, Holdings, IsRankAt, StandsAs, HasFree, MeetsNone, IsReadySlot, HoldsReady, HoldsJust}
-use Rattle.cell_slots.specs.Spending.{base_count, row_count, StandsBehind}
+use Rattle.cell_slots.specs.Spending.{base_count, row_count, StandsBehind, StandsPending}
 use Rattle.scan_core.specs.Cells.{HoldsAt, IsHeldAt, HoldsNothing}
 use Rattle.scan_core.specs.Progress.{next_range}
 
@@ -115,7 +115,15 @@ pub record LeavesAdvanced (h : History) (slots : List Slot) (id at q p : ℕ) (r
   pub was : WasAdvanced h q p range s state beside added
   pub left : HoldsAt slots id at state ⊎ (slice_get slots id ≡ Some Free)
 
--- a piece of a scan after p entries over a range that is not empty and reaches one output alone, with so many steps: where that join has rank 0 and may be kept, a cell holds just the range afterwards; where a cell could be read over it, it took at most two steps beside the range's base pairs and its pairs of the state, and a cell that could be read over it holds the same afterwards, where that fits the limit by itself; and what a cell that has the range held behind, with the rank that its join has, is advanced, and mended where something is pending then, with no more steps beside
+-- so it was of what stood there with something pending, which was mended
+pub record LeavesMended (h : History) (slots : List Slot) (id at p : ℕ) (range : Range) (s : KeptRange) (most added : ℕ) : Type 0 where
+  pub state : KeptRange
+  pub beside : ℕ
+  pub few : beside ≤ most
+  pub was : WasMended h p range s state beside added
+  pub left : HoldsAt slots id at state ⊎ (slice_get slots id ≡ Some Free)
+
+-- a piece of a scan after p entries over a range that is not empty and reaches one output alone, with so many steps: where that join has rank 0 and may be kept, a cell holds just the range afterwards; where a cell could be read over it, it took at most two steps beside the range's base pairs and its pairs of the state, and a cell that could be read over it holds the same afterwards, where that fits the limit by itself; and what a cell that has the range held behind, with the rank that its join has, is advanced, and mended where something is pending then, with no more steps beside; what it held there with something pending is mended so
 pub record PieceSpends (h : History) (before after : Holdings) (p : ℕ) (range : Range) (added : ℕ) : Type 0 where
   pub kept : (place : ℕ) (s : DeclaredJoin) → ReachesPush (joins_of (take p h)) range place s → is_open range ≡ true →
       StandsAs h p s.position 0 s.join → HasFree before.slots → MeetsNone before.slots s.position range → row_count h p range 0 s.join + 1 ≤ before.setting.room →
@@ -129,6 +137,9 @@ pub record PieceSpends (h : History) (before after : Holdings) (p : ℕ) (range 
   pub behind : (place : ℕ) (s : DeclaredJoin) → ReachesPush (joins_of (take p h)) range place s → is_open range ≡ true →
       (id q : ℕ) (held : KeptRange) → StandsAs h p s.position held.rank s.join → StandsBehind h before.slots id s.position q p range held →
       LeavesAdvanced h after.slots id s.position q p range held (2 + base_count h p range + length (pairs_within range (state (take p h)))) added
+  pub pending : (place : ℕ) (s : DeclaredJoin) → ReachesPush (joins_of (take p h)) range place s → is_open range ≡ true →
+      (id : ℕ) (held : KeptRange) → StandsAs h p s.position held.rank s.join → StandsPending before.slots id s.position p range held →
+      LeavesMended h after.slots id s.position p range held (2 + base_count h p range + length (pairs_within range (state (take p h)))) added
 
 -- what each piece that is answered costs and leaves; and what it costs to bring a cell forward: where its kept range stands below, with the rank that its join has at the position, and the ranges of its needs are bare from there on, no more than an advance takes; and to mend one where the ranges that are read for it are bare, no more than a mend takes. A write, the beginning and the end of a scan and an eviction take no step
 abbrev pub StepSpends : Event → CoreWorld → CoreWorld → ℕ → Type 0

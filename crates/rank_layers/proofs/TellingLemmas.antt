@@ -1,5 +1,6 @@
 -- What changed in the outputs of joins, in parts of a range, in a range, and of several joins.
-use Rattle.std.proofs.Common.{◌≡◌, ◌⊎◌, ◌↔◌, ℕ, ◌+◌, ◌<◌, ◌≤◌, true, false, List, [], ◌∷◌, ◌++◌, get_or, length, map, take, slice_get, Contains, Some, Less, sym, ap, ◌∙◌, subst, inl, inr, ⊎_elim, arith}
+use Rattle.std.proofs.Common.{◌≡◌, ◌⊎◌, ◌↔◌, ℕ, ◌+◌, ◌<◌, ◌≤◌, true, false, List, [], ◌∷◌, ◌++◌, get_or, length, map, take, slice_get, Contains, Some, Less, Result, Ok, Err, IfOk, Vec, sym, ap, ◌∙◌, subst, inl, inr, ⊎_elim, arith}
+use Rattle.std.specs.declared.alloc.Global.{Global}
 use Rattle.std.specs.List.{AllByRecursion}
 use Rattle.std.specs.List.Sorted.{IsStrictlySortedBy}
 use Rattle.std.proofs.lemmas.Bool.{and_from, and_parts, cases_Bool, false≢true}
@@ -23,10 +24,14 @@ use Rattle.layering.proofs.PartLemmas.{join_order, within_is_kept}
 use Rattle.join_eval.specs.declared.reading.Changed.{Changed}
 use Rattle.join_eval.specs.declared.reading.Changed.TheVariants.{Keys, All}
 use Rattle.kept_ranges.specs.Sound.{KeptRange}
+use Rattle.range_state.specs.Since.{AnswersSince}
 use Rattle.range_serving.specs.Telling.{TellsOutput}
+use Rattle.cell_slots.specs.declared.slot.Part.{Part}
+use Rattle.cell_slots.specs.declared.slot.Slot.{Slot}
+use Rattle.cell_slots.specs.declared.slot.Slot.TheVariants.{Held}
 use Rattle.cell_slots.specs.Slots.{Holdings, IsDeclared, Takes}
 use Rattle.cell_slots.proofs.DeclaredLemmas.{declared_once}
-use Rattle.rank_layers.specs.Telling.{ListsJoin, TellsJoin, ListsAdded, AddsChanges}
+use Rattle.rank_layers.specs.Telling.{ListsJoin, TellsJoin, ListsAdded, AddsChanges, CanTell, IsUnknownSince}
 use Rattle.rank_layers.proofs.KeyLemmas.{less_from_lt}
 
 -- ---- lists
@@ -186,3 +191,17 @@ pub added_all : (h : History) (q p rank : ℕ) (range : Range) (joins : List Dec
 added_all h q p rank range joins ats i given keys is past lists =
     let long : length ats ≡ length joins = ap length is ∙ length-map joins (λ s. s.position) in
     subst (λ js. ListsAdded h q p rank range js given keys) (take_all i joins (omega (arith, past, long))) lists
+
+-- ---- where it is not known what changed
+
+-- keys are known
+pub keys_known : (keys : Vec Text Global) → Keys keys ≡ All → ⊥
+keys_known keys e = cc
+
+-- what is said of what the cell of a part holds, whatever it answers, says that it does not know where it answers so
+pub unknown_by : {E : Type 0} (r : Result Changed E) (before after : List Slot) (at rank p since : ℕ) (part : Part) →
+    ((id : ℕ) (held : KeptRange) → part.cell ≡ Some id → slice_get before id ≡ Some (Held at held) → CanTell rank p part.range held → IfOk r (λ told. (kept : KeptRange) → slice_get after id ≡ Some (Held at kept) → AnswersSince since part.range kept told)) →
+    IfOk r (λ told. told ≡ All → IsUnknownSince before after at rank p since part)
+unknown_by (Ok told) before after at rank p since part says = λ all id held kept cell stands can there.
+    subst (AnswersSince since part.range kept) all (says id held cell stands can kept there)
+unknown_by (Err e) before after at rank p since part says = tt

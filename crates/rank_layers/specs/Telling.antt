@@ -1,16 +1,18 @@
 -- What is said of what changed in the outputs of joins.
-use Rattle.std.specs.Prelude.{◌≡◌, ℕ, List, Contains, true, Option, Some}
+use Rattle.std.specs.Prelude.{◌≡◌, ℕ, List, map, slice_get, Contains, true, Option, Some}
 use Rattle.std.specs.List.{AllByRecursion}
 use Rattle.std.specs.List.Sorted.{IsStrictlySortedBy}
 use Rattle.semantics.specs.Texts.{Text, text_cmp, Range, within}
 use Rattle.semantics.specs.Joins.{Join}
 use Rattle.semantics.specs.Histories.{History, DeclaredJoin}
-use Rattle.layering.specs.Parts.{IsWithin}
+use Rattle.layering.specs.Parts.{IsWithin, JoinTo}
 use Rattle.layering.specs.Standing.{SameOutput}
 use Rattle.join_eval.specs.declared.reading.Changed.{Changed}
 use Rattle.join_eval.specs.declared.reading.Changed.TheVariants.{Keys, All}
 use Rattle.kept_ranges.specs.Sound.{KeptRange}
+use Rattle.range_state.specs.Since.{is_unknown_since}
 use Rattle.range_serving.specs.Serving.{IsCaughtUp, IsPast}
+use Rattle.cell_slots.specs.declared.slot.Part.{Part}
 use Rattle.cell_slots.specs.declared.slot.Slot.{Slot}
 use Rattle.cell_slots.specs.declared.slot.Slot.TheVariants.{Held}
 
@@ -48,3 +50,24 @@ pub record HoldsCaughtUp (p at : ℕ) (old : KeptRange) (slot : Option Slot) : T
   pub after : KeptRange
   pub holds : slot ≡ Some (Held at after)
   pub advanced : IsCaughtUp p old after
+
+-- ---- where it is not known what changed
+
+-- what the cell of a part holds does not know what changed in it since a position: if it could tell of the part, and its slot holds something of the join afterwards, that does not know it
+abbrev pub IsUnknownSince : List Slot → List Slot → ℕ → ℕ → ℕ → ℕ → Part → Type 0
+IsUnknownSince before after at rank p since part = (id : ℕ) (held kept : KeptRange) → part.cell ≡ Some id → slice_get before id ≡ Some (Held at held) → CanTell rank p part.range held → slice_get after id ≡ Some (Held at kept) →
+    is_unknown_since since part.range kept kept.position ≡ true
+
+-- of one of some things it is not known, as the reader stands that was asked of it: it went on to there from before, and stands after the answer
+pub record IsUnknown {S A : Type 0} (left : S → S → Type 0) (unknown : S → S → A → Type 0) (before after : S) (things : List A) : Type 0 where
+  pub thing : A
+  pub listed : Contains things thing
+  pub asked : S
+  pub on : left before asked
+  pub is : unknown asked after thing
+
+-- so it is of one of the parts into which a range falls
+pub record IsUnknownIn {S A : Type 0} (range_of : A → Range) (left : S → S → Type 0) (unknown : S → S → A → Type 0) (before after : S) (range : Range) : Type 0 where
+  pub parts : List A
+  pub join : JoinTo range (map range_of parts)
+  pub of_one : IsUnknown left unknown before after parts

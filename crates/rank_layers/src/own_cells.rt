@@ -5,6 +5,7 @@ ghost use Rattle.cell_slots.specs.FrameLaws.{frame_refl, frame_trans};
 ghost use Rattle.cell_slots.specs.Spending.{Covers, OneSpends, Spends, Took};
 ghost use Rattle.cell_slots.proofs.FrameLemmas.{frame_of_same, frame_weaker};
 ghost use Rattle.cell_slots.proofs.SpendingLemmas.{cost_of_part, cost_of_parts, spends_next};
+ghost use Rattle.rank_layers.specs.Telling.{IsUnknownSince};
 
 use crate::part::{changes_of_part, read_part};
 use crate::query::Query;
@@ -37,6 +38,8 @@ impl<R: Cells> RangeCache<R> for OwnCells {
     ghost covered = { λ a b at rank p range parts. Covers (R.list a) (R.holdings a) (R.holdings b) at rank p range parts };
 
     ghost took = { λ a b at rank p part rows added. Took (R.list a) (R.holdings a) (R.holdings b) at rank p part rows added };
+
+    ghost unknown = { λ a b at rank p since part. IsUnknownSince (R.holdings a).slots (R.holdings b).slots at rank p since part };
 
     ghost cost_one = { λ a b at rank p range j added. OneSpends (R.list a) (R.holdings a) (R.holdings b) p range rank at j added };
 

@@ -9,6 +9,7 @@ ghost use Rattle.growing_history.specs.Entered.{HasEntered};
 ghost use Rattle.layering.specs.Parts.{JoinTo};
 ghost use Rattle.layering.specs.Reached.{reached};
 ghost use Rattle.join_eval.specs.Answers.{TellsBetween};
+ghost use Rattle.join_eval.specs.declared.reading.Changed.TheVariants.{All};
 ghost use Rattle.join_eval.specs.Moves.{Moves};
 ghost use Rattle.cell_slots.specs.Slots.{IsOutput, IsReached, StandsAs};
 ghost use Rattle.cell_slots.specs.Spending.{JoinsSpend};
@@ -26,8 +27,8 @@ use steps::Steps;
 /// Keeps ranges of the outputs of joins, for a layer that stands on a reader: it has one owner, or threads share it. A join is
 /// named by the position of its declaration, and is of the reader's top rank.
 ///
-/// What a call leaves of the reader beside its list is `left`, what a look at the joins leaves is `looked`, and what reading
-/// costs and leaves is `spends`. That is put together from `covered`, what covering a range leaves, and `took`, what reading
+/// What a call leaves of the reader beside its list is `left`, what a look at the joins leaves is `looked`, that it is not known
+/// what changed in a part is `unknown`, and what reading costs and leaves is `spends`. That is put together from `covered`, what covering a range leaves, and `took`, what reading
 /// a part of it costs and leaves. All are the implementing type's to say.
 pub trait RangeCache<R: Reader> {
     /// A part of a range, with where it is kept, if it is.
@@ -48,6 +49,10 @@ pub trait RangeCache<R: Reader> {
     /// That a part was read for the join that was declared at a position, with a rank, after p entries, with so many pairs and
     /// steps.
     ghost took: { R → R → ℕ → ℕ → ℕ → Self.Part → ℕ → ℕ → Type 0 };
+
+    /// That what is kept of a part does not know what changed since a position in the output of the join that was declared at a
+    /// position, with a rank, after p entries.
+    ghost unknown: { R → R → ℕ → ℕ → ℕ → ℕ → Self.Part → Type 0 };
 
     /// That a range was read for the join that was declared at a position, with a rank, after p entries, with so many steps.
     ghost cost_one: { R → R → ℕ → ℕ → ℕ → Bounds → PlainJoin → ℕ → Type 0 };
@@ -137,6 +142,7 @@ pub trait RangeCache<R: Reader> {
         requires next { R.top ≡ query.rank }
         ensures told { IfOk result (λ told. (j : PlainJoin) → StandsAs (R.list reader.old) query.p query.at query.rank j →
             TellsJoin (R.list reader.old) since query.p query.rank j (range_of part.now) told) }
+        ensures unknown { IfOk result (λ told. told ≡ All → unknown reader.old reader.new query.at query.rank query.p since part.now) }
         ensures moves { Moves R.list R.floor (left (query.rank + 1)) reader.old reader.new }
         ensures counted { steps.old ≤ steps.new };
 

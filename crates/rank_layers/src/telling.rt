@@ -9,8 +9,9 @@ ghost use Rattle.growing_history.specs.Entered.{HasEntered};
 ghost use Rattle.layering.specs.Parts.{JoinTo};
 ghost use Rattle.layering.specs.Reached.{reached};
 ghost use Rattle.join_eval.specs.Moves.{Moves};
+ghost use Rattle.join_eval.specs.declared.reading.Changed.TheVariants.{All};
 ghost use Rattle.cell_slots.specs.Slots.{StandsAs};
-ghost use Rattle.rank_layers.specs.Telling.{AddsChanges, TellsJoin};
+ghost use Rattle.rank_layers.specs.Telling.{AddsChanges, IsUnknown, IsUnknownIn, TellsJoin};
 
 use crate::keys::united;
 use crate::query::Query;
@@ -22,7 +23,7 @@ use std::sync::ledger::Ledger;
 use steps::Steps;
 
 /// What changed in the join's output in parts of a range since a position: the keys of the parts one after another, or `All`
-/// where that is said of some part.
+/// only where that is said of some part.
 fn changes_of_parts<R: Reader, C: RangeCache<R>, L: Ledger>(
     cache: &C,
     query: Query,
@@ -39,6 +40,7 @@ fn changes_of_parts<R: Reader, C: RangeCache<R>, L: Ledger>(
     requires next { R.top ≡ query.rank }
     ensures told { IfOk result (λ told. (j : PlainJoin) (range : Bounds) → StandsAs (R.list reader.old) query.p query.at query.rank j →
         JoinTo range (map C.range_of parts.now) → TellsJoin (R.list reader.old) since query.p query.rank j range told) }
+    ensures unknown { IfOk result (λ told. told ≡ All → IsUnknown (C.left (query.rank + 1)) (λ a b part. C.unknown a b query.at query.rank query.p since part) reader.old reader.new parts.now) }
     ensures moves { Moves R.list R.floor (C.left (query.rank + 1)) reader.old reader.new }
     ensures counted { steps.old ≤ steps.new }
 {
@@ -52,7 +54,7 @@ fn changes_of_parts<R: Reader, C: RangeCache<R>, L: Ledger>(
     Ok(Changed::Keys(all))
 }
 
-/// What changed in the join's output in a range since a position, as what is kept of parts of the range says. `All` comes
+/// What changed in the join's output in a range since a position, as what is kept of parts of the range says. `All` comes only
 /// where that is said of some part.
 fn changes_of_join<R: Reader, C: RangeCache<R>, L: Ledger>(
     cache: &C,
@@ -70,6 +72,7 @@ fn changes_of_join<R: Reader, C: RangeCache<R>, L: Ledger>(
     requires next { R.top ≡ query.rank }
     ensures told { IfOk result (λ told. (j : PlainJoin) → StandsAs (R.list reader.old) query.p query.at query.rank j →
         TellsJoin (R.list reader.old) since query.p query.rank j range.now told) }
+    ensures unknown { IfOk result (λ told. told ≡ All → IsUnknownIn C.range_of (C.left (query.rank + 1)) (λ a b part. C.unknown a b query.at query.rank query.p since part) reader.old reader.new range.now) }
     ensures moves { Moves R.list R.floor (C.left (query.rank + 1)) reader.old reader.new }
     ensures counted { steps.old ≤ steps.new }
 {
@@ -78,7 +81,7 @@ fn changes_of_join<R: Reader, C: RangeCache<R>, L: Ledger>(
 }
 
 /// Adds to keys of a range those of it at which the outputs of joins of a rank may have changed since a position: the joins
-/// are those of the rank that the range reaches, named by the positions of their declarations, in order. `All` comes where it
+/// are those of the rank that the range reaches, named by the positions of their declarations, in order. `All` comes only where it
 /// is said of some join.
 ///
 /// It asks for each join once, and puts each answer into the keys.
@@ -102,6 +105,8 @@ pub fn add_changes<R: Reader, C: RangeCache<R>, L: Ledger>(
     requires ascends { IsStrictlySortedBy text_cmp keys.items }
     requires inside { AllByRecursion (λ key. within range.now key ≡ true) keys.items }
     ensures told { IfOk result (AddsChanges (R.list reader.old) since p rank range.now (reached range.now rank (joins_of (take p (R.list reader.old)))) keys.items) }
+    ensures unknown { IfOk result (λ told. told ≡ All →
+        IsUnknown (C.left (rank + 1)) (λ a b at. IsUnknownIn C.range_of (C.left (rank + 1)) (λ x y part. C.unknown x y at rank p since part) a b range.now) reader.old reader.new ats.now) }
     ensures moves { Moves R.list R.floor (C.left (rank + 1)) reader.old reader.new }
     ensures counted { steps.old ≤ steps.new }
 {

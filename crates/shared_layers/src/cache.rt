@@ -29,6 +29,8 @@ impl<'a, N: Naming, W: Wait, G: Gate, R: Stacked<N>> RangeCache<R> for Room<'a, 
 
     ghost took = { λ _ _ _ _ _ _ _ _. Unit {0} };
 
+    ghost unknown = { λ _ _ _ _ _ _ _. Unit {0} };
+
     ghost cost_one = { λ _ _ _ _ _ _ _ _. Unit {0} };
 
     ghost spends = { λ _ _ _ _ _ _. Unit {0} };

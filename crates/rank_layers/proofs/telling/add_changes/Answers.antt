@@ -1,4 +1,5 @@
 use Rattle.std.proofs.Common.{◌+◌, ◌≤◌, sym, take, get_or, subst, arith}
+use Rattle.std.proofs.lemmas.List.{get_or_default}
 use Rattle.semantics.specs.Histories.{joins_of}
 use Rattle.growing_history.proofs.PrefixLemmas.{prefix_length}
 use Rattle.layering.specs.Reached.{reached}
@@ -6,7 +7,7 @@ use Rattle.join_eval.proofs.MovesLemmas.{moves_refl, moves_trans}
 use Rattle.rank_layers.specs.Telling.{TellsJoin}
 use Rattle.cell_slots.proofs.DeclaredLemmas.{stands_over}
 use Rattle.rank_layers.proofs.JoinLemmas.{listed_stands}
-use Rattle.rank_layers.proofs.TellingLemmas.{added_none, added_more, added_all, lists_over}
+use Rattle.rank_layers.proofs.TellingLemmas.{added_none, added_more, added_all, keys_known, lists_over}
 use Rattle.rank_layers.proofs.telling.add_changes.Goals as goal
 
 pub loop-at-init : goal.loop-at-init
@@ -72,3 +73,17 @@ returns-in_err-all-in-Keys-clause-moves g c =
 pub returns-in-All-clause-moves : goal.returns-in-All-clause-moves
 returns-in-All-clause-moves g c =
     moves_trans g.R.Reader.list g.R.Reader.floor (g.C.RangeCache.left (c.args.rank + 1)) c.args.reader.now c.loop-at.reader c.changes_of_join.new.reader (g.met.C.RangeCache.left_trans (c.args.rank + 1) c.args.reader.now c.loop-at.reader c.changes_of_join.new.reader) c.loop-at.invariant.moves c.changes_of_join.ensures.moves
+
+-- ---- where it is not known
+
+pub returns-clause-unknown : goal.returns-clause-unknown
+returns-clause-unknown g c = λ all. absurd (keys_known c.loop-at.all all)
+
+pub returns-in-All-clause-unknown : goal.returns-in-All-clause-unknown
+returns-in-All-clause-unknown g c = λ all. record {
+  thing = get_or c.args.ats.now c.loop-at.at-index 0;
+  listed = (c.loop-at.at-index, c.loop-at-test.true, get_or_default c.args.ats.now c.loop-at.at-index (get_or c.args.ats.now c.loop-at.at-index 0) 0 c.loop-at-test.true);
+  asked = c.loop-at.reader;
+  on = c.loop-at.invariant.moves.on;
+  is = c.in_ok-more.ensures.unknown c.in-All.is;
+}

@@ -5,7 +5,7 @@ use Rattle.layering.specs.Parts.{JoinTo}
 use Rattle.join_eval.proofs.MovesLemmas.{moves_refl, moves_trans}
 use Rattle.rank_layers.specs.Telling.{ListsJoin, TellsJoin}
 use Rattle.cell_slots.proofs.DeclaredLemmas.{stands_over}
-use Rattle.rank_layers.proofs.TellingLemmas.{lists_none, lists_over, lists_more}
+use Rattle.rank_layers.proofs.TellingLemmas.{keys_known, lists_none, lists_over, lists_more}
 use Rattle.rank_layers.proofs.telling.changes_of_parts.Goals as goal
 
 pub loop-part-init : goal.loop-part-init
@@ -59,3 +59,17 @@ returns-in_err-append-in-Keys-clause-moves g c =
 pub returns-in-All-clause-moves : goal.returns-in-All-clause-moves
 returns-in-All-clause-moves g c =
     moves_trans g.R.Reader.list g.R.Reader.floor (g.C.RangeCache.left (c.args.query.rank + 1)) c.args.reader.now c.loop-part.reader c.changes_since.new.reader (g.met.C.RangeCache.left_trans (c.args.query.rank + 1) c.args.reader.now c.loop-part.reader c.changes_since.new.reader) c.loop-part.invariant.moves c.changes_since.ensures.moves
+
+-- ---- where it is not known
+
+pub returns-clause-unknown : goal.returns-clause-unknown
+returns-clause-unknown g c = λ all. absurd (keys_known c.loop-part.all all)
+
+pub returns-in-All-clause-unknown : goal.returns-in-All-clause-unknown
+returns-in-All-clause-unknown g c = λ all. record {
+  thing = c.part-item.result;
+  listed = (c.loop-part.part-index, c.loop-part-test.true, sym c.part-item.is);
+  asked = c.loop-part.reader;
+  on = c.loop-part.invariant.moves.on;
+  is = c.in_ok-keys.ensures.unknown c.in-All.is;
+}

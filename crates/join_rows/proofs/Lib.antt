@@ -1,5 +1,5 @@
 pub mod PlacedLemmas
 pub mod FittingLemmas
-mod NeedLemmas
-mod OrderLemmas
+pub mod NeedLemmas
+pub mod OrderLemmas
 mod KeyLemmas

@@ -224,9 +224,10 @@ impl RangeState {
     /// then, and changed pairs of the value source are applied. Where the reader does not know what changed in a range that
     /// was read, it is filled again instead; where it stands at p already, nothing is done.
     ///
-    /// It asks the reader once for each need, and walks the needs. For each need of the value source, each changed key in its range
-    /// then takes work that is logarithmic in the rows, and what `LazyLog::covers` takes; for each need of a check, each changed
-    /// key takes what `LazyLog::note` does. These keys are put in order once, and looked for among those by which a need came.
+    /// It asks the reader once for each need, as `ask_needs` does, and walks the needs. For each need of the value source, each
+    /// changed key in its range then takes work that is logarithmic in the rows, and what `LazyLog::covers` takes; for each need of
+    /// a check, each changed key takes what `LazyLog::note` does. These keys are put in order once, and looked for among those by
+    /// which a need came.
     ///
     /// Brought to a later position it takes one step at least for each need; or else it was filled, and takes at least what
     /// `fill` does. Where the ranges of its needs are bare from its position on to p, it takes at most one step for each need and

@@ -1,6 +1,7 @@
 -- What a reader says of the ranges of needs, one after another, and what is left once the keys are in order.
-use Rattle.std.proofs.Common.{◌≡◌, ◌↔◌, ℕ, ◌+◌, ◌<◌, ◌≤◌, List, [], ◌∷◌, ◌++◌, length, take, filter, flat_map, get_or, true, Contains, sym, ap, ◌∙◌, subst, ⊎_elim, arith, Vec, Global}
+use Rattle.std.proofs.Common.{◌≡◌, ◌↔◌, ◌⊎◌, ℕ, ◌+◌, ◌<◌, ◌≤◌, List, [], ◌∷◌, ◌++◌, length, take, filter, flat_map, get_or, true, Contains, Option, Some, None, IfSome, option_copied, sym, ap, ◌∙◌, subst, ⊎_elim, arith, Vec, Global}
 use Rattle.std.specs.List.{list_any, AllByRecursion}
+use Rattle.std.specs.Borrow.{Bor}
 use Rattle.std.specs.List.Sorted.{IsStrictlySortedBy}
 use Rattle.std.proofs.lemmas.List.Sums.{sum_by_more}
 use Rattle.std.proofs.lemmas.List.Kept.{IsStrictlySortedBy-filter}
@@ -19,8 +20,8 @@ use Rattle.kept_ranges.specs.SoundLaws.{AreReportedBetween}
 use Rattle.join_eval.specs.declared.reading.Changed.{Changed}
 use Rattle.join_eval.specs.declared.reading.Changed.TheVariants.{Keys, All}
 use Rattle.join_eval.specs.Answers.{ListsChanges, AnswersChanges, ListsExactly}
-use Rattle.source_changes.specs.Asking.{LieInRanges, AreBareThroughout, AreListed, ListsWritten, changed_count, asking_steps}
-use Rattle.source_changes.proofs.LongerLemmas.{same_before, changed_longer, bare_longer}
+use Rattle.source_changes.specs.Asking.{LieInRanges, AreBareThroughout, IsQuiet, AreListed, ListsWritten, changed_count, asking_steps}
+use Rattle.source_changes.proofs.LongerLemmas.{same_before, changed_longer, bare_longer, quiet_before, quiet_longer}
 
 -- ---- one answer after another
 
@@ -80,6 +81,46 @@ pub steps_changed : (h here : History) (q p : ℕ) (need : Need) (range : Range)
 steps_changed h here q p need range old new prefix within order same cost =
     let e : length (changed_keys q p range here) ≡ changed_count q p h need = ap (λ r. length (changed_keys q p r here)) same ∙ ap length (changed_longer h here q p need.range prefix within order) in
     omega arith
+
+-- ---- a range in which nothing changes
+
+-- it is answered by no keys
+pub quiet_answer : (h : History) (q p rank : ℕ) (range : Range) (keys : List Text) → keys ≡ [] → IsQuiet h q p rank range → ListsChanges h q p rank range keys
+unfolding IsStrictlySortedBy
+quiet_answer h q p rank range keys none quiet = subst (ListsChanges h q p rank range) (sym none) (record { ascend = tt; inside = tt; complete = λ key inside out. quiet.same key inside })
+
+-- and a range that is answered so is one
+quiet_by : (h : History) (q p rank : ℕ) (range : Range) (keys : List Text) → keys ≡ [] → ListsChanges h q p rank range keys → (IsBareThroughout h q p range → keys ≡ changed_keys q p range h) → IsQuiet h q p rank range
+quiet_by h q p rank range keys none lists exact = record {
+  same = λ key inside. lists.complete key inside (λ there. has_from_contains [] key (subst (λ (ks : List Text). Contains ks key) none there));
+  unwritten = λ bare. sym (exact bare) ∙ none;
+}
+
+-- the one that is known to be so is, where there is one
+pub quiet_found : (h : History) (q p rank : ℕ) (quiet : Option Range) (range : Range) → quiet ≡ Some range → IfSome quiet (IsQuiet h q p rank) → IsQuiet h q p rank range
+quiet_found h q p rank quiet range is known = subst (λ o. IfSome o (IsQuiet h q p rank)) is known
+
+-- so it is over a longer history
+pub quiet_on : (h here : History) (q p rank : ℕ) (quiet : Option (Bor Range)) → IsPrefix h here → p ≤ length h → q ≤ p → IfSome quiet (λ r. IsQuiet h q p rank r.now) → IfSome (option_copied quiet) (IsQuiet here q p rank)
+quiet_on h here q p rank None prefix within order known = tt
+quiet_on h here q p rank (Some r) prefix within order known = quiet_longer h here q p rank r.now prefix within order known
+
+-- after an answer it is so still, or of the range that was answered
+pub quiet_next : (h here : History) (q p rank : ℕ) (old new : Option (Bor Range)) (range : Range) (keys lent : List Text) → IsPrefix h here → p ≤ length h → q ≤ p → ListsChanges here q p rank range keys → (IsBareThroughout here q p range → keys ≡ changed_keys q p range here) →
+    lent ≡ keys → (option_copied new ≡ option_copied old) ⊎ ((lent ≡ []) × (option_copied new ≡ Some range)) → IfSome old (λ r. IsQuiet h q p rank r.now) → IfSome new (λ r. IsQuiet h q p rank r.now)
+quiet_next h here q p rank old new range keys lent prefix within order lists exact are next known =
+    from_copied new (⊎_elim
+    (λ e. subst (λ o. IfSome o (IsQuiet h q p rank)) (sym e) (to_copied old known))
+    (λ w. subst (λ o. IfSome o (IsQuiet h q p rank)) (sym w.1) (quiet_before h here q p rank range prefix within order (quiet_by here q p rank range keys (sym are ∙ w.0) lists exact)))
+    next)
+  where
+    to_copied : (o : Option (Bor Range)) → IfSome o (λ r. IsQuiet h q p rank r.now) → IfSome (option_copied o) (IsQuiet h q p rank)
+    to_copied None is = tt
+    to_copied (Some r) is = is
+
+    from_copied : (o : Option (Bor Range)) → IfSome (option_copied o) (IsQuiet h q p rank) → IfSome o (λ r. IsQuiet h q p rank r.now)
+    from_copied None is = tt
+    from_copied (Some r) is = is
 
 -- ---- the keys in order
 

@@ -1,15 +1,20 @@
 -- What is found of what changed in the ranges of needs.
-use Rattle.std.specs.Prelude.{◌≡◌, ℕ, ◌+◌, List, length, true}
+use Rattle.std.specs.Prelude.{◌≡◌, ℕ, ◌+◌, List, [], length, true}
 use Rattle.std.specs.List.{list_any, sum_by, AllByRecursion}
-use Rattle.semantics.specs.Texts.{Text, is_range, within}
+use Rattle.semantics.specs.Texts.{Text, Range, is_range, within}
 use Rattle.semantics.specs.Histories.{History}
-use Rattle.growing_history.specs.Changes.{changed_keys, IsBareThroughout}
+use Rattle.growing_history.specs.Changes.{changed_keys, IsBareThroughout, Same}
 use Rattle.range_evaluation.specs.Trees.{Need}
 use Rattle.kept_ranges.specs.Rules.{reported_in}
 
 -- the range of each need is a range
 abbrev pub HaveRanges : List Need → Type 0
 HaveRanges needs = AllByRecursion (λ need. is_range need.range.low need.range.high ≡ true) needs
+
+-- nothing changes in a range from q to p: at each of its keys the same stands at all these positions, and where it is bare at all of them, no key of it is put or removed
+pub record IsQuiet (h : History) (q p rank : ℕ) (range : Range) : Type 0 where
+  pub same : (key : Text) → within range key ≡ true → Same h q p rank key
+  pub unwritten : IsBareThroughout h q p range → changed_keys q p range h ≡ []
 
 -- the range of each need is bare at all positions from q to p
 abbrev pub AreBareThroughout : History → ℕ → ℕ → List Need → Type 0

@@ -1,19 +1,19 @@
 // What a reader says of the ranges of needs.
-ghost use Rattle.std.specs.Prelude.{◌≡◌, ◌+◌, ◌≤◌, length, flat_map, Any, IfOk, IfSome, IfNone};
+ghost use Rattle.std.specs.Prelude.{◌≡◌, ◌+◌, ◌≤◌, ◌⊎◌, [], length, flat_map, option_copied, true, Any, IfOk, IfSome, IfNone, Some};
 ghost use Rattle.std.specs.Option.{IsSomeAnd};
 ghost use Rattle.std.specs.List.Sorted.{IsStrictlySortedBy};
 ghost use Rattle.semantics.specs.Texts.{text_cmp};
-ghost use Rattle.growing_history.specs.Changes.{changed_keys};
+ghost use Rattle.growing_history.specs.Changes.{changed_keys, IsBareThroughout};
 ghost use Rattle.kept_ranges.specs.SoundLaws.{AreReportedBetween};
-ghost use Rattle.join_eval.specs.Answers.{MayNotBeKnown};
+ghost use Rattle.join_eval.specs.Answers.{AnswersChanges, CostsOne, ListsExactly, MayNotBeKnown};
 ghost use Rattle.join_eval.specs.Moves.{Moves};
-ghost use Rattle.source_changes.specs.Asking.{HaveRanges, AreBareThroughout, LieInRanges, AreListed, asking_steps};
+ghost use Rattle.source_changes.specs.Asking.{HaveRanges, IsQuiet, AreBareThroughout, LieInRanges, AreListed, asking_steps};
 
 use crate::merging::merged;
 use join_eval::{Changed, Reader};
-use join_rows::Need;
-use key_space::Key;
+use join_rows::{Need, are_same_ranges};
 use key_space::range::look_at;
+use key_space::{Key, Range};
 use out_of_memory::OutOfMemory;
 use std::alloc::Global;
 use std::sync::ledger::Ledger;
@@ -28,8 +28,56 @@ fn look_at_ranges(needs: &[Need])
     }
 }
 
+/// Whether the range is the quiet one, if there is one. Linear in the bounds.
+fn is_quiet(quiet: Option<&Range>, range: &Range) -> bool
+    ensures { result ≡ true → option_copied quiet.entry ≡ Some range.now }
+{
+    match quiet {
+        None => false,
+        Some(quiet) => are_same_ranges(quiet, range),
+    }
+}
+
+/// Asks what changed in the range, and takes one step and no more where it is the quiet one, in which nothing did.
+fn ask<R: Reader, L: Ledger>(
+    alloc: Global,
+    quiet: Option<&Range>,
+    range: &Range,
+    rank: u8,
+    q: u64,
+    p: u64,
+    reader: &mut R,
+    steps: &mut Steps<L>,
+) -> Result<Changed, OutOfMemory>
+    requires order { q ≤ p }
+    requires within { p ≤ length (R.list reader.old) }
+    requires above { R.floor reader.old ≤ q }
+    requires ranked { rank ≤ R.top }
+    requires quiet { IfSome (option_copied quiet) (IsQuiet (R.list reader.old) q p rank) }
+    ensures exact { IfOk result (AnswersChanges (R.list reader.old) q p rank range.now) }
+    ensures bare { IsBareThroughout (R.list reader.old) q p range.now → IfOk result (ListsExactly (changed_keys q p range.now (R.list reader.old))) }
+    ensures bare_cost { IsBareThroughout (R.list reader.old) q p range.now → IfOk result (λ _. steps.new ≡ steps.old + 1 + length (changed_keys q p range.now (R.list reader.old))) }
+    ensures moves { Moves R.list R.floor R.went reader.old reader.new }
+    ensures counted { steps.old ≤ steps.new }
+    ensures cost { IfOk result (CostsOne steps.old steps.new) }
+{
+    if is_quiet(quiet, range) {
+        steps.count_call(0);
+        return Ok(Changed::Keys(Vec::new(alloc)));
+    }
+    reader.changed(q, p, range, rank, steps)
+}
+
+/// The range that is known to be quiet after an answer: the one that was asked for, where no key is listed, and otherwise the one
+/// before.
+fn quiet_after<'a>(quiet: Option<&'a Range>, range: &'a Range, keys: &[Key]) -> Option<&'a Range>
+    ensures { (option_copied result ≡ option_copied quiet.entry) ⊎ ((keys.now ≡ []) × (option_copied result ≡ Some range.now)) }
+{
+    if keys.is_empty() { Some(range) } else { quiet }
+}
+
 /// Asks for each need what changed in its range, and puts the answers one after another; none where some answer is that it
-/// is not known.
+/// is not known. It does not ask again for the last range in which nothing changed.
 fn gather_answers<R: Reader, L: Ledger>(
     alloc: Global,
     needs: &[Need],
@@ -53,9 +101,13 @@ fn gather_answers<R: Reader, L: Ledger>(
     ensures least { IfOk result (λ found. IfSome found (λ _. steps.old + length needs.now ≤ steps.new)) }
 {
     let mut answers = Vec::new(alloc);
+    let mut quiet = None;
     for need in needs {
-        match reader.changed(q, p, &need.range, rank, steps)? {
-            Changed::Keys(mut keys) => answers.append(&mut keys)?,
+        match ask(alloc, quiet, &need.range, rank, q, p, reader, steps)? {
+            Changed::Keys(mut keys) => {
+                quiet = quiet_after(quiet, &need.range, keys.as_slice());
+                answers.append(&mut keys)?;
+            }
             Changed::All => return Ok(None),
         }
     }
@@ -68,8 +120,10 @@ fn gather_answers<R: Reader, L: Ledger>(
 /// rank. At a key of a need's range that is not among the keys the same stands at all positions from q to p. Where the ranges
 /// of all needs are bare from q to p, the keys are those in them that the entries between put or remove.
 ///
-/// It asks once for each need, and sorts what is answered. The steps are those of the reader: where keys are handed out, one for
-/// each need at least; where the ranges are bare, one for each need and one for each changed key of its range.
+/// It asks once for each need, but not again for the last range in which nothing changed: needs that follow one another are often
+/// of one range. It sorts what is answered. The steps are those of the reader, and one for each need for which it does not ask:
+/// where keys are handed out, one for each need at least; where the ranges are bare, one for each need and one for each changed key
+/// of its range.
 ///
 /// On `OutOfMemory` the reader may have gone on and steps may have been taken.
 pub fn ask_needs<R: Reader, L: Ledger>(

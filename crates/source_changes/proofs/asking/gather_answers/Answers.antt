@@ -2,13 +2,17 @@ use Rattle.std.proofs.Common.{◌≡◌, ◌+◌, ◌≤◌, ◌++◌, take, sym
 use Rattle.growing_history.specs.Changes.{changed_keys}
 use Rattle.range_evaluation.specs.Trees.{Need}
 use Rattle.kept_ranges.specs.SoundLaws.{AreReportedBetween}
-use Rattle.join_eval.specs.Answers.{AnswersChanges, CostsOne, MayNotBeKnown}
+use Rattle.join_eval.specs.Answers.{AnswersChanges, CostsOne, ListsExactly, MayNotBeKnown}
 use Rattle.join_eval.proofs.MovesLemmas.{moves_trans}
 use Rattle.source_changes.specs.Asking.{LieInRanges}
 use Rattle.source_changes.proofs.LongerLemmas.{unknown_before}
 use Rattle.source_changes.proofs.ListLemmas.{flat_map_more}
-use Rattle.source_changes.proofs.AskingLemmas.{inside_more, complete_more, asking_more, bare_read, lists_no_all, lists_keys, lists_changed, steps_changed}
+use Rattle.source_changes.proofs.AskingLemmas.{inside_more, complete_more, asking_more, bare_read, lists_no_all, lists_keys, lists_changed, quiet_next, quiet_on, steps_changed}
 use Rattle.source_changes.proofs.asking.gather_answers.Goals as goal
+
+pub ask-requires-clause-quiet : goal.ask-requires-clause-quiet
+ask-requires-clause-quiet g c =
+    quiet_on (g.R.Reader.list c.args.reader.now) (g.R.Reader.list c.loop-need.reader) c.args.q c.args.p c.args.rank c.loop-need.quiet c.loop-need.invariant.moves.kept c.requires.within c.requires.order c.loop-need.invariant.quiet
 
 pub returns-in-All-clause-unknown : goal.returns-in-All-clause-unknown
 returns-in-All-clause-unknown g c =
@@ -65,20 +69,18 @@ loop-need-preserved g c =
           flat_map_more (λ (n : Need). changed_keys q p n.range h) told c.append.new.self.items needs index need less read (added ∙ ap (λ l. told ++ l) changed) (before.bare all);
       bare_cost = λ all.
           let bare = bare_read h here q p needs index need range before.moves.kept c.requires.within less read same all in
-          let cost = steps_changed h here q p need range c.loop-need.steps c.changed.new.steps before.moves.kept c.requires.within c.requires.order same (c.in_ok-keys.ensures.bare_cost bare) in
+          let cost = steps_changed h here q p need range c.loop-need.steps c.ask.new.steps before.moves.kept c.requires.within c.requires.order same (c.in_ok-keys.ensures.bare_cost bare) in
           let more = asking_more h q p needs index need less read in
           let so_far = before.bare_cost all in
           omega arith;
-      moves = moves_trans g.R.Reader.list g.R.Reader.floor g.R.Reader.went c.args.reader.now c.loop-need.reader c.changed.new.self (g.met.R.Reader.went_trans c.args.reader.now c.loop-need.reader c.changed.new.self) before.moves
-          (record {
-            kept = c.in_ok-keys.ensures.kept;
-            entered = λ _. c.in_ok-keys.ensures.entered;
-            same_floor = c.in_ok-keys.ensures.same_floor;
-            on = c.in_ok-keys.ensures.on;
-          });
+      quiet = quiet_next h here q p rank c.loop-need.quiet c.quiet_after-quiet.result range keys.items c.as_slice.result.now before.moves.kept c.requires.within c.requires.order
+          (subst (AnswersChanges here q p rank range) c.in-Keys.is c.in_ok-keys.ensures.exact)
+          (λ all. subst (ListsExactly (changed_keys q p range here)) c.in-Keys.is (c.in_ok-keys.ensures.bare all))
+          c.as_slice.ensures.value c.quiet_after-quiet.ensures before.quiet;
+      moves = moves_trans g.R.Reader.list g.R.Reader.floor g.R.Reader.went c.args.reader.now c.loop-need.reader c.ask.new.reader (g.met.R.Reader.went_trans c.args.reader.now c.loop-need.reader c.ask.new.reader) before.moves c.in_ok-keys.ensures.moves;
       counted = let one = c.in_ok-keys.ensures.counted in let so_far = before.counted in omega arith;
       least =
-          let one : c.loop-need.steps + 1 ≤ c.changed.new.steps = subst (CostsOne c.loop-need.steps c.changed.new.steps) c.in-Keys.is c.in_ok-keys.ensures.cost in
+          let one : c.loop-need.steps + 1 ≤ c.ask.new.steps = subst (CostsOne c.loop-need.steps c.ask.new.steps) c.in-Keys.is c.in_ok-keys.ensures.cost in
           let so_far = before.least in
           omega arith;
     }

@@ -17,6 +17,7 @@ use Rattle.growing_history.proofs.EnteredLemmas.{has_entered_taken, keeps_rules}
 use Rattle.range_evaluation.specs.Trees.{Need, is_asked, reading_steps, tree}
 use Rattle.range_evaluation.specs.TreeLaws.{AreOutputSlots}
 use Rattle.join_rows.specs.Kept.{KeptRows, AddsOnce, AddsEach}
+use Rattle.join_rows.proofs.NeedLemmas.{once_old}
 use Rattle.kept_ranges.specs.Kept.{Kept}
 use Rattle.kept_ranges.specs.Rules.{IsMended}
 use Rattle.growing_history.proofs.PrefixLemmas.{take_prefix}
@@ -114,10 +115,6 @@ once_from a n old mid (inr new) h = ⊎_elim (λ b. inl b) (λ c. inr (only a n 
     only : (b m : Need) → Has (b ∷ []) m → b ≡ m
     only b m (inl e) = e
     only b m (inr h) = absurd h
-
-once_old : (a n : Need) (old mid : List Need) → AddsOnce a old mid → Has old n → Has mid n
-once_old a n old mid (inl there) h = subst (λ ns. Has ns n) (sym there.1) h
-once_old a n old mid (inr new) h = subst (λ ns. Has ns n) (sym new.1) (has_append_left old (a ∷ []) n h)
 
 once_new : (a : Need) (old mid : List Need) → AddsOnce a old mid → Has mid a
 once_new a old mid (inl there) = subst (λ ns. Has ns a) (sym there.1) (has_from_contains old a there.0)

@@ -21,7 +21,7 @@ ghost use Rattle.range_state.specs.Work.{mend_notes, needs_under_each};
 use crate::holding::Holding;
 use crate::subject::Subject;
 use crate::{Marked, Note};
-use join_eval::{KeepFault, NeedBound, Reader, evaluate};
+use join_eval::{FoundBeside, KeepFault, NeedBound, Reader, evaluate_beside};
 use join_rows::Rows;
 use key_pattern::SlotTexts;
 use std::convert::Infallible;
@@ -29,7 +29,9 @@ use std::mem;
 use std::sync::ledger::Ledger;
 use steps::Steps;
 
-/// Finds the rows under some slots again at a position, and adds the needs that are found.
+/// Finds the rows under some slots again at a position, and adds the needs that are found. Where these are found in the order in
+/// which they are there, they are compared one by one; the others are put in order, and each need that was not met is looked for in
+/// them.
 ///
 /// On a fault rows may be lost. `TooWide` comes only where the needs that there were and those that are found are more than the
 /// bound allows.
@@ -67,13 +69,14 @@ fn mend_slots<E: Copy, R: Reader, L: Ledger>(
         rank,
         range,
     } = subject;
-    let evaluated = evaluate(
-        *alloc, join, *rank, range, &slots, position, bound, reader, steps,
+    let known = rows.needs();
+    let evaluated = evaluate_beside(
+        *alloc, join, *rank, range, &slots, position, bound, known, reader, steps,
     )?;
-    let found = evaluated.into_rows();
+    let FoundBeside { rows: found, met } = evaluated;
     rows.drop_fitting(&join.output, &slots);
     let left = mem::replace(rows, Rows::new(*alloc));
-    *rows = left.merge(found)?;
+    *rows = left.merge_behind(found, met)?;
     bound.check(rows.needs().len() as u64)?;
     Ok(())
 }

@@ -297,9 +297,10 @@ impl RangeState {
 
     /// Mends it where something pending meets a range: the rows under those slots are found again where it stands.
     ///
-    /// For each of the slots it takes the search for the rows under them, and what evaluating the join under them takes. The first
-    /// 32 needs that are found are compared with all needs. Where more are found, all needs are put in order once, and each further
-    /// one is looked for in logarithmic steps.
+    /// For each of the slots it takes the search for the rows under them, and what evaluating the join under them takes. Needs that
+    /// are found in the order in which they are there are compared with these one by one. The others are put in order, and the
+    /// first 32 times each need that was not met so is looked for among them; from then on all needs are put in order once, and
+    /// each of the others is looked for in logarithmic steps.
     ///
     /// On a fault it is unchanged, or nothing is kept. `TooWide` comes only where the needs that it has and those that are found, each
     /// counted as often as it is found, are more than the bound allows; then nothing is kept, and no more than the bound allows were

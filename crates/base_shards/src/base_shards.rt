@@ -62,7 +62,7 @@ fn make_shards<N: Naming>(
     let mut shards = Vec::with_capacity(alloc, passes.len())?;
     let mut number = 0;
     for pass in passes {
-        shards.push(Mutex::new(Shard::new(alloc, number, pass, ids)?))?;
+        shards.push(Mutex::new(Shard::new(alloc, number, pass, ids)))?;
         number += 1;
     }
     Ok(shards)
@@ -71,7 +71,8 @@ fn make_shards<N: Naming>(
 impl<N: Naming> BaseShards<N> {
     /// The base pairs of the history after no entries, with a pass of it for each part, which has a word for noted positions and
     /// has noted none yet. What is read later and what the parts grow by is allocated by this allocator. No id has ranges, and
-    /// none is marked; room is reserved for the marks of all ids below a number. Linear in that number.
+    /// none is marked. Ids are below a number; the parts take memory for them as they get ranges and marks, up to the greatest
+    /// that ever had some.
     pub fn new(
         alloc: Global,
         history: Arc<History>,

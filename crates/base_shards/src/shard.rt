@@ -58,25 +58,24 @@ impl<N: Naming> Model for Shard<N> {
 }
 
 impl<N: Naming> Shard<N> {
-    /// The part with a number, after no entries, with a pass of the history, and for ids below a number. Linear in the ids.
-    pub fn new(alloc: Global, number: u8, pass: Pass, ids: u32) -> Result<Shard<N>, OutOfMemory>
+    /// The part with a number, after no entries, with a pass of the history, and for ids below a number. Nothing is allocated.
+    pub fn new(alloc: Global, number: u8, pass: Pass, ids: u32) -> Shard<N>
         requires number { number < 16 }
         requires same_history { pass.history ≡ N.history }
         requires noted { pass.mark ≡ Noted 0 }
-        ensures number { IfOk result (λ shard. shard.base.shard ≡ number) }
-        ensures ids { IfOk result (λ shard. shard.index.held ≡ replicate ids []) }
-        ensures marked { IfOk result (λ shard. shard.index.marked ≡ []) }
-        ensures pass { IfOk result (λ shard. shard.pass ≡ pass) }
+        ensures number { result.base.shard ≡ number }
+        ensures ids { result.index.held ≡ replicate ids [] }
+        ensures marked { result.index.marked ≡ [] }
+        ensures pass { result.pass ≡ pass }
     {
-        let index = UpdaterIndex::new(alloc, ids)?;
-        Ok(Shard {
+        Shard {
             alloc,
             number,
             base: BaseVersions::new(alloc, number, SHARDS),
-            index,
+            index: UpdaterIndex::new(alloc, ids),
             pass,
             of: PhantomData,
-        })
+        }
     }
 
     /// The number of entries that the base pairs know, below 2^48.

@@ -12,7 +12,7 @@ pub fn answer(alloc: Global, mut fields: Fields<'_>, out: &mut Answer) -> Option
     let times = fields.id();
     let key = read_key(alloc, fields.next())?;
     let ids = fields.id();
-    let mut index = UpdaterIndex::new(alloc, ids.max(1)).ok()?;
+    let mut index = UpdaterIndex::new(alloc, ids.max(1));
     if ids == 0 {
         part_behind(alloc, &mut index, &key)?;
     } else {

@@ -6,7 +6,7 @@ use updater_index::UpdaterIndex;
 
 /// Answers `updaters;IDS;CALL;..`, calls on one index in turn. Ids that a key concerns, and marked ids, are answered.
 pub fn answer(alloc: Global, mut fields: Fields<'_>, out: &mut Answer) -> Option<()> {
-    let mut index = UpdaterIndex::new(alloc, fields.id()).ok()?;
+    let mut index = UpdaterIndex::new(alloc, fields.id());
     for call in fields.rest().split(';') {
         answer_call(alloc, &mut index, call, out)?;
     }

@@ -6,4 +6,5 @@ mod FindLemmas
 mod SideLemmas
 mod WindowLemmas
 mod IndexLemmas
+mod FilledLemmas
 mod MarkLemmas

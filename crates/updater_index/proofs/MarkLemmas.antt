@@ -1,9 +1,9 @@
 -- Ids in a queue, one more or one less.
-use Rattle.std.proofs.Common.{◌≡◌, ◌≢◌, ℕ, zero, suc, ◌<◌, ◌≤◌, Bool, true, false, cond, not, ◌&&◌, ◌||◌, ◌==◌, ◌⊎◌, inl, inr, List, [], ◌∷◌, ◌++◌, length, set, get_or, filter, refl, sym, ap, ◌∙◌, subst, ⊎_elim, arith}
+use Rattle.std.proofs.Common.{◌≡◌, ◌≢◌, ℕ, zero, suc, ◌<◌, ◌≤◌, Bool, true, false, cond, not, ◌&&◌, ◌||◌, ◌==◌, ◌⊎◌, inl, inr, List, [], ◌∷◌, ◌++◌, length, set, get_or, take, filter, replicate, refl, sym, ap, ◌∙◌, subst, ⊎_elim, arith}
 use Rattle.std.specs.List.{list_any}
 use Rattle.std.proofs.lemmas.Bool.{and_parts, and_from, eqb-true, eq-eqb, false≢true, cases_lt}
 use Rattle.std.proofs.lemmas.Bool.Decides.{eqb_tells}
-use Rattle.std.proofs.lemmas.List.{get_or-set_same, get_or-set_other, get_or_past}
+use Rattle.std.proofs.lemmas.List.{get_or-set_same, get_or-set_other, get_or_past, take_all}
 use Rattle.std.proofs.lemmas.List.Folds.{list_any-append}
 use Rattle.updater_index.specs.Registered.{has_id, with_mark, without_mark}
 use Rattle.updater_index.specs.Marked.{are_once, AreQueued}
@@ -72,9 +72,30 @@ queued_pop tests ids id h q =
       once = parts.1;
     }
 
--- the first one is below the number of ids
+-- each one has a test
+pub queued_below : (tests : List Bool) (ids : List ℕ) (id : ℕ) → AreQueued tests ids → has_id ids id ≡ true → id < length tests
+queued_below tests ids id q there = ⊎_elim (λ (lt : id < length tests). lt) (λ (le : length tests ≤ id). absurd (false≢true (sym (get_or_past tests id false le) ∙ q.agrees id ∙ there))) (cases_lt id (length tests))
+
+-- so has the first one
 pub first_below : (tests : List Bool) (ids : List ℕ) (id : ℕ) → AreQueued tests (id ∷ ids) → id < length tests
-first_below tests ids id q = ⊎_elim (λ (lt : id < length tests). lt) (λ (le : length tests ≤ id). absurd (false≢true (sym (get_or_past tests id false le) ∙ q.agrees id ∙ ap (λ b. b || has_id ids id) (eq-eqb id id refl)))) (cases_lt id (length tests))
+first_below tests ids id q = queued_below tests (id ∷ ids) id q (ap (λ b. b || has_id ids id) (eq-eqb id id refl))
+
+-- ---- more tests
+
+none_behind : (tests : List Bool) (m q : ℕ) → get_or (tests ++ replicate m false) q false ≡ get_or tests q false
+none_behind [] zero q = refl
+none_behind [] (suc m) zero = refl
+none_behind [] (suc m) (suc q) = none_behind [] m q
+none_behind (b ∷ bs) m zero = refl
+none_behind (b ∷ bs) m (suc q) = none_behind bs m q
+
+-- where tests are lengthened, each id is tested as before
+pub tests_longer : (tests more : List Bool) (n m : ℕ) → length tests ≤ n → more ≡ take n tests ++ replicate m false → (q : ℕ) → get_or more q false ≡ get_or tests q false
+tests_longer tests more n m h is q = ap (λ (l : List Bool). get_or l q false) (is ∙ ap (λ (l : List Bool). l ++ replicate m false) (take_all n tests h)) ∙ none_behind tests m q
+
+-- then the same ids are in the queue
+pub queued_same : (tests more : List Bool) (ids left : List ℕ) → ((q : ℕ) → get_or more q false ≡ get_or tests q false) → left ≡ ids → AreQueued tests ids → AreQueued more left
+queued_same tests more ids left same is queued = subst (AreQueued more) (sym is) (record { agrees = λ q. same q ∙ queued.agrees q; once = queued.once })
 
 -- ---- without one id
 

@@ -1,5 +1,5 @@
 -- The ranges of each id, and the ids that are marked.
-use Rattle.std.specs.Prelude.{◌≡◌, ℕ, ◌+◌, ◌<◌, ◌&&◌, ◌==◌, List, [], ◌∷◌, ◌++◌, length, take, filter, fold, Bool, not, slice_index_or, if◌then◌else◌}
+use Rattle.std.specs.Prelude.{◌≡◌, ℕ, ◌+◌, ◌-◌, ◌<◌, ◌&&◌, ◌==◌, List, [], ◌∷◌, ◌++◌, length, take, filter, fold, replicate, Bool, not, slice_index_or, if◌then◌else◌}
 use Rattle.std.specs.List.{list_any}
 use Rattle.semantics.specs.Texts.{Text, same, Range, within}
 
@@ -15,6 +15,10 @@ pub record Index : Type 0 where
 -- the ranges of an id
 abbrev pub ranges_of : ℕ → Held → List Range
 ranges_of id held = slice_index_or held id []
+
+-- the ranges of first ids, and none of those behind them, so many ids in all
+abbrev pub filled : ℕ → Held → Held
+filled ids held = held ++ replicate (ids - length held) []
 
 -- whether two ranges have the same bounds
 abbrev pub same_range : Range → Range → Bool

@@ -15,43 +15,53 @@ use std::marker::Model;
 /// some range begin alike, and there at each place behind that beginning of the key, at its next byte or a greater one.
 /// So `stab` costs a search for each such place, commonly a handful of them, and the ranges that contain the key: none of
 /// the others, however many they are, nested or alike.
+///
+/// It takes memory for the ids up to the greatest that ever had a range, and for marks up to the greatest that ever had one: so
+/// ids had better be given from 0 up, and again before greater ones.
 #[derive(Debug, Drop)]
 pub struct UpdaterIndex {
+    /// Below which number the ids are.
+    ids: u32,
+    /// The ranges of the first ids. Those behind them have none.
     registered: Registered,
     marks: Marks,
 }
 
 impl Model for UpdaterIndex {
-    ghost use Rattle.std.specs.Prelude.{◌≡◌, length};
-    ghost use Rattle.updater_index.specs.Registered.{Index};
+    ghost use Rattle.std.specs.Prelude.{◌≤◌, length};
+    ghost use Rattle.updater_index.specs.Registered.{Index, filled};
 
     ghost Value = { Index };
 
-    ghost view = { λ i. record { held = i.registered; marked = i.marks.queue } };
+    ghost view = { λ i. record { held = filled i.ids i.registered; marked = i.marks } };
 
-    ghost invariant = { λ i. i.marks.ids ≡ length i.registered };
+    ghost invariant = { λ i. length i.registered ≤ i.ids };
 }
 
 impl UpdaterIndex {
-    /// No ranges and no marks, for ids below a number; room is reserved for all their marks. Linear in that number.
-    pub fn new(alloc: Global, ids: u32) -> Result<UpdaterIndex, OutOfMemory>
-        ensures held { IfOk result (λ index. index.held ≡ replicate ids []) }
-        ensures marked { IfOk result (λ index. index.marked ≡ []) }
+    /// No ranges and no marks, for ids below a number. Nothing is allocated.
+    pub fn new(alloc: Global, ids: u32) -> UpdaterIndex
+        ensures held { result.held ≡ replicate ids [] }
+        ensures marked { result.marked ≡ [] }
     {
-        let registered = Registered::new(alloc, ids)?;
-        let marks = Marks::new(alloc, ids)?;
-        Ok(UpdaterIndex { registered, marks })
+        let registered = Registered::new(alloc);
+        let marks = Marks::new(alloc);
+        UpdaterIndex {
+            ids,
+            registered,
+            marks,
+        }
     }
 
     /// The number below which the ids are. It takes constant time.
     pub fn ids(&self) -> usize
         ensures { result ≡ length self.now.held }
     {
-        self.registered.ids()
+        self.ids as usize
     }
 
     /// Adds the ranges to those of the id, in order; one that the id has already is not added again. Logarithmic in all
-    /// ranges for each of them, and linear in its bounds.
+    /// ranges for each of them, and linear in its bounds; where no id so high had ranges yet, linear too in the ids up to it.
     ///
     /// On `OutOfMemory` none of them is added.
     pub fn register(&mut self, id: u32, ranges: Vec<Range>) -> Result<(), OutOfMemory>
@@ -59,6 +69,7 @@ impl UpdaterIndex {
         ensures ok { OnOk result (self.new ≡ record self.old { held = slice_set self.old.held id (with_ranges (ranges_of id self.old.held) ranges.items) }) }
         ensures err { OnErr result (self.new ≡ self.old) }
     {
+        self.registered.reach(id)?;
         self.registered.register(id, ranges.as_slice())
     }
 
@@ -68,7 +79,7 @@ impl UpdaterIndex {
         requires { id < length self.old.held }
         ensures { self.new ≡ record { held = slice_set self.old.held id []; marked = without_mark id self.old.marked } }
     {
-        self.registered.shorten(id, 0);
+        self.registered.forget(id);
         self.marks.unmark(id);
     }
 
@@ -83,7 +94,8 @@ impl UpdaterIndex {
         self.registered.stab(key)
     }
 
-    /// Marks the id; one that is marked keeps its place. It takes constant time.
+    /// Marks the id; one that is marked keeps its place. It takes constant time, and where no id so high was marked yet, time
+    /// linear in the ids up to it.
     ///
     /// On `OutOfMemory` nothing is changed.
     pub fn mark(&mut self, id: u32) -> Result<(), OutOfMemory>

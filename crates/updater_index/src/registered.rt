@@ -1,8 +1,8 @@
 // The ranges that each id has registered.
-ghost use Rattle.std.specs.Prelude.{◌≡◌, ℕ, ◌+◌, ◌-◌, ◌<◌, ◌≤◌, [], ◌∷◌, ◌++◌, IfOk, OnOk, OnErr, IfErr, MatchOption, length, take, replicate, slice_set};
+ghost use Rattle.std.specs.Prelude.{◌≡◌, ℕ, ◌+◌, ◌-◌, ◌<◌, ◌≤◌, [], ◌∷◌, ◌++◌, IfOk, OnOk, OnErr, IfErr, MatchOption, length, max, take, slice_set};
 ghost use Rattle.std.specs.Ordering.{nat_cmp};
 ghost use Rattle.std.specs.List.Sorted.{IsStrictlySortedBy};
-ghost use Rattle.updater_index.specs.Registered.{ranges_of, stabbed, with_range, with_ranges};
+ghost use Rattle.updater_index.specs.Registered.{filled, ranges_of, stabbed, with_range, with_ranges};
 ghost use Rattle.updater_index.specs.Indexed.{AreIndexed, Grows};
 
 use crate::bounds::Bounds;
@@ -67,7 +67,7 @@ impl RangeList {
     }
 }
 
-/// The ranges of each id below a number, each once, and where they are found by a key.
+/// The ranges of each id below a number that grows, each once, and where they are found by a key.
 #[derive(Debug, Drop)]
 pub struct Registered {
     alloc: Global,
@@ -86,15 +86,16 @@ impl Model for Registered {
     ghost invariant = { λ r. AreIndexed r.by_id.items r.forks };
 }
 
-/// One list of no ranges for each id.
-fn empty_lists(alloc: Global, ids: u32) -> Result<Vec<RangeList>, OutOfMemory>
-    ensures { IfOk result (λ lists. lists.items ≡ replicate ids []) }
+/// Adds lists of no ranges behind the others, up to that of the id. On `OutOfMemory` some of them may have been added.
+fn lengthen(alloc: Global, by_id: &mut Vec<RangeList>, id: u32) -> Result<(), OutOfMemory>
+    ensures same { (ids : ℕ) → length by_id.new.items ≤ ids → filled ids by_id.new.items ≡ filled ids by_id.old.items }
+    ensures upto { length by_id.new.items ≤ max (length by_id.old.items) (id + 1) }
+    ensures reached { OnOk result (id < length by_id.new.items) }
 {
-    let mut lists = Vec::with_capacity(alloc, ids as usize)?;
-    for id in 0..ids {
-        lists.push(RangeList::new(alloc))?;
+    for _place in by_id.len()..id as usize + 1 {
+        by_id.push(RangeList::new(alloc))?;
     }
-    Ok(lists)
+    Ok(())
 }
 
 /// Adds the range as the last of the id, unless it is among them.
@@ -148,21 +149,29 @@ fn listed(alloc: Global, found: BTreeSet<u32>) -> Result<Vec<u32>, OutOfMemory>
 }
 
 impl Registered {
-    /// No ranges, for ids below a number, for each of which room is reserved.
-    pub fn new(alloc: Global, ids: u32) -> Result<Registered, OutOfMemory>
-        ensures { IfOk result (λ registered. registered ≡ replicate ids []) }
+    /// No ranges, and no ids. Nothing is allocated.
+    pub fn new(alloc: Global) -> Registered
+        ensures { result ≡ [] }
     {
-        let by_id = empty_lists(alloc, ids)?;
-        let forks = Forks::new(alloc);
-        Ok(Registered {
+        Registered {
             alloc,
-            by_id,
-            forks,
-        })
+            by_id: Vec::new(alloc),
+            forks: Forks::new(alloc),
+        }
+    }
+
+    /// Adds ids up to this one, which have no ranges. It takes constant time where they are there, and is linear in those that
+    /// are not. On `OutOfMemory` some of them may have been added.
+    pub fn reach(&mut self, id: u32) -> Result<(), OutOfMemory>
+        ensures same { (ids : ℕ) → length self.new ≤ ids → filled ids self.new ≡ filled ids self.old }
+        ensures upto { length self.new ≤ max (length self.old) (id + 1) }
+        ensures reached { OnOk result (id < length self.new) }
+    {
+        lengthen(self.alloc, &mut self.by_id, id)
     }
 
     /// The number of ids.
-    pub fn ids(&self) -> usize
+    fn ids(&self) -> usize
         ensures { result ≡ length self.now }
     {
         self.by_id.len()
@@ -200,7 +209,7 @@ impl Registered {
 
     /// Takes out the ranges of the id but the first so many, the last one first. Logarithmic in all ranges for each, and
     /// no memory is taken.
-    pub fn shorten(&mut self, id: u32, keep: usize)
+    fn shorten(&mut self, id: u32, keep: usize)
         requires known { id < length self.old }
         requires long { keep ≤ length (ranges_of id self.old) }
         ensures { self.new ≡ slice_set self.old id (take keep (ranges_of id self.old)) }
@@ -226,6 +235,15 @@ impl Registered {
                 self.shorten(id, before);
                 Err(error)
             }
+        }
+    }
+
+    /// Takes out all ranges of the id, if it is there. Logarithmic in all ranges for each, and no memory is taken.
+    pub fn forget(&mut self, id: u32)
+        ensures { self.new ≡ slice_set self.old id [] }
+    {
+        if (id as usize) < self.ids() {
+            self.shorten(id, 0);
         }
     }
 

@@ -1,8 +1,8 @@
 #!/usr/bin/env python3
-"""Prints what memory the built program takes as a server, by its resident memory: at the start, for each cell, for an idle
-connection, for each kind of write as long as it is among the last ones, for a pair that stands, after many puts at a few keys,
-for each row that is kept, for each pair of which an aggregate is kept, and for each range of stored pairs that a kept range was
-made of. It writes with the client of clients/python.
+"""Prints what memory the built program takes as a server, by its resident memory: at the start, for each cell that there may be,
+for each that keeps a range without rows, for an idle connection, for each kind of write as long as it is among the last ones, for
+a pair that stands, after many puts at a few keys, for each row that is kept, for each pair of which an aggregate is kept, and for
+each range of stored pairs that a kept range was made of. It writes with the client of clients/python.
 
 Usage: bench/memory.py PROGRAM
 It wants Linux, whose /proc tells the memory of a process, and about 1 GB of memory.
@@ -18,10 +18,12 @@ import pequod  # noqa: E402
 
 JOIN = "t|<user>|<time>|<poster> = check s|<user>|<poster> copy p|<poster>|<time>"
 COUNT = "karma|<author> = count v|<author>|<voter>"
+COPY = "e|<user>|<item> = copy f|<user>|<item>"
 WRITES = 200_000
 MANY_WRITES = 1_000_000
 LAST = 60_000
 BATCH = 5_000
+EMPTY = 20_000
 READERS = 200
 POSTS = 5_000
 AUTHORS = 200
@@ -79,7 +81,19 @@ def measure_start(path):
         with Server(path, *options) as server:
             kilobytes[options] = server.kilobytes()
             print(f"  {kilobytes[options]} kB and {server.kilobytes('VmSize')} kB with {' '.join(options) or 'no options'}")
-    print(f"each cell: {(kilobytes['--cells', '65536'] - kilobytes[()]) * 1024 / (65_536 - 1_024):.0f} bytes")
+    each = (kilobytes["--cells", "65536"] - kilobytes[()]) * 1024 / (65_536 - 1_024)
+    print(f"each cell that there may be: {each:.0f} bytes")
+
+
+def measure_cells(path):
+    with Server(path, "--cells", "65536", "--rows", "1000000000") as server, server.connect() as client:
+        client.join(COPY)
+        client.scan_prefix("e|a|")
+        before = server.kilobytes()
+        for number in range(EMPTY):
+            client.scan_prefix(f"e|{number:05}|")
+        each = (server.kilobytes() - before) * 1024 / EMPTY
+        print(f"a kept range without rows, made of one range of stored pairs: {each:.0f} bytes, over {EMPTY} ranges")
 
 
 def measure_connections(path):
@@ -170,6 +184,7 @@ def measure_ranges(path):
 
 MEASURES = (
     measure_start,
+    measure_cells,
     measure_connections,
     measure_last_writes,
     measure_pairs,

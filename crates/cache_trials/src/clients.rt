@@ -346,7 +346,7 @@ fn put_and_turn<N: Naming, R: Wait + Abort>(
     assert!(rt; updater.turn(rt) == Turn::Idle);
     put_at(rt, alloc, client, ("p|bob|120", "Yo"), 4);
     let position = Some(4);
-    assert!(rt; updater.turn(rt) == Turn::Brought { id: 3, position });
+    assert!(rt; updater.turn(rt) == Turn::Brought { id: 0, position });
     assert!(rt; updater.turn(rt) == Turn::Idle);
     assert!(rt; count_timeline(rt, alloc, client) == (4, 2));
 }

@@ -364,7 +364,7 @@ read 5 karma|bob karma|bob\0
 ",
     wanted: "1: karma|bob=1
 idle
-brought 3 to 5
+brought 0 to 5
 idle
 0: karma|bob=2
 ",
@@ -446,7 +446,7 @@ turn cells
 most 4 4 t|ann| t|ann}
 ",
     wanted: "1: t|ann|100|bob=Hi
-brought 3 to 4
+brought 0 to 4
 ",
 };
 

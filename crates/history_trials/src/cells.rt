@@ -67,8 +67,8 @@ fn give_two<N: Naming, R: Wait + Abort>(
 ) -> Result<(), Fail> {
     let rows = [
         (FIRST, "t|b", "t|c", false, "t|b t|c -, "),
-        (FIRST, "t|b", "t|c", true, "t|b t|c 1, "),
-        (FIRST, "t|b", "t|c", false, "t|b t|c 1, "),
+        (FIRST, "t|b", "t|c", true, "t|b t|c 0, "),
+        (FIRST, "t|b", "t|c", false, "t|b t|c 0, "),
         (SECOND, "t|b", "t|c", false, "t|b t|c -, "),
         (RAISED, "t|b", "t|c", false, "t|b t|c -, "),
         (
@@ -76,10 +76,10 @@ fn give_two<N: Naming, R: Wait + Abort>(
             "t|a",
             "t|d",
             true,
-            "t|a t|b 0, t|b t|c 1, t|c t|d -, ",
+            "t|a t|b 1, t|b t|c 0, t|c t|d -, ",
         ),
         (SECOND, "t|b", "t|c", true, "t|b t|c -, "),
-        (FIRST, "t|ab", "t|bb", true, "t|ab t|b 0, t|b t|bb 1, "),
+        (FIRST, "t|ab", "t|bb", true, "t|ab t|b 1, t|b t|bb 0, "),
         (FIRST, "t|a", "t|a", true, ""),
     ];
     for (join, low, high, keep, wanted) in rows {
@@ -96,19 +96,19 @@ fn give_two_ranks<N: Naming, R: Wait + Abort>(
     shards: &BaseShards<N>,
 ) -> Result<(), Fail> {
     let rows = [
-        (FIRST, true, "t|b t|c 1, "),
+        (FIRST, true, "t|b t|c 0, "),
         (RAISED, false, "t|b t|c -, "),
-        (RAISED, true, "t|b t|c 0, "),
-        (FIRST, true, "t|b t|c 1, "),
-        (RAISED, true, "t|b t|c 0, "),
+        (RAISED, true, "t|b t|c 1, "),
+        (FIRST, true, "t|b t|c 0, "),
+        (RAISED, true, "t|b t|c 1, "),
     ];
     let bounds = ("t|b", "t|c");
     for (join, keep, wanted) in rows {
         cover(rt, alloc, cells, join, bounds, keep, wanted)?;
     }
-    evict(rt, cells, shards, 1)?;
+    evict(rt, cells, shards, 0)?;
     cover(rt, alloc, cells, FIRST, bounds, false, "t|b t|c -, ")?;
-    cover(rt, alloc, cells, RAISED, bounds, false, "t|b t|c 0, ")
+    cover(rt, alloc, cells, RAISED, bounds, false, "t|b t|c 1, ")
 }
 
 /// The two cells are evicted, and their numbers and ranges are given again.
@@ -119,13 +119,13 @@ fn evict_two<N: Naming, R: Wait + Abort>(
     shards: &BaseShards<N>,
 ) -> Result<(), Fail> {
     give_two(rt, alloc, cells)?;
-    evict(rt, cells, shards, 1)?;
-    cells.evict(rt, shards, 1);
+    evict(rt, cells, shards, 0)?;
+    cells.evict(rt, shards, 0);
     cells.evict(rt, shards, 2);
     let bounds = ("t|b", "t|c");
-    cover(rt, alloc, cells, SECOND, bounds, true, "t|b t|c 1, ")?;
-    evict(rt, cells, shards, 0)?;
-    cover(rt, alloc, cells, FIRST, ("t|", "t}"), true, "t| t} 0, ")
+    cover(rt, alloc, cells, SECOND, bounds, true, "t|b t|c 0, ")?;
+    evict(rt, cells, shards, 1)?;
+    cover(rt, alloc, cells, FIRST, ("t|", "t}"), true, "t| t} 1, ")
 }
 
 /// A cell whose pass has not come back gives its number to no range, as while another thread evicts it.
@@ -136,9 +136,9 @@ fn lose_one<N: Naming, R: Wait + Abort>(
     shards: &BaseShards<N>,
 ) -> Result<(), Fail> {
     give_two(rt, alloc, cells)?;
-    let shared = cells.find(rt, 1)?.expect(rt, "a cell");
+    let shared = cells.find(rt, 0)?.expect(rt, "a cell");
     assert!(rt; shared.lock(rt).take().is_some());
-    evict(rt, cells, shards, 1)?;
+    evict(rt, cells, shards, 0)?;
     cover(rt, alloc, cells, FIRST, ("t|b", "t|c"), true, "t|b t|c -, ")
 }
 
@@ -215,11 +215,11 @@ fn settle_two<N: Naming + Send + Sync, R: Wait + Abort>(
         FIRST,
         ("t|a", "t|c"),
         false,
-        "t|a t|b 1, t|b t|c 0, ",
+        "t|a t|b 0, t|b t|c 1, ",
     )?;
     let used = [
         Use {
-            id: 1,
+            id: 0,
             rows: Some(2),
         },
         Use {
@@ -227,7 +227,7 @@ fn settle_two<N: Naming + Send + Sync, R: Wait + Abort>(
             rows: Some(9),
         },
         Use {
-            id: 0,
+            id: 1,
             rows: Some(3),
         },
     ];
@@ -239,13 +239,13 @@ fn settle_two<N: Naming + Send + Sync, R: Wait + Abort>(
         FIRST,
         ("t|a", "t|c"),
         false,
-        "t|a t|b -, t|b t|c 0, ",
+        "t|a t|b -, t|b t|c 1, ",
     )?;
-    evict(rt, cells, shards, 0)?;
+    evict(rt, cells, shards, 1)?;
     cells.evict(rt, shards, 7);
     let bounds = ("t|a", "t|c");
-    cover(rt, alloc, cells, FIRST, bounds, true, "t|a t|c 0, ")?;
-    cells.settle(rt, shards, &[Use { id: 0, rows: None }]);
+    cover(rt, alloc, cells, FIRST, bounds, true, "t|a t|c 1, ")?;
+    cells.settle(rt, shards, &[Use { id: 1, rows: None }]);
     cover(rt, alloc, cells, FIRST, bounds, false, "t|a t|c -, ")
 }
 

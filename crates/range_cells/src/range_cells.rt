@@ -56,7 +56,7 @@ pub struct RangeCells<N: Naming> {
 impl<N: Naming> RangeCells<N> {
     /// No cells, and as many as there are passes at most, whose rows and one more for each are at most the limit together, as
     /// they were when they were last read. The needs of each are at most the limit too. What is read and kept is allocated by this
-    /// allocator. Linear in the passes.
+    /// allocator, for a cell from when it is given to a range.
     pub fn new(
         alloc: Global,
         history: Arc<History>,
@@ -185,8 +185,8 @@ impl<N: Naming> RangeCells<N> {
     }
 
     /// Evicts the least recently used cells, as `SharedCells::make_room` does: one at least, where there is one. It says whether
-    /// one went. What they keep is let go, and they are not marked. It is linear in the cells that there may be, and takes no
-    /// memory. While another thread has such a cell, or a part of the base pairs, this one sleeps.
+    /// one went. What they keep is let go, and they are not marked. It is linear in the cells that there were at one time at most,
+    /// and takes no memory. While another thread has such a cell, or a part of the base pairs, this one sleeps.
     pub fn make_room<W: Wait>(&self, rt: &W) -> bool {
         self.cells.make_room(rt, &self.shards)
     }

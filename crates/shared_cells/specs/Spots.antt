@@ -1,5 +1,5 @@
 -- What stands at the numbers of cells.
-use Rattle.std.specs.Prelude.{◌≡◌, ℕ, List, slice_get, slice_set, Option, Some, None, option_map}
+use Rattle.std.specs.Prelude.{◌≡◌, ℕ, ◌++◌, List, replicate, slice_get, slice_set, Option, Some, None, option_map}
 use Rattle.semantics.specs.Texts.{Range}
 use Rattle.cell_slots.specs.declared.slot.Part.{Part}
 use Rattle.cell_slots.specs.Places.{place_in}
@@ -17,6 +17,10 @@ abbrev pub spot_view : {F T : Type 0} → Spot F T → SpotView
 spot_view (Free waiting next) = free
 spot_view (Taken join range cell) = taken join range
 spot_view Leaving = leaving
+
+-- what stands at the numbers that are in use, and at so many behind them, which are not: no cell
+abbrev pub with_unused : List SpotView → ℕ → List SpotView
+with_unused spots count = spots ++ replicate count free
 
 -- ---- places
 

@@ -47,7 +47,6 @@ pub struct Directory<N: Naming> {
     followed: Followed,
     has_strays: bool,
     listings: Listings,
-    cells: u32,
     spots: Spots<N>,
     uses: Uses,
 }
@@ -75,14 +74,15 @@ fn whole<N: Naming>(alloc: Global, range: &Range) -> Result<Vec<Part<N>>, OutOfM
     Ok(parts)
 }
 
-/// Gives a range of the join a cell for its rank, and answers with the cell's number. It gives none where each number has a cell,
-/// or where the range is empty or has something in common with one that has a cell for them.
+/// Gives a range of the join a cell for its rank, and answers with the cell's number, for whose uses there is room then. It gives
+/// none where each number has a cell, or where the range is empty or has something in common with one that has a cell for them.
 ///
 /// On `OutOfMemory` nothing changes.
 fn give_in<N: Naming>(
     alloc: Global,
     listings: &mut Listings,
     spots: &mut Spots<N>,
+    uses: &mut Uses,
     join: RankedJoin,
     range: &Range,
 ) -> Result<Option<u32>, OutOfMemory>
@@ -90,9 +90,11 @@ fn give_in<N: Naming>(
         (GivesCell join range.now (directory_of spots.old listings.old) (directory_of spots.new listings.new)) }
     ensures err { OnErr result (IsSame (directory_of spots.old listings.old) (directory_of spots.new listings.new)) }
 {
-    let Some(id) = spots.next_free() else {
+    let free = spots.next_free()?;
+    let Some(id) = free else {
         return Ok(None);
     };
+    uses.reach(id)?;
     let place = range.copy()?;
     let own = range.copy()?;
     let shared: SharedCell<N> = Arc::new(alloc, Mutex::new(None))?;
@@ -124,25 +126,21 @@ fn take_in<N: Naming>(
 }
 
 impl<N: Naming> Directory<N> {
-    /// Makes a number for each pass, from 0 up, none of which has a cell. Linear in the passes.
-    pub fn new(alloc: Global, passes: Vec<Pass>) -> Result<Directory<N>, OutOfMemory>
-        requires few { length passes.items ≤ 65536 }
-        requires same_history { All (λ pass. pass.history ≡ N.history) passes.items }
-        ensures { IfOk result (λ directory. directory ≡ directory_of (replicate (length passes.items) free) []) }
+    /// Makes a number for each pass, from 0 up, none of which has a cell. Nothing is allocated.
+    pub fn new(alloc: Global, passes: Vec<Pass>) -> Directory<N>
+        requires { All (λ pass. pass.history ≡ N.history) passes.items }
+        ensures { result ≡ directory_of (replicate (length passes.items) free) [] }
     {
-        let cells = passes.len() as u32;
-        let spots = Spots::new(alloc, passes)?;
-        let uses = Uses::new(alloc, cells)?;
+        let spots = Spots::new(alloc, passes);
         let listings = Listings::new(alloc);
-        Ok(Directory {
+        Directory {
             alloc,
             followed: Followed::new(alloc),
             has_strays: false,
             listings,
-            cells,
             spots,
-            uses,
-        })
+            uses: Uses::new(alloc),
+        }
     }
 
     /// Gives the pieces of a range, in order: what it has in common with ranges of the join that have a cell for its rank, which
@@ -185,7 +183,7 @@ impl<N: Naming> Directory<N> {
     /// Gives the numbers of the cells whose joins are not followed with their ranks.
     fn left_by(&self, followed: &Followed) -> Result<Vec<u32>, OutOfMemory> {
         let mut left = Vec::new(self.alloc);
-        for id in 0..self.cells {
+        for id in 0..self.spots.count() {
             if let Some(join) = self.spots.join_at(id)
                 && !followed.has(join)
             {
@@ -319,7 +317,14 @@ impl<N: Naming> Directory<N> {
         ensures given { IfOk result (GivesCell join range.now self.old self.new) }
         ensures err { OnErr result (IsSame self.old self.new) }
     {
-        give_in(self.alloc, &mut self.listings, &mut self.spots, join, range)
+        give_in(
+            self.alloc,
+            &mut self.listings,
+            &mut self.spots,
+            &mut self.uses,
+            join,
+            range,
+        )
     }
 
     /// Takes note that a cell was given to a join, and is used now.
@@ -339,11 +344,12 @@ impl<N: Naming> Directory<N> {
         }
     }
 
-    /// Gives the use that is half way from the last one of the least recently used cell to the last one of all. By then this cell
-    /// at least was last used. Linear in the numbers of cells, and it takes no memory.
-    pub fn older_half(&self) -> u64 {
+    /// Gives the use that is half way from the last one of the least recently used cell to the last one of all, and below which
+    /// number all cells are. By then the least recently used cell at least was last used. Linear in the cells that there were at
+    /// one time at most, and it takes no memory.
+    pub fn older_half(&self) -> (u64, u32) {
         let mut oldest = self.uses.count();
-        for id in 0..self.cells {
+        for id in 0..self.spots.count() {
             if let Some(last) = self.last_use(id)
                 && last < oldest
             {
@@ -351,7 +357,7 @@ impl<N: Naming> Directory<N> {
             }
         }
         let span = self.uses.count().saturating_sub(oldest);
-        oldest.saturating_add(span / 2)
+        (oldest.saturating_add(span / 2), self.spots.count())
     }
 
     /// Says whether there is a cell with the number, which was not used after so many uses. It takes constant time, and no

@@ -1,8 +1,8 @@
 // What stands at the numbers of cells.
-ghost use Rattle.std.specs.Prelude.{◌≡◌, ◌<◌, ◌≤◌, All, length, map, replicate, slice_get, slice_set, is_some, IfOk, MatchOption, Some, option_and_then, option_map};
+ghost use Rattle.std.specs.Prelude.{◌≡◌, ◌<◌, All, length, map, replicate, slice_get, slice_set, is_some, IfOk, MatchOption, Some, option_and_then, option_map};
 ghost use Rattle.std.specs.Bool.{MatchBool};
 ghost use Rattle.std.specs.Option.{option_copied};
-ghost use Rattle.shared_cells.specs.Spots.{IsPut, IsTakenOut, NoneIsTakenOut, leaving, number_at, number_of, place_of, spot_view, free};
+ghost use Rattle.shared_cells.specs.Spots.{IsPut, IsTakenOut, NoneIsTakenOut, leaving, number_at, number_of, place_of, spot_view, free, with_unused};
 
 use crate::cell::Cell;
 use crate::idle::IdlePass;
@@ -45,21 +45,30 @@ pub struct Evicted<N: Naming> {
 }
 
 /// What stands at the numbers of up to 65,536 cells. Contracts see where a cell stands, and for what it is.
+///
+/// Numbers are taken into use from 0 up, each when no other is free. One that is not in use takes the four bytes of its pass.
 #[derive(Drop)]
 pub struct Spots<N: Naming> {
     alloc: Global,
+    /// What stands at the numbers that are in use.
     spots: Vec<CellSpot<N>>,
-    /// A number that has no cell, if one has none. The others follow it, each the one before.
+    /// How many these are.
+    count: u32,
+    /// One of them that has no cell, if one has none. The others follow it, each the one before.
     free: Option<u32>,
+    /// A pass for each number that is not in use.
+    unused: Vec<Pass>,
 }
 
 impl<N: Naming> Model for Spots<N> {
-    ghost use Rattle.std.specs.Prelude.{List, map};
-    ghost use Rattle.shared_cells.specs.Spots.{SpotView, spot_view};
+    ghost use Rattle.std.specs.Prelude.{◌≡◌, All, List, length, map};
+    ghost use Rattle.shared_cells.specs.Spots.{SpotView, spot_view, with_unused};
 
     ghost Value = { List SpotView };
 
-    ghost view = { λ s. map spot_view s.spots.items };
+    ghost view = { λ s. with_unused (map spot_view s.spots.items) (length s.unused.items) };
+
+    ghost invariant = { λ s. All (λ pass. pass.history ≡ N.history) s.unused.items };
 }
 
 /// Gives what stands at a number; none where there is no such number. It takes constant time.
@@ -106,26 +115,63 @@ fn replace<N: Naming>(
     Some(swap(spots, id, spot))
 }
 
+/// Takes the next number into use, with one of the passes of those that are not, and says whether there was one. No cell stands
+/// there. It takes constant time. On `OutOfMemory` nothing changes.
+fn add_number<N: Naming>(
+    spots: &mut Vec<CellSpot<N>>,
+    unused: &mut Vec<Pass>,
+) -> Result<bool, OutOfMemory>
+    requires { All (λ pass. pass.history ≡ N.history) unused.old.items }
+    ensures same { with_unused (map spot_view spots.new.items) (length unused.new.items) ≡
+        with_unused (map spot_view spots.old.items) (length unused.old.items) }
+    ensures same_history { All (λ pass. pass.history ≡ N.history) unused.new.items }
+{
+    spots.reserve(1)?;
+    let Some(pass) = unused.pop() else {
+        return Ok(false);
+    };
+    match spots.push(Spot::Free(IdlePass::new(pass), None)) {
+        Ok(()) => Ok(true),
+        Err(_) => unreachable!(),
+    }
+}
+
 impl<N: Naming> Spots<N> {
-    /// Makes a number for each pass, from 0 up, none of which has a cell. Linear in the passes.
-    pub fn new(alloc: Global, passes: Vec<Pass>) -> Result<Spots<N>, OutOfMemory>
-        requires few { length passes.items ≤ 65536 }
-        requires same_history { All (λ pass. pass.history ≡ N.history) passes.items }
-        ensures { IfOk result (λ spots. spots ≡ replicate (length passes.items) free) }
+    /// Makes a number for each pass, from 0 up, none of which has a cell. Nothing is allocated.
+    pub fn new(alloc: Global, passes: Vec<Pass>) -> Spots<N>
+        requires { All (λ pass. pass.history ≡ N.history) passes.items }
+        ensures { result ≡ replicate (length passes.items) free }
     {
-        let mut spots = Vec::with_capacity(alloc, passes.len())?;
-        let mut free = None;
-        for pass in passes {
-            let number = spots.len() as u32;
-            spots.push(Spot::Free(IdlePass::new(pass), free))?;
-            free = Some(number);
+        let spots = Vec::new(alloc);
+        Spots {
+            alloc,
+            spots,
+            count: 0,
+            free: None,
+            unused: passes,
         }
-        Ok(Spots { alloc, spots, free })
     }
 
-    /// Gives a number that has no cell, if there is one. It takes constant time.
-    pub fn next_free(&self) -> Option<u32> {
-        self.free
+    /// Tells how many numbers are in use: those below have a cell, or had one, and the others never had one.
+    pub fn count(&self) -> u32 {
+        self.count
+    }
+
+    /// Gives a number that has no cell, if there is one. It takes constant time, and memory where the number was not in use.
+    ///
+    /// On `OutOfMemory` nothing changes.
+    pub fn next_free(&mut self) -> Result<Option<u32>, OutOfMemory>
+        ensures { self.new ≡ self.old }
+    {
+        if self.free.is_some() {
+            return Ok(self.free);
+        }
+        if !add_number(&mut self.spots, &mut self.unused)? {
+            return Ok(None);
+        }
+        self.free = Some(self.count);
+        self.count = self.count.saturating_add(1);
+        Ok(self.free)
     }
 
     /// Gives the cell with a number, and the number, if there is a cell. It takes constant time.

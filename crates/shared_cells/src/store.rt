@@ -27,15 +27,13 @@ use write_history::Pass;
 /// The directory and the book are locked alone, one after the other.
 #[derive(Drop)]
 pub struct SharedCells<N: Naming> {
-    /// Below which number their numbers are.
-    cells: u32,
     directory: Mutex<Directory<N>>,
     book: Mutex<CellBook>,
 }
 
 impl<N: Naming> SharedCells<N> {
     /// No cells, and as many as there are passes at most, which may weigh so much together: a cell weighs its rows and one
-    /// more. Linear in the passes.
+    /// more. It takes constant time; a cell takes memory from when it is given to a range.
     pub fn new(alloc: Global, passes: Vec<Pass>, limit: u64) -> Result<SharedCells<N>, OutOfMemory>
         requires some { 1 ≤ length passes.items }
         requires few { length passes.items ≤ 65536 }
@@ -43,10 +41,9 @@ impl<N: Naming> SharedCells<N> {
         requires same_history { All (λ pass. pass.history ≡ N.history) passes.items }
     {
         let cells = passes.len() as u32;
-        let directory = Directory::new(alloc, passes)?;
+        let directory = Directory::new(alloc, passes);
         let book = CellBook::new(alloc, cells, limit)?;
         Ok(SharedCells {
-            cells,
             directory: Mutex::new(directory),
             book: Mutex::new(book),
         })
@@ -139,13 +136,13 @@ impl<N: Naming> SharedCells<N> {
     /// the older half of the uses since then. So at least one goes where there is one, and the others after a few more calls: no
     /// more than the number of uses has binary digits. It says whether one went.
     ///
-    /// It is linear in the cells that there may be, with what `evict` takes for each that goes, and takes no memory. No lock of a
-    /// cell or of a part may be held, as with `evict`. While another thread has the directory, the book, such a cell or a part,
-    /// this one sleeps.
+    /// It is linear in the cells that there were at one time at most, with what `evict` takes for each that goes, and takes no
+    /// memory. No lock of a cell or of a part may be held, as with `evict`. While another thread has the directory, the book, such
+    /// a cell or a part, this one sleeps.
     pub fn make_room<W: Wait>(&self, rt: &W, shards: &BaseShards<N>) -> bool {
-        let until = self.directory.lock(rt).older_half();
+        let (until, cells) = self.directory.lock(rt).older_half();
         let mut has_gone = false;
-        for id in 0..self.cells {
+        for id in 0..cells {
             let is_old = self.directory.lock(rt).was_last_used_by(id, until);
             if is_old {
                 self.evict(rt, shards, id);

@@ -1,4 +1,4 @@
-// What a layer asks of the cells.
+// What layers ask of the lowest reader.
 ghost use Rattle.std.specs.Prelude.{◌≡◌, ℕ, ◌+◌, ◌-◌, ◌≤◌, Contains, List, length, map, take, slice_get, slice_set, true, MatchOption, IfOk, OnErr, Some, None};
 ghost use Rattle.semantics.specs.Texts.{Range as Bounds};
 ghost use Rattle.semantics.specs.Joins.{Join as PlainJoin, push};
@@ -21,7 +21,7 @@ use key_space::Range;
 use out_of_memory::OutOfMemory;
 use range_state::RangeState;
 
-/// A reader over cells, from which a layer above borrows.
+/// A reader over cells, from which the layers above borrow.
 ///
 /// A join is named by the position of its declaration.
 pub trait Cells: Reader {
@@ -99,7 +99,7 @@ pub trait Cells: Reader {
         ensures same_floor { Self.floor self.new ≡ Self.floor self.old };
 
     /// How a call of the reader leaves the cells.
-    ghost went_frame: { (a b : Self) → Self.went a b → Frame Self.top (holdings a) (holdings b) };
+    ghost went_frame: { (a b : Self) → Self.went a b → Frame 0 (holdings a) (holdings b) };
 
     /// What reading costs, and what it leaves in the cells.
     ghost spends_so: { (a b : Self) (p : ℕ) (range : Bounds) (rank added : ℕ) → Self.spends a b p range rank added → Spends (Self.list a) (holdings a) (holdings b) p range rank added };

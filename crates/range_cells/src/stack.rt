@@ -13,16 +13,15 @@ ghost use Rattle.shared_cells.specs.Cells.{IsWideCell};
 ghost use Rattle.range_cells.specs.Turns.{AdvancesLittle};
 
 use base_shards::Naming;
-use join_eval::{Changed, KeepFault, Reader, TooMany};
+use join_eval::{Changed, KeepFault, TooMany};
 use join_types::Pair;
 use key_space::Range;
 use out_of_memory::OutOfMemory;
 use pq_io::Gate;
 use shared_cells::Cell;
-use shared_layers::layer::{Four, Two};
-use shared_layers::{Layer, Room, Tower};
+use shared_layers::{AllRanks, Rank, RankReader, Room};
 use shared_reader::{SharedReader, Stacked, Use};
-use std::marker::Model;
+use std::marker::{Model, PhantomData};
 use std::sync::Wait;
 use std::sync::ledger::Ledger;
 use steps::Steps;
@@ -32,7 +31,8 @@ use write_history::Pass;
 /// see it as the pass.
 #[derive(Drop)]
 pub struct Stack<'a, N: Naming, W, G> {
-    tower: Tower<'a, N, W, G, SharedReader<'a, N, W>>,
+    room: &'a Room<'a, N, W, G>,
+    lowest: SharedReader<'a, N, W>,
 }
 
 impl<'a, N: Naming, W, G> Model for Stack<'a, N, W, G> {
@@ -40,140 +40,7 @@ impl<'a, N: Naming, W, G> Model for Stack<'a, N, W, G> {
 
     ghost Value = { PassView };
 
-    ghost view = { λ s. s.tower.inner.inner.inner.inner.inner.inner.inner.inner };
-}
-
-/// Two layers over a reader.
-fn two<'a, N: Naming, W, G, R>(
-    room: &'a Room<'a, N, W, G>,
-    inner: R,
-) -> Layer<'a, N, W, G, Layer<'a, N, W, G, R>>
-    ensures { result.inner.inner ≡ inner }
-{
-    Layer {
-        room,
-        inner: Layer { room, inner },
-    }
-}
-
-/// Four layers over a reader.
-fn four<'a, N: Naming, W, G, R>(
-    room: &'a Room<'a, N, W, G>,
-    inner: R,
-) -> Layer<'a, N, W, G, Layer<'a, N, W, G, Layer<'a, N, W, G, Layer<'a, N, W, G, R>>>>
-    ensures { result.inner.inner.inner.inner ≡ inner }
-{
-    two(room, two(room, inner))
-}
-
-/// The pairs of a range in the state after the first p entries, by four layers over a reader of the first four ranks.
-fn read_upper<'a, N: Naming, W: Wait, G: Gate, R: Stacked<N>, L: Ledger>(
-    four: &mut Four<'a, N, W, G, R>,
-    p: u64,
-    range: &Range,
-    steps: &mut Steps<L>,
-) -> Result<Vec<Pair>, OutOfMemory>
-    requires top { R.top ≡ 4 }
-    requires within { p ≤ length (R.list four.old.inner.inner.inner.inner) }
-    requires above { R.floor four.old.inner.inner.inner.inner ≤ p }
-    ensures exact { IfOk result (λ pairs. pairs.items ≡ pairs_within range.now (state (take p (R.list four.old.inner.inner.inner.inner)))) }
-    ensures went { R.went four.old.inner.inner.inner.inner four.new.inner.inner.inner.inner }
-    ensures counted { steps.old ≤ steps.new }
-{
-    four.pairs(p, range, 8, steps)
-}
-
-/// The pairs of a range in the state after the first p entries, by six layers over a reader of the first two ranks.
-fn read_middle<'a, N: Naming, W: Wait, G: Gate, R: Stacked<N>, L: Ledger>(
-    six: &mut Four<'a, N, W, G, Two<'a, N, W, G, R>>,
-    p: u64,
-    range: &Range,
-    steps: &mut Steps<L>,
-) -> Result<Vec<Pair>, OutOfMemory>
-    requires top { R.top ≡ 2 }
-    requires within { p ≤ length (R.list six.old.inner.inner.inner.inner.inner.inner) }
-    requires above { R.floor six.old.inner.inner.inner.inner.inner.inner ≤ p }
-    ensures exact { IfOk result (λ pairs. pairs.items ≡ pairs_within range.now (state (take p (R.list six.old.inner.inner.inner.inner.inner.inner)))) }
-    ensures went { R.went six.old.inner.inner.inner.inner.inner.inner six.new.inner.inner.inner.inner.inner.inner }
-    ensures counted { steps.old ≤ steps.new }
-{
-    read_upper(six, p, range, steps)
-}
-
-/// The pairs of a range in the state after the first p entries, by eight layers over a reader of no rank.
-fn read_lower<'a, N: Naming, W: Wait, G: Gate, R: Stacked<N>, L: Ledger>(
-    tower: &mut Tower<'a, N, W, G, R>,
-    p: u64,
-    range: &Range,
-    steps: &mut Steps<L>,
-) -> Result<Vec<Pair>, OutOfMemory>
-    requires top { R.top ≡ 0 }
-    requires within { p ≤ length (R.list tower.old.inner.inner.inner.inner.inner.inner.inner.inner) }
-    requires above { R.floor tower.old.inner.inner.inner.inner.inner.inner.inner.inner ≤ p }
-    ensures exact { IfOk result (λ pairs. pairs.items ≡ pairs_within range.now (state (take p (R.list tower.old.inner.inner.inner.inner.inner.inner.inner.inner)))) }
-    ensures went { R.went tower.old.inner.inner.inner.inner.inner.inner.inner.inner tower.new.inner.inner.inner.inner.inner.inner.inner.inner }
-    ensures counted { steps.old ≤ steps.new }
-{
-    read_middle(tower, p, range, steps)
-}
-
-/// What may have changed in a range between the first q and the first p entries, by four layers over a reader of the first four
-/// ranks.
-fn changed_upper<'a, N: Naming, W: Wait, G: Gate, R: Stacked<N>, L: Ledger>(
-    four: &mut Four<'a, N, W, G, R>,
-    q: u64,
-    p: u64,
-    range: &Range,
-    steps: &mut Steps<L>,
-) -> Result<Changed, OutOfMemory>
-    requires top { R.top ≡ 4 }
-    requires order { q ≤ p }
-    requires within { p ≤ length (R.list four.old.inner.inner.inner.inner) }
-    requires above { R.floor four.old.inner.inner.inner.inner ≤ q }
-    ensures exact { IfOk result (AnswersChanges (R.list four.old.inner.inner.inner.inner) q p 8 range.now) }
-    ensures went { R.went four.old.inner.inner.inner.inner four.new.inner.inner.inner.inner }
-    ensures counted { steps.old ≤ steps.new }
-{
-    four.changed(q, p, range, 8, steps)
-}
-
-/// What may have changed in a range between the first q and the first p entries, by six layers over a reader of the first two
-/// ranks.
-fn changed_middle<'a, N: Naming, W: Wait, G: Gate, R: Stacked<N>, L: Ledger>(
-    six: &mut Four<'a, N, W, G, Two<'a, N, W, G, R>>,
-    q: u64,
-    p: u64,
-    range: &Range,
-    steps: &mut Steps<L>,
-) -> Result<Changed, OutOfMemory>
-    requires top { R.top ≡ 2 }
-    requires order { q ≤ p }
-    requires within { p ≤ length (R.list six.old.inner.inner.inner.inner.inner.inner) }
-    requires above { R.floor six.old.inner.inner.inner.inner.inner.inner ≤ q }
-    ensures exact { IfOk result (AnswersChanges (R.list six.old.inner.inner.inner.inner.inner.inner) q p 8 range.now) }
-    ensures went { R.went six.old.inner.inner.inner.inner.inner.inner six.new.inner.inner.inner.inner.inner.inner }
-    ensures counted { steps.old ≤ steps.new }
-{
-    changed_upper(six, q, p, range, steps)
-}
-
-/// What may have changed in a range between the first q and the first p entries, by eight layers over a reader of no rank.
-fn changed_lower<'a, N: Naming, W: Wait, G: Gate, R: Stacked<N>, L: Ledger>(
-    tower: &mut Tower<'a, N, W, G, R>,
-    q: u64,
-    p: u64,
-    range: &Range,
-    steps: &mut Steps<L>,
-) -> Result<Changed, OutOfMemory>
-    requires top { R.top ≡ 0 }
-    requires order { q ≤ p }
-    requires within { p ≤ length (R.list tower.old.inner.inner.inner.inner.inner.inner.inner.inner) }
-    requires above { R.floor tower.old.inner.inner.inner.inner.inner.inner.inner.inner ≤ q }
-    ensures exact { IfOk result (AnswersChanges (R.list tower.old.inner.inner.inner.inner.inner.inner.inner.inner) q p 8 range.now) }
-    ensures went { R.went tower.old.inner.inner.inner.inner.inner.inner.inner.inner tower.new.inner.inner.inner.inner.inner.inner.inner.inner }
-    ensures counted { steps.old ≤ steps.new }
-{
-    changed_middle(tower, q, p, range, steps)
+    ghost view = { λ s. s.lowest };
 }
 
 /// Advances what a cell keeps to where the first p entries stand, by a reader, if the cell is for the rank. The cell follows the
@@ -208,134 +75,19 @@ fn advance_by<N: Naming, R: Stacked<N>, G: Gate, L: Ledger>(
     advanced
 }
 
-/// Advances what a cell keeps to where the first p entries stand, by two layers over a reader of the first six ranks.
-fn advance_top<'a, N: Naming, W: Wait, G: Gate, R: Stacked<N>, L: Ledger>(
-    two: &mut Two<'a, N, W, G, R>,
-    cell: &mut Cell<N>,
-    id: u32,
-    p: u64,
-    rank: Option<u8>,
-    most: u64,
-    gate: &G,
-    steps: &mut Steps<L>,
-) -> Result<(), KeepFault<TooMany>>
-    requires top { R.top ≡ 6 }
-    requires within { p ≤ length (R.list two.old.inner.inner) }
-    requires above { R.floor two.old.inner.inner ≤ p }
-    requires rank { IsRankAt (R.list two.old.inner.inner) p cell.old.at rank }
-    requires ranked { IfSome rank (λ r. r ≤ 7) }
-    ensures advances { AdvancesCell (R.floor two.old.inner.inner) p rank result cell.old cell.new }
-    ensures little { AdvancesLittle (R.list two.old.inner.inner) (R.floor two.old.inner.inner) p rank result cell.old cell.new steps.old steps.new }
-    ensures wide { IfErr result (OnTooWide (IsWideCell most (R.list two.old.inner.inner) p cell.new)) }
-    ensures met { cell.new.pass.view ≡ R.list two.new.inner.inner }
-    ensures went { R.went two.old.inner.inner two.new.inner.inner }
-    ensures counted { steps.old ≤ steps.new }
-{
-    advance_by(two, cell, id, p, rank, most, gate, steps)
-}
-
-/// Advances what a cell keeps to where the first p entries stand, by four layers over a reader of the first four ranks.
-fn advance_upper<'a, N: Naming, W: Wait, G: Gate, R: Stacked<N>, L: Ledger>(
-    four: &mut Four<'a, N, W, G, R>,
-    cell: &mut Cell<N>,
-    id: u32,
-    p: u64,
-    rank: Option<u8>,
-    most: u64,
-    gate: &G,
-    steps: &mut Steps<L>,
-) -> Result<(), KeepFault<TooMany>>
-    requires top { R.top ≡ 4 }
-    requires within { p ≤ length (R.list four.old.inner.inner.inner.inner) }
-    requires above { R.floor four.old.inner.inner.inner.inner ≤ p }
-    requires rank { IsRankAt (R.list four.old.inner.inner.inner.inner) p cell.old.at rank }
-    requires ranked { IfSome rank (λ r. r ≤ 7) }
-    ensures advances { AdvancesCell (R.floor four.old.inner.inner.inner.inner) p rank result cell.old cell.new }
-    ensures little { AdvancesLittle (R.list four.old.inner.inner.inner.inner) (R.floor four.old.inner.inner.inner.inner) p rank result cell.old cell.new steps.old steps.new }
-    ensures wide { IfErr result (OnTooWide (IsWideCell most (R.list four.old.inner.inner.inner.inner) p cell.new)) }
-    ensures met { cell.new.pass.view ≡ R.list four.new.inner.inner.inner.inner }
-    ensures went { R.went four.old.inner.inner.inner.inner four.new.inner.inner.inner.inner }
-    ensures counted { steps.old ≤ steps.new }
-{
-    advance_top(four, cell, id, p, rank, most, gate, steps)
-}
-
-/// Advances what a cell keeps to where the first p entries stand, by six layers over a reader of the first two ranks.
-fn advance_middle<'a, N: Naming, W: Wait, G: Gate, R: Stacked<N>, L: Ledger>(
-    six: &mut Four<'a, N, W, G, Two<'a, N, W, G, R>>,
-    cell: &mut Cell<N>,
-    id: u32,
-    p: u64,
-    rank: Option<u8>,
-    most: u64,
-    gate: &G,
-    steps: &mut Steps<L>,
-) -> Result<(), KeepFault<TooMany>>
-    requires top { R.top ≡ 2 }
-    requires within { p ≤ length (R.list six.old.inner.inner.inner.inner.inner.inner) }
-    requires above { R.floor six.old.inner.inner.inner.inner.inner.inner ≤ p }
-    requires rank { IsRankAt (R.list six.old.inner.inner.inner.inner.inner.inner) p cell.old.at rank }
-    requires ranked { IfSome rank (λ r. r ≤ 7) }
-    ensures advances { AdvancesCell (R.floor six.old.inner.inner.inner.inner.inner.inner) p rank result cell.old cell.new }
-    ensures little { AdvancesLittle (R.list six.old.inner.inner.inner.inner.inner.inner) (R.floor six.old.inner.inner.inner.inner.inner.inner) p rank result cell.old cell.new steps.old steps.new }
-    ensures wide { IfErr result (OnTooWide (IsWideCell most (R.list six.old.inner.inner.inner.inner.inner.inner) p cell.new)) }
-    ensures met { cell.new.pass.view ≡ R.list six.new.inner.inner.inner.inner.inner.inner }
-    ensures went { R.went six.old.inner.inner.inner.inner.inner.inner six.new.inner.inner.inner.inner.inner.inner }
-    ensures counted { steps.old ≤ steps.new }
-{
-    advance_upper(six, cell, id, p, rank, most, gate, steps)
-}
-
-/// Advances what a cell keeps to where the first p entries stand, by eight layers over a reader of no rank.
-fn advance_lower<'a, N: Naming, W: Wait, G: Gate, R: Stacked<N>, L: Ledger>(
-    tower: &mut Tower<'a, N, W, G, R>,
-    cell: &mut Cell<N>,
-    id: u32,
-    p: u64,
-    rank: Option<u8>,
-    most: u64,
-    gate: &G,
-    steps: &mut Steps<L>,
-) -> Result<(), KeepFault<TooMany>>
-    requires top { R.top ≡ 0 }
-    requires within { p ≤ length (R.list tower.old.inner.inner.inner.inner.inner.inner.inner.inner) }
-    requires above { R.floor tower.old.inner.inner.inner.inner.inner.inner.inner.inner ≤ p }
-    requires rank { IsRankAt (R.list tower.old.inner.inner.inner.inner.inner.inner.inner.inner) p cell.old.at rank }
-    requires ranked { IfSome rank (λ r. r ≤ 7) }
-    ensures advances { AdvancesCell (R.floor tower.old.inner.inner.inner.inner.inner.inner.inner.inner) p rank result cell.old cell.new }
-    ensures little { AdvancesLittle (R.list tower.old.inner.inner.inner.inner.inner.inner.inner.inner) (R.floor tower.old.inner.inner.inner.inner.inner.inner.inner.inner) p rank result cell.old cell.new steps.old steps.new }
-    ensures wide { IfErr result (OnTooWide (IsWideCell most (R.list tower.old.inner.inner.inner.inner.inner.inner.inner.inner) p cell.new)) }
-    ensures met { cell.new.pass.view ≡ R.list tower.new.inner.inner.inner.inner.inner.inner.inner.inner }
-    ensures went { R.went tower.old.inner.inner.inner.inner.inner.inner.inner.inner tower.new.inner.inner.inner.inner.inner.inner.inner.inner }
-    ensures counted { steps.old ≤ steps.new }
-{
-    advance_middle(tower, cell, id, p, rank, most, gate, steps)
-}
-
 impl<'a, N: Naming, W, G> Stack<'a, N, W, G> {
     /// The reader over a lowest one.
     pub fn new(room: &'a Room<'a, N, W, G>, lowest: SharedReader<'a, N, W>) -> Stack<'a, N, W, G>
         ensures { result ≡ lowest.entry }
     {
-        Stack {
-            tower: four(room, four(room, lowest)),
-        }
+        Stack { room, lowest }
     }
 
     /// The pass, and which cells were used, in order.
     pub fn into_parts(self) -> (Pass, Vec<Use>)
         ensures { result.0 ≡ self.entry }
     {
-        self.tower
-            .inner
-            .inner
-            .inner
-            .inner
-            .inner
-            .inner
-            .inner
-            .inner
-            .into_parts()
+        self.lowest.into_parts()
     }
 }
 
@@ -353,7 +105,7 @@ impl<'a, N: Naming, W: Wait, G: Gate> Stack<'a, N, W, G> {
         ensures reads_on { ReadsOn self.old self.new }
         ensures counted { steps.old ≤ steps.new }
     {
-        read_lower(&mut self.tower, p, range, steps)
+        AllRanks::pairs(self.room, &mut self.lowest, p, range, 8, steps)
     }
 
     /// What may have changed in a range of the state between the first q and the first p entries that the pass has seen: keys of
@@ -372,7 +124,7 @@ impl<'a, N: Naming, W: Wait, G: Gate> Stack<'a, N, W, G> {
         ensures reads_on { ReadsOn self.old self.new }
         ensures counted { steps.old ≤ steps.new }
     {
-        changed_lower(&mut self.tower, q, p, range, steps)
+        AllRanks::changed(self.room, &mut self.lowest, q, p, range, 8, steps)
     }
 
     /// Advances what a cell with a number keeps to where the first p entries that the pass has seen stand, where it stands below.
@@ -404,6 +156,11 @@ impl<'a, N: Naming, W: Wait, G: Gate> Stack<'a, N, W, G> {
         ensures reads_on { ReadsOn self.old self.new }
         ensures counted { steps.old ≤ steps.new }
     {
-        advance_lower(&mut self.tower, cell, id, p, rank, most, gate, steps)
+        let mut reader: RankReader<'_, 'a, N, W, G, SharedReader<'a, N, W>, AllRanks> = RankReader {
+            room: self.room,
+            lowest: &mut self.lowest,
+            rank: PhantomData,
+        };
+        advance_by(&mut reader, cell, id, p, rank, most, gate, steps)
     }
 }

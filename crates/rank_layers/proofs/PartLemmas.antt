@@ -26,14 +26,22 @@ use Rattle.cell_slots.proofs.DeclaredLemmas.{declared_over_longer, declared_once
 use Rattle.cell_slots.proofs.FrameLemmas.{frame_weaker, frame_around, still_lent, given_back}
 use Rattle.rank_layers.proofs.MoveLemmas.{moves_as}
 
+-- ---- the value behind a borrow, which is the lender's when the borrow has ended
+
+-- what holds of the one holds of the other; a tactic finds that they are equal
+pub of_lender : {A : Type 0} (P : A → Type 0) {lender borrowed : A} → P borrowed → lender ≡ borrowed → P lender
+of_lender P holds same = subst P (sym same) holds
+
+pub of_borrowed : {A : Type 0} (P : A → Type 0) {lender borrowed : A} → P lender → lender ≡ borrowed → P borrowed
+of_borrowed P holds same = subst P same holds
+
 -- ---- how a reader goes on
 
--- how the reader below goes on, as a layer's
-pub moves_below : {S : Type 0} (list : S → History) (floor : S → ℕ) (went : S → S → Type 0) (holds : S → Holdings) (top rank : ℕ) (a b : S) → top ≡ rank → (went a b → Frame top (holds a) (holds b)) → Moves list floor went a b →
-    Moves list floor (λ x y. Frame (rank + 1) (holds x) (holds y)) a b
-moves_below list floor went holds top rank a b is frames moves =
-    moves_as list floor went (λ x y. Frame (rank + 1) (holds x) (holds y)) a b
-    (λ on. frame_weaker rank (rank + 1) (holds a) (holds b) (omega arith) (subst (λ t. Frame t (holds a) (holds b)) is (frames on))) moves
+-- how the lowest reader goes on below a rank, as below a greater one
+pub moves_weaker : {S : Type 0} (list : S → History) (floor : S → ℕ) (holds : S → Holdings) (top more : ℕ) (a b : S) → top ≤ more → Moves list floor (λ x y. Frame top (holds x) (holds y)) a b →
+    Moves list floor (λ x y. Frame more (holds x) (holds y)) a b
+moves_weaker list floor holds top more a b up moves =
+    moves_as list floor (λ x y. Frame top (holds x) (holds y)) (λ x y. Frame more (holds x) (holds y)) a b (frame_weaker top more (holds a) (holds b) up) moves
 
 -- a reader that keeps its list and its floor
 pub moves_by_frame : {S : Type 0} (list : S → History) (floor : S → ℕ) (holds : S → Holdings) (top : ℕ) (a b : S) → list b ≡ list a → floor b ≡ floor a → Frame top (holds a) (holds b) →
@@ -67,14 +75,14 @@ frame_part h floor before lent mid after id at rank p part state s takes frame s
     frame_around before lent mid after id at rank takes.was s state.range takes.held takes.least takes.lent frame set (same.range ∙ sym takes.same_range)
 
 -- and so does the reader
-pub moves_part : {S : Type 0} (list : S → History) (floor : S → ℕ) (went : S → S → Type 0) (holds : S → Holdings) (top rank : ℕ) (a b c d : S) (id at p : ℕ) (part : Range) (state s : KeptRange) → top ≡ rank →
-    Takes (list a) (floor a) (holds a) (holds b) id at rank p part state → list b ≡ list a → floor b ≡ floor a → (went b c → Frame top (holds b) (holds c)) → Moves list floor went b c →
+pub moves_part : {S : Type 0} (list : S → History) (floor : S → ℕ) (holds : S → Holdings) (top rank : ℕ) (a b c d : S) (id at p : ℕ) (part : Range) (state s : KeptRange) → top ≡ rank →
+    Takes (list a) (floor a) (holds a) (holds b) id at rank p part state → list b ≡ list a → floor b ≡ floor a → Moves list floor (λ x y. Frame top (holds x) (holds y)) b c →
     holds d ≡ with_slot id (Held at s) (holds c) → HasSameSubject state s → list d ≡ list c → floor d ≡ floor c → Moves list floor (λ x y. Frame (rank + 1) (holds x) (holds y)) a d
-moves_part list floor went holds top rank a b c d id at p part state s is takes same floors frames moves set subject last last_floor = record {
+moves_part list floor holds top rank a b c d id at p part state s is takes same floors moves set subject last last_floor = record {
   kept = subst (λ l. IsPrefix l (list d)) same (subst (IsPrefix (list b)) (sym last) moves.kept);
   entered = λ e. subst HasEntered (sym last) (moves.entered (subst HasEntered (sym same) e));
   same_floor = last_floor ∙ moves.same_floor ∙ floors;
-  on = frame_part (list a) (floor a) (holds a) (holds b) (holds c) (holds d) id at rank p part state s takes (subst (λ t. Frame t (holds b) (holds c)) is (frames moves.on)) set subject;
+  on = frame_part (list a) (floor a) (holds a) (holds b) (holds c) (holds d) id at rank p part state s takes (subst (λ t. Frame t (holds b) (holds c)) is moves.on) set subject;
 }
 
 -- what was served is the join's output in the part

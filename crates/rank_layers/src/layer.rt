@@ -1,137 +1,120 @@
-// A layer: a reader of one rank more than the one that it stands on.
+// Layers: one rank, and one more.
 ghost use Rattle.std.specs.Prelude.{◌+◌, min};
-ghost use Rattle.cell_slots.specs.Slots.{Frame};
-ghost use Rattle.cell_slots.specs.FrameLaws.{frame_refl, frame_trans, min_small};
-ghost use Rattle.cell_slots.specs.Spending.{Spends};
+ghost use Rattle.std.proofs.Common.{rules};
+ghost use Rattle.cell_slots.specs.FrameLaws.{min_small};
 
 use crate::above::{changed_above, pairs_above};
 use crate::own_cells::OwnCells;
-use cell_slots::{Cells, Part};
-use join_eval::{Between, Changed, Reader};
-use join_types::{Join, Pair};
+use crate::rank::Rank;
+use crate::rank_reader::RankReader;
+use cell_slots::Cells;
+use join_eval::Changed;
+use join_types::Pair;
 use key_space::Range;
 use out_of_memory::OutOfMemory;
-use range_state::RangeState;
 use std::alloc::Global;
+use std::marker::PhantomData;
 use std::sync::ledger::Ledger;
 use steps::Steps;
 
-/// Reads one rank more than the reader that it stands on, up to 8, and keeps what the joins of that rank give in that
-/// reader's cells.
-#[derive(Drop)]
-pub struct Layer<R> {
-    /// By which kept ranges grow.
-    pub alloc: Global,
-    /// The reader of the ranks below.
-    pub inner: R,
+/// Reads at rank 0, as the lowest reader does.
+pub struct Lowest {}
+
+/// Reads one rank more than a rank, up to 8, and keeps what the joins of that rank give in cells of the lowest reader.
+pub struct Layer<T> {
+    below: PhantomData<T>,
 }
 
-impl<R: Cells> Reader for Layer<R> {
-    ghost list = { λ l. R.list l.inner };
+impl Rank for Lowest {
+    ghost top = { 0 };
 
-    ghost top = { min 8 (R.top + 1) };
+    ghost top_small = { Prim.search rules };
 
-    ghost floor = { λ l. R.floor l.inner };
-
-    ghost went = { λ a b. Frame (min 8 (R.top + 1)) (R.holdings a.inner) (R.holdings b.inner) };
-
-    ghost spends = { λ a b p range rank added. Spends (R.list a.inner) (R.holdings a.inner) (R.holdings b.inner) p range rank added };
-
-    ghost top_small = { min_small (R.top + 1) };
-
-    ghost went_refl = { λ a. frame_refl (min 8 (R.top + 1)) (R.holdings a.inner) };
-
-    ghost went_trans = { λ a b c first next. frame_trans (min 8 (R.top + 1)) (R.holdings a.inner) (R.holdings b.inner) (R.holdings c.inner) first next };
-
-    fn top_rank(&self) -> u8 {
-        let top = self.inner.top_rank();
-        if top < 8 { top + 1 } else { 8 }
+    fn top_rank() -> u8 {
+        0
     }
 
-    fn pairs<L: Ledger>(
-        &mut self,
+    fn pairs<S: Cells, L: Ledger>(
+        _alloc: Global,
+        lowest: &mut S,
         p: u64,
         range: &Range,
         rank: u8,
         steps: &mut Steps<L>,
     ) -> Result<Vec<Pair>, OutOfMemory> {
-        if rank <= self.inner.top_rank() {
-            return self.inner.pairs(p, range, rank, steps);
-        }
-        let cache = OwnCells { alloc: self.alloc };
-        pairs_above(&cache, rank - 1, p, range, &mut self.inner, steps)
+        lowest.pairs(p, range, rank, steps)
     }
 
-    fn changed<L: Ledger>(
-        &mut self,
+    fn changed<S: Cells, L: Ledger>(
+        _alloc: Global,
+        lowest: &mut S,
         q: u64,
         p: u64,
         range: &Range,
         rank: u8,
         steps: &mut Steps<L>,
     ) -> Result<Changed, OutOfMemory> {
-        if rank <= self.inner.top_rank() {
-            return self.inner.changed(q, p, range, rank, steps);
-        }
-        let cache = OwnCells { alloc: self.alloc };
-        changed_above(&cache, rank - 1, q, p, range, &mut self.inner, steps)
+        lowest.changed(q, p, range, rank, steps)
     }
 }
 
-impl<R: Cells> Cells for Layer<R> {
-    ghost holdings = { λ l. R.holdings l.inner };
+impl<T: Rank> Rank for Layer<T> {
+    ghost top = { min 8 (T.top + 1) };
 
-    ghost went_frame = { λ a b on. on };
+    ghost top_small = { min_small (T.top + 1) };
 
-    ghost spends_so = { λ a b p range rank added so. so };
-
-    fn reached(&mut self, p: u64, range: &Range, rank: u8) -> Result<Vec<u64>, OutOfMemory> {
-        self.inner.reached(p, range, rank)
+    fn top_rank() -> u8 {
+        let top = T::top_rank();
+        if top < 8 { top + 1 } else { 8 }
     }
 
-    fn between(&mut self, q: u64, p: u64, range: &Range) -> Result<Between, OutOfMemory> {
-        self.inner.between(q, p, range)
-    }
-
-    fn join_at(&self, at: u64) -> Result<Join, OutOfMemory> {
-        self.inner.join_at(at)
-    }
-
-    fn parts(&self, at: u64, range: &Range) -> Result<Vec<Part>, OutOfMemory> {
-        self.inner.parts(at, range)
-    }
-
-    fn cover(
-        &mut self,
-        at: u64,
-        rank: u8,
+    fn pairs<S: Cells, L: Ledger>(
+        alloc: Global,
+        lowest: &mut S,
         p: u64,
         range: &Range,
-    ) -> Result<Vec<Part>, OutOfMemory> {
-        self.inner.cover(at, rank, p, range)
-    }
-
-    fn lend(
-        &mut self,
-        id: u32,
-        at: u64,
         rank: u8,
-        p: u64,
-        part: &Range,
-    ) -> Result<Option<RangeState>, OutOfMemory> {
-        self.inner.lend(id, at, rank, p, part)
+        steps: &mut Steps<L>,
+    ) -> Result<Vec<Pair>, OutOfMemory> {
+        if rank <= T::top_rank() {
+            return T::pairs(alloc, lowest, p, range, rank, steps);
+        }
+        let mut reader: RankReader<'_, S, T> = RankReader {
+            alloc,
+            lowest,
+            rank: PhantomData,
+        };
+        let cache = OwnCells { alloc };
+        pairs_above(&cache, rank - 1, p, range, &mut reader, steps)
     }
 
-    fn give_back(&mut self, id: u32, at: u64, state: RangeState) {
-        self.inner.give_back(id, at, state);
+    fn changed<S: Cells, L: Ledger>(
+        alloc: Global,
+        lowest: &mut S,
+        q: u64,
+        p: u64,
+        range: &Range,
+        rank: u8,
+        steps: &mut Steps<L>,
+    ) -> Result<Changed, OutOfMemory> {
+        if rank <= T::top_rank() {
+            return T::changed(alloc, lowest, q, p, range, rank, steps);
+        }
+        let mut reader: RankReader<'_, S, T> = RankReader {
+            alloc,
+            lowest,
+            rank: PhantomData,
+        };
+        let cache = OwnCells { alloc };
+        changed_above(&cache, rank - 1, q, p, range, &mut reader, steps)
     }
 }
 
 /// Two layers more.
-pub type Two<R> = Layer<Layer<R>>;
+pub type Two<T> = Layer<Layer<T>>;
 
 /// Four layers more.
-pub type Four<R> = Two<Two<R>>;
+pub type Four<T> = Two<Two<T>>;
 
-/// Eight layers on the lowest reader: it reads joins of all ranks.
-pub type Tower<R> = Four<Four<R>>;
+/// Eight layers over the lowest reader: all ranks.
+pub type AllRanks = Four<Four<Lowest>>;

@@ -1,8 +1,9 @@
 // A reader of one rank more: it stands on a reader of the ranks below, and on a cache of ranges of its joins' outputs.
 //
 // What it does is written once, over `RangeCache`: `above` reads and says what changed, over `outputs` and `telling`. The
-// cache is `OwnCells`, the cells of the reader that it stands on, or cells that threads share, which the layers above give.
-// They may also use `Layer`, which stands on any reader over cells; nested eight times it reads joins of all ranks.
+// cache is `OwnCells`, the cells of the lowest reader, or cells that threads share, which the layers above give.
+// They may also use `RankReader`, which borrows a lowest reader over cells and reads up to a rank. A rank is a type, `Lowest` or a
+// `Layer` over another rank; eight layers, `AllRanks`, read joins of all ranks.
 #![tactic(auto)]
 
 pub mod above;
@@ -13,9 +14,13 @@ pub mod own_cells;
 pub mod part;
 pub mod query;
 pub mod range_cache;
+pub mod rank;
+pub mod rank_reader;
 pub mod telling;
 
-pub use layer::{Layer, Tower};
+pub use layer::AllRanks;
 pub use own_cells::OwnCells;
 pub use query::Query;
 pub use range_cache::RangeCache;
+pub use rank::Rank;
+pub use rank_reader::RankReader;

@@ -5,7 +5,6 @@ pub mod Reading
 pub mod CoreLaws
 pub mod Cells
 pub mod LettingGo
-pub mod Towers
 pub mod Places
 pub mod Going
 pub mod Worlds

@@ -9,7 +9,6 @@ pub mod contents;
 pub mod reading;
 pub mod run;
 pub mod scan_table;
-pub mod stack;
 pub mod world;
 
 pub use run::run_events;

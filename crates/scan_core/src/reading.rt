@@ -1,4 +1,4 @@
-// What a scan's piece and events of cells do to the reader.
+// What a scan's piece and events of cells do to the core.
 ghost use Rattle.std.specs.Prelude.{◌≡◌, ℕ, ◌+◌, ◌-◌, ◌<◌, ◌≤◌, length, take, IfOk, OnOk};
 ghost use Rattle.semantics.specs.Texts.{pairs_within};
 ghost use Rattle.semantics.specs.Histories.{joins_of};
@@ -16,34 +16,37 @@ ghost use Rattle.scan_core.specs.Rights.{AreRight};
 ghost use Rattle.scan_core.specs.Worlds.{IsAdvancedIn, IsMendedIn, NoneLent, PieceSpends};
 
 use crate::cell_events::{advance_to, mend};
-use crate::stack::Stack;
-use join_eval::Reader;
+use crate::contents::Core;
+use cell_slots::Cells;
 use join_types::Pair;
 use key_space::Range;
 use out_of_memory::OutOfMemory;
+use rank_layers::{AllRanks, Rank, RankReader};
 use std::alloc::Global;
+use std::marker::PhantomData;
 use std::sync::ledger::Ledger;
 use steps::Steps;
 
 /// The pairs of a range after the first p entries, with the joins of all ranks. The history stays, and no more cells are lent.
 fn read_all<L: Ledger>(
-    reader: &mut Stack,
+    alloc: Global,
+    core: &mut Core,
     p: u64,
     range: &Range,
     steps: &mut Steps<L>,
 ) -> Result<Vec<Pair>, OutOfMemory>
-    requires { p ≤ length reader.old.history }
-    ensures exact { IfOk result (λ pairs. pairs.items ≡ pairs_within range.now (state (take p reader.old.history))) }
-    ensures spent { IfOk result (λ _. Spends reader.old.history reader.old.cells reader.new.cells p range.now 8 (steps.new - steps.old)) }
+    requires { p ≤ length core.old.history }
+    ensures exact { IfOk result (λ pairs. pairs.items ≡ pairs_within range.now (state (take p core.old.history))) }
+    ensures spent { IfOk result (λ _. Spends core.old.history core.old.cells core.new.cells p range.now 8 (steps.new - steps.old)) }
     ensures counted { steps.old ≤ steps.new }
-    ensures history { reader.new.history ≡ reader.old.history }
-    ensures frame { Frame 8 reader.old.cells reader.new.cells }
-    ensures entered { HasEntered reader.old.history }
-    ensures right { AreRight reader.new.history reader.new.cells.slots }
+    ensures history { core.new.history ≡ core.old.history }
+    ensures frame { Frame 8 core.old.cells core.new.cells }
+    ensures entered { HasEntered core.old.history }
+    ensures right { AreRight core.new.history core.new.cells.slots }
 {
-    reader.look();
-    let found = reader.pairs(p, range, 8, steps);
-    reader.look();
+    core.look();
+    let found = AllRanks::pairs(alloc, core, p, range, 8, steps);
+    core.look();
     found
 }
 
@@ -51,25 +54,26 @@ fn read_all<L: Ledger>(
 /// ranks are freed before the first read that stands at or behind the last declaration or drop. The book is told of the cells
 /// that were used, and frees those that have to go. The history stays.
 pub fn read_piece<L: Ledger>(
-    reader: &mut Stack,
+    alloc: Global,
+    core: &mut Core,
     p: u64,
     range: &Range,
     steps: &mut Steps<L>,
 ) -> Result<Vec<Pair>, OutOfMemory>
-    requires { p ≤ length reader.old.history }
-    ensures exact { IfOk result (λ pairs. pairs.items ≡ pairs_within range.now (state (take p reader.old.history))) }
-    ensures spends { OnOk result (PieceSpends reader.old.history reader.old.cells reader.new.cells p range.now (steps.new - steps.old)) }
+    requires { p ≤ length core.old.history }
+    ensures exact { IfOk result (λ pairs. pairs.items ≡ pairs_within range.now (state (take p core.old.history))) }
+    ensures spends { OnOk result (PieceSpends core.old.history core.old.cells core.new.cells p range.now (steps.new - steps.old)) }
     ensures counted { steps.old ≤ steps.new }
-    ensures history { reader.new.history ≡ reader.old.history }
-    ensures unlent { NoneLent reader.old.cells.slots → NoneLent reader.new.cells.slots }
-    ensures room { reader.new.cells.setting.room ≡ reader.old.cells.setting.room }
+    ensures history { core.new.history ≡ core.old.history }
+    ensures unlent { NoneLent core.old.cells.slots → NoneLent core.new.cells.slots }
+    ensures room { core.new.cells.setting.room ≡ core.old.cells.setting.room }
 {
     let _low = range.lo();
-    reader.look();
-    reader.let_go(p)?;
-    reader.clear_used();
-    let found = read_all(reader, p, range, steps);
-    let settled = reader.settle();
+    core.look();
+    core.let_go(p)?;
+    core.clear_used();
+    let found = read_all(alloc, core, p, range, steps);
+    let settled = core.settle();
     let pairs = found?;
     settled?;
     Ok(pairs)
@@ -81,33 +85,38 @@ pub fn read_piece<L: Ledger>(
 /// On `OutOfMemory` the cell holds what it held, or nothing is kept for its range.
 pub fn advance_cell<L: Ledger>(
     alloc: Global,
-    reader: &mut Stack,
+    core: &mut Core,
     id: u32,
     rank: u8,
     to: u64,
     steps: &mut Steps<L>,
 ) -> Result<(), OutOfMemory>
-    requires within { to ≤ length reader.old.history }
-    requires held { IsHeldAt reader.old.cells.slots id }
-    requires before { (at : ℕ) (s : KeptRange) → HoldsAt reader.old.cells.slots id at s → IsPast to s → ⊥ }
-    requires stands { (at : ℕ) (s : KeptRange) → HoldsAt reader.old.cells.slots id at s → HasRank (joins_of (take to reader.old.history)) s.join rank }
+    requires within { to ≤ length core.old.history }
+    requires held { IsHeldAt core.old.cells.slots id }
+    requires before { (at : ℕ) (s : KeptRange) → HoldsAt core.old.cells.slots id at s → IsPast to s → ⊥ }
+    requires stands { (at : ℕ) (s : KeptRange) → HoldsAt core.old.cells.slots id at s → HasRank (joins_of (take to core.old.history)) s.join rank }
     requires small { rank ≤ 8 }
-    ensures advanced { OnOk result (IsAdvancedIn reader.old.history reader.old.cells.slots reader.new.cells.slots id to) }
-    ensures cost { (at q : ℕ) (s : KeptRange) → HoldsAt reader.old.cells.slots id at s → s.rank ≡ rank → StandsAt q s → q < to → AreBareThroughout reader.old.history q to s.kept.needs →
-        OnOk result (steps.new ≤ steps.old + advance_steps reader.old.history q to s.kept.needs) }
+    ensures advanced { OnOk result (IsAdvancedIn core.old.history core.old.cells.slots core.new.cells.slots id to) }
+    ensures cost { (at q : ℕ) (s : KeptRange) → HoldsAt core.old.cells.slots id at s → s.rank ≡ rank → StandsAt q s → q < to → AreBareThroughout core.old.history q to s.kept.needs →
+        OnOk result (steps.new ≤ steps.old + advance_steps core.old.history q to s.kept.needs) }
     ensures counted { steps.old ≤ steps.new }
-    ensures history { reader.new.history ≡ reader.old.history }
-    ensures unlent { NoneLent reader.old.cells.slots → NoneLent reader.new.cells.slots }
-    ensures room { reader.new.cells.setting.room ≡ reader.old.cells.setting.room }
+    ensures history { core.new.history ≡ core.old.history }
+    ensures unlent { NoneLent core.old.cells.slots → NoneLent core.new.cells.slots }
+    ensures room { core.new.cells.setting.room ≡ core.old.cells.setting.room }
 {
-    let Some((at, state)) = reader.take(id)? else {
+    let Some((at, state)) = core.take(id)? else {
         unreachable!()
     };
     let mut state = state;
-    reader.look();
-    let advanced = advance_to(alloc, &mut state, rank, to, reader, steps);
-    reader.look();
-    reader.give_back(id, at, state);
+    core.look();
+    let mut reader: RankReader<'_, Core, AllRanks> = RankReader {
+        alloc,
+        lowest: &mut *core,
+        rank: PhantomData,
+    };
+    let advanced = advance_to(alloc, &mut state, rank, to, &mut reader, steps);
+    core.look();
+    core.give_back(id, at, state);
     advanced
 }
 
@@ -116,27 +125,33 @@ pub fn advance_cell<L: Ledger>(
 ///
 /// On `OutOfMemory` the cell holds what it held, or nothing is kept for its range.
 pub fn mend_cell<L: Ledger>(
-    reader: &mut Stack,
+    alloc: Global,
+    core: &mut Core,
     id: u32,
     range: &Range,
     steps: &mut Steps<L>,
 ) -> Result<(), OutOfMemory>
-    requires { IsHeldAt reader.old.cells.slots id }
-    ensures mended { OnOk result (IsMendedIn reader.old.history reader.old.cells.slots reader.new.cells.slots id range.now) }
-    ensures cost { (at q : ℕ) (s : KeptRange) → HoldsAt reader.old.cells.slots id at s → StandsAt q s → AreBareUnder s reader.old.history q range.now →
-        OnOk result (steps.new ≤ steps.old + mend_steps s (below (take q reader.old.history) s.rank) range.now) }
+    requires { IsHeldAt core.old.cells.slots id }
+    ensures mended { OnOk result (IsMendedIn core.old.history core.old.cells.slots core.new.cells.slots id range.now) }
+    ensures cost { (at q : ℕ) (s : KeptRange) → HoldsAt core.old.cells.slots id at s → StandsAt q s → AreBareUnder s core.old.history q range.now →
+        OnOk result (steps.new ≤ steps.old + mend_steps s (below (take q core.old.history) s.rank) range.now) }
     ensures counted { steps.old ≤ steps.new }
-    ensures history { reader.new.history ≡ reader.old.history }
-    ensures unlent { NoneLent reader.old.cells.slots → NoneLent reader.new.cells.slots }
-    ensures room { reader.new.cells.setting.room ≡ reader.old.cells.setting.room }
+    ensures history { core.new.history ≡ core.old.history }
+    ensures unlent { NoneLent core.old.cells.slots → NoneLent core.new.cells.slots }
+    ensures room { core.new.cells.setting.room ≡ core.old.cells.setting.room }
 {
-    let Some((at, state)) = reader.take(id)? else {
+    let Some((at, state)) = core.take(id)? else {
         unreachable!()
     };
     let mut state = state;
-    reader.look();
-    let mended = mend(&mut state, range, reader, steps);
-    reader.look();
-    reader.give_back(id, at, state);
+    core.look();
+    let mut reader: RankReader<'_, Core, AllRanks> = RankReader {
+        alloc,
+        lowest: &mut *core,
+        rank: PhantomData,
+    };
+    let mended = mend(&mut state, range, &mut reader, steps);
+    core.look();
+    core.give_back(id, at, state);
     mended
 }

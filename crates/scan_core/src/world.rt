@@ -12,7 +12,6 @@ ghost use Rattle.scan_core.specs.Worlds.{CellSteps, IsRankTo, StepsAs, StepSpend
 use crate::ScanTable;
 use crate::contents::Core;
 use crate::reading::{advance_cell, mend_cell, read_piece};
-use crate::stack::Stack;
 use cell_slots::Slot;
 use core_events::{Done, Event, ScanBound};
 use join_types::{Entry, Write};
@@ -29,7 +28,7 @@ use steps::Steps;
 #[derive(Drop)]
 pub struct World {
     alloc: Global,
-    reader: Stack,
+    core: Core,
     scans: ScanTable,
 }
 
@@ -41,11 +40,11 @@ impl Model for World {
     ghost Value = { CoreWorld };
 
     ghost view = { λ w. record {
-      world = record { history = w.reader.history; scans = scans_of w.scans };
-      cells = w.reader.cells;
+      world = record { history = w.core.history; scans = scans_of w.scans };
+      cells = w.core.cells;
     } };
 
-    ghost invariant = { λ w. AreGoing w.reader.history w.scans × NoneLent w.reader.cells.slots };
+    ghost invariant = { λ w. AreGoing w.core.history w.scans × NoneLent w.core.cells.slots };
 }
 
 impl World {
@@ -65,7 +64,7 @@ impl World {
         let core = Core::new(alloc, cells, limit)?;
         Ok(World {
             alloc,
-            reader: Stack::new(alloc, core),
+            core,
             scans: ScanTable::new(alloc),
         })
     }
@@ -76,8 +75,8 @@ impl World {
         ensures room { result < 2 ^ 48 }
         ensures right { AreRight self.now.world.history self.now.cells.slots }
     {
-        self.reader.look();
-        self.reader.length()
+        self.core.look();
+        self.core.length()
     }
 
     /// A write enters where there is no cause against it.
@@ -87,11 +86,11 @@ impl World {
         ensures err { OnErr result (self.new.world ≡ self.old.world) }
         ensures room { self.new.cells.setting.room ≡ self.old.cells.setting.room }
     {
-        if let Some(cause) = self.reader.judge(&write)? {
-            return Ok(Done::Refused(self.reader.length(), cause));
+        if let Some(cause) = self.core.judge(&write)? {
+            return Ok(Done::Refused(self.core.length(), cause));
         }
-        self.reader.enter(Entry { client, write })?;
-        Ok(Done::Entered(self.reader.length()))
+        self.core.enter(Entry { client, write })?;
+        Ok(Done::Entered(self.core.length()))
     }
 
     /// A scan begins over a range, at the history's length, where none with its number is under way.
@@ -104,7 +103,7 @@ impl World {
         if self.scans.has(scan) {
             return Ok(Done::Nothing);
         }
-        let position = self.reader.length();
+        let position = self.core.length();
         self.scans.begin(scan, range, position)?;
         Ok(Done::Begun(position))
     }
@@ -127,7 +126,13 @@ impl World {
         let Some(part) = self.scans.next_part(scan, &upto)? else {
             return Ok(Done::Nothing);
         };
-        let pairs = read_piece(&mut self.reader, part.position, &part.range, steps)?;
+        let pairs = read_piece(
+            self.alloc,
+            &mut self.core,
+            part.position,
+            &part.range,
+            steps,
+        )?;
         self.scans.add_part(scan, upto, pairs)?;
         Ok(Done::Answered)
     }
@@ -151,17 +156,17 @@ impl World {
     fn rank_to(&self, cell: u32, to: u64) -> Result<Option<u8>, OutOfMemory>
         ensures { IfOk result (IsRankTo self.now cell to) }
     {
-        self.reader.look();
-        let Some(Slot::Held(at, state)) = self.reader.slot(cell) else {
+        self.core.look();
+        let Some(Slot::Held(at, state)) = self.core.slot(cell) else {
             return Ok(None);
         };
         if is_past(state, to) {
             return Ok(None);
         }
-        if to > self.reader.length() {
+        if to > self.core.length() {
             return Ok(None);
         }
-        self.reader.rank_at(*at, to)
+        self.core.rank_at(*at, to)
     }
 
     /// A cell is brought to a position of the history, where it does not stand past it and its join stands there.
@@ -177,11 +182,11 @@ impl World {
         ensures counted { steps.old ≤ steps.new }
         ensures spends { OnOk result (StepSpends (plain.advance cell to) self.old self.new (steps.new - steps.old)) }
     {
-        self.reader.look();
+        self.core.look();
         let Some(rank) = self.rank_to(cell, to)? else {
             return Ok(Done::Nothing);
         };
-        advance_cell(self.alloc, &mut self.reader, cell, rank, to, steps)?;
+        advance_cell(self.alloc, &mut self.core, cell, rank, to, steps)?;
         Ok(Done::Brought)
     }
 
@@ -198,10 +203,10 @@ impl World {
         ensures counted { steps.old ≤ steps.new }
         ensures spends { OnOk result (StepSpends (plain.mend cell range.now) self.old self.new (steps.new - steps.old)) }
     {
-        let Some(Slot::Held(_, _)) = self.reader.slot(cell) else {
+        let Some(Slot::Held(_, _)) = self.core.slot(cell) else {
             return Ok(Done::Nothing);
         };
-        mend_cell(&mut self.reader, cell, range, steps)?;
+        mend_cell(self.alloc, &mut self.core, cell, range, steps)?;
         Ok(Done::Mended)
     }
 
@@ -211,10 +216,10 @@ impl World {
         ensures world { self.new.world ≡ self.old.world }
         ensures room { self.new.cells.setting.room ≡ self.old.cells.setting.room }
     {
-        let Some(Slot::Held(_, _)) = self.reader.slot(cell) else {
+        let Some(Slot::Held(_, _)) = self.core.slot(cell) else {
             return Done::Nothing;
         };
-        self.reader.evict(cell);
+        self.core.evict(cell);
         Done::Evicted
     }
 

@@ -1,7 +1,7 @@
 // The cells that threads share, as the cache of a layer.
 
-use crate::layer::Room;
 use crate::part::{changes_of_part, read_part};
+use crate::room::Room;
 use base_shards::Naming;
 use join_eval::{Between, Changed};
 use join_types::Pair;

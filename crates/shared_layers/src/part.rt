@@ -6,7 +6,7 @@ ghost use Rattle.join_eval.specs.Moves.{Moves};
 ghost use Rattle.cell_slots.specs.Slots.{IsOutput, StandsAs};
 ghost use Rattle.rank_layers.specs.Telling.{TellsJoin};
 
-use crate::layer::Room;
+use crate::room::Room;
 use base_shards::Naming;
 use join_eval::{Changed, KeepFault, TooMany};
 use join_types::Pair;

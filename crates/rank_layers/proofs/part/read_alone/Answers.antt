@@ -1,12 +1,19 @@
+use Rattle.std.proofs.Common.{rules, ◌+◌}
+use Rattle.join_eval.specs.Moves.{Moves}
+use Rattle.cell_slots.specs.Slots.{Frame}
 use Rattle.cell_slots.proofs.DeclaredLemmas.{rank_declared}
-use Rattle.rank_layers.proofs.PartLemmas.{moves_below}
+use Rattle.rank_layers.proofs.MoveLemmas.{up_one}
+use Rattle.rank_layers.proofs.PartLemmas.{of_lender, moves_weaker}
 use Rattle.rank_layers.proofs.part.read_alone.Goals as goal
 
 pub serve_alone-requires-clause-stands : goal.serve_alone-requires-clause-stands
 serve_alone-requires-clause-stands g c =
-    rank_declared (g.R.Reader.list c.args.reader.now) c.args.query.p c.args.query.at c.args.query.rank c.requires.stands.0 c.in_ok-join.join c.requires.stands.1 c.in_ok-join.ensures
+    rank_declared (g.S.Reader.list c.args.lowest.now) c.args.query.p c.args.query.at c.args.query.rank c.requires.stands.0 c.in_ok-join.join c.requires.stands.1 c.in_ok-join.ensures
 
 pub returns-clause-moves : goal.returns-clause-moves
 returns-clause-moves g c =
-    moves_below g.R.Reader.list g.R.Reader.floor g.R.Reader.went g.R.Cells.holdings g.R.Reader.top c.args.query.rank c.args.reader.now c.serve_alone.new.reader c.requires.next
-    (g.met.R.Cells.went_frame c.args.reader.now c.serve_alone.new.reader) c.serve_alone.ensures.moves
+    let moves = c.serve_alone.ensures.moves in
+    of_lender (λ lowest. Moves g.S.Reader.list g.S.Reader.floor (λ a b. Frame (c.args.query.rank + 1) (g.S.Cells.holdings a) (g.S.Cells.holdings b)) c.args.lowest.now lowest)
+    (moves_weaker g.S.Reader.list g.S.Reader.floor g.S.Cells.holdings g.T.Rank.top (c.args.query.rank + 1) c.args.lowest.now c.serve_alone.new.reader.lowest.now (up_one g.T.Rank.top c.args.query.rank c.requires.next)
+    (record { kept = moves.kept; entered = moves.entered; same_floor = moves.same_floor; on = moves.on.1 }))
+    (search rules)

@@ -24,7 +24,7 @@ returns-in_default-clause-spends g c = λ at q s held has stands less within bar
 
 pub returns-clause-spends : goal.returns-clause-spends
 returns-clause-spends g c =
-    let h = c.self.inside.reader.history in
+    let h = c.self.inside.core.history in
     let r = subst (λ (v : CoreWorld). IsRankTo v c.args.cell c.args.to (Some c.in-Some.rank)) (sym c.self.view_is) (subst (IsRankTo c.args.self.now c.args.cell c.args.to) c.in-Some.is c.in_ok-rank.ensures) in
     subst (λ (v : CoreWorld). StepSpends (plain.advance c.args.cell c.args.to) v v (c.advance_cell.new.steps - c.args.steps.now)) c.self.view_is
     (λ at q s held has stands less within bare.

@@ -12,6 +12,6 @@ invariant_of-self c = (
 
 pub invariant_of-self-2 : goal.invariant_of-self-2
 invariant_of-self-2 c = (
-  going_more c.self.inside.reader.history c.enter.new.self.history c.self.inside.scans (_, c.in_ok-enter.ensures.ok) c.self.invariant.0,
+  going_more c.self.inside.core.history c.enter.new.self.history c.self.inside.scans (_, c.in_ok-enter.ensures.ok) c.self.invariant.0,
   subst NoneLent (sym c.in_ok-enter.ensures.slots) c.self.invariant.1,
 )

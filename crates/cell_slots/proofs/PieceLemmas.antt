@@ -1,9 +1,9 @@
 -- The pieces of a range: what it has in common with ranges that are listed, and the gaps between.
-use Rattle.std.proofs.Common.{◌≡◌, ℕ, Bool, true, false, cond, not, List, [], ◌∷◌, Option, Result, Ok, Err, IfOk, inl, inr, refl, sym, ap, ◌∙◌, subst}
+use Rattle.std.proofs.Common.{◌≡◌, ℕ, Bool, true, false, cond, filter, not, List, [], ◌∷◌, Option, Result, Ok, Err, IfOk, inl, inr, refl, sym, ap, ◌∙◌, subst}
 use Rattle.std.specs.List.{list_all}
 use Rattle.std.proofs.lemmas.Bool.{false≢true, and_from, not-true}
 use Rattle.semantics.specs.Texts.{Range, Text}
-use Rattle.semantics.proofs.MemberLemmas.{Has, has_from_contains, passes_from_all}
+use Rattle.semantics.proofs.MemberLemmas.{Has, has_filtered, has_from_contains, has_mapped, passes_from_all}
 use Rattle.key_ranges.specs.Ranges.{common, is_below, is_open, meets}
 use Rattle.key_ranges.proofs.OrderLemmas.{is_up_to, up_to_itself, up_to_below, below_up_to, up_to_trans}
 use Rattle.key_ranges.proofs.RangeLemmas.{meets_parts}
@@ -69,6 +69,37 @@ pub lies_in_place : {K : Type 0} (keeps : ℕ → Option (K × Range)) (held : K
 lies_in_place keeps held at range ps r id kept pieces h =
     let p = piece_is_part range (held at) ps r id pieces h in
     record { place = p.whole; kept = kept id at p.whole p.kept; inside = record { begins = p.lies.low; ends = p.lies.high } }
+
+-- what is listed within the range meets it
+meets_inside : (place range : Range) → is_open place ≡ true → IsWithin place range → meets place range ≡ true
+meets_inside place range not_empty inside =
+    let upto : is_below place.low range.high ≡ true = below_up_to place.low place.high range.high not_empty inside.ends in
+    let from : is_below range.low place.high ≡ true = up_to_below range.low place.low place.high inside.begins not_empty in
+    and_from _ _ (and_from _ _ (and_from _ _ not_empty (up_to_below range.low place.low range.high inside.begins upto)) upto) from
+
+-- the greater of two texts, where the second is up to the first
+later_by : (a b : Text) (x : Bool) → is_below a b ≡ x → is_up_to b a ≡ true → cond x b a ≡ a
+later_by a b true e h = absurd (not_below_itself a (below_up_to a b a e h))
+later_by a b false e h = refl
+
+-- the lesser of two texts, where the first is up to the second
+first_by : (a b : Text) (x : Bool) → is_below b a ≡ x → is_up_to a b ≡ true → cond x b a ≡ a
+first_by a b true e h = absurd (not_below_itself a (up_to_below a b a h e))
+first_by a b false e h = refl
+
+-- the whole of it is what it has in common with the range
+common_inside : (place range : Range) → IsWithin place range → common place range ≡ place
+common_inside place range inside =
+    ap (λ (t : Text). record { low = t; high = (common place range).high }) (later_by place.low range.low (is_below place.low range.low) refl inside.begins)
+    ∙ ap (λ (t : Text). record { low = place.low; high = t }) (first_by place.high range.high (is_below range.high place.high) refl inside.ends)
+
+-- so the whole of it is a kept piece
+pub inside_is_kept : (ranges : Ranges ℕ) (id : ℕ) (place range : Range) (ps : List (Piece ℕ)) → ArePieces range ranges ps → are_apart ranges ≡ true → Has ranges (place, id) → IsWithin place range → Has (kept_of ps) (place, id)
+inside_is_kept ranges id place range ps pieces apart here inside =
+    let meet : meets place range ≡ true = meets_inside place range (open_entry ranges (place, id) apart here) inside in
+    let part : Has (parts_within range ranges) (common place range, id) =
+    has_mapped (λ (e : Range × ℕ). (common e.0 range, e.1)) (filter (λ (e : Range × ℕ). meets e.0 range) ranges) (place, id) (has_filtered (λ (e : Range × ℕ). meets e.0 range) ranges (place, id) meet here) in
+    subst (λ (l : Ranges ℕ). Has l (place, id)) (sym pieces.kept) (subst (λ (r : Range). Has (parts_within range ranges) (r, id)) (common_inside place range inside) part)
 
 -- ---- a range within one that is listed
 

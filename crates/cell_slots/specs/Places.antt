@@ -8,6 +8,7 @@ use Rattle.range_set.specs.declared.piece.Piece.{Piece}
 use Rattle.range_set.specs.Joined.{JoinTo}
 use Rattle.range_set.specs.Held.{Held as Ranges, is_free}
 use Rattle.range_set.specs.Pieces.{are_gaps_apart, gaps_of, kept_of, parts_within, ranges_of}
+use Rattle.cell_slots.specs.declared.slot.Part.{Part}
 
 -- the place that the slot with a number keeps, if there is one and it keeps one: for which join, and the range
 abbrev pub place_in : {S K : Type 0} → (S → Option (K × Range)) → List S → ℕ → Option (K × Range)
@@ -29,6 +30,10 @@ module _ {K : Type 0} (keeps : ℕ → Option (K × Range)) where
   -- a range meets no place that is kept for a join
   abbrev pub MeetsNoPlace : K → Range → Type 0
   MeetsNoPlace at range = (id : ℕ) (place : Range) → KeepsPlace id at place → meets place range ≡ false
+
+  -- among parts of a range is each place whole that is kept for a join within the range, with the cell that keeps it
+  abbrev pub ServeKept : K → Range → List Part → Type 0
+  ServeKept at range parts = (id : ℕ) (place : Range) → KeepsPlace id at place → IsWithin place range → Contains parts (record { range = place; cell = Some id })
 
   -- each range that is listed for a join, with a cell's number, is the place that this cell keeps
   abbrev pub AreKept : (K → Ranges ℕ) → Type 0

@@ -55,8 +55,8 @@ pub trait Cells: Reader {
 
     /// The range, which reaches the join's output, in parts, in order, each with the cell that holds it, where one does. What is
     /// not empty and lies in one cell's place is one part, and no cell changes. For a push join the gaps between what is held are
-    /// reserved: the lowest free cell holds each of them from now on, while there is one, with nothing kept yet. For a pull join
-    /// no cell changes.
+    /// reserved, unless there are very many parts: the lowest free cell holds each of them from now on, while there is one, with
+    /// nothing kept yet. For a pull join no cell changes.
     fn cover(&mut self, at: u64, rank: u8, p: u64, range: &Range) -> Result<Vec<Part>, OutOfMemory>
         requires within { p ≤ length (Self.list self.old) }
         requires reached { IsReached (Self.list self.old) p at rank range.now }

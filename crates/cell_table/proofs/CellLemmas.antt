@@ -6,7 +6,7 @@ use Rattle.std.proofs.lemmas.Option.{none-some, same_Some, slice_get_within}
 use Rattle.std.proofs.lemmas.List.{length-set}
 use Rattle.semantics.specs.Texts.{Range, Text, is_range, table_of}
 use Rattle.semantics.specs.Joins.{Join}
-use Rattle.semantics.proofs.MemberLemmas.{Has, contains_from_has, has_append_left, has_append_right, has_mapped}
+use Rattle.semantics.proofs.MemberLemmas.{Has, contains_from_has, has_from_contains, has_append_left, has_append_right, has_mapped}
 use Rattle.key_ranges.specs.Ranges.{is_open, meets}
 use Rattle.key_ranges.proofs.OrderLemmas.{is_up_to, below_up_to, up_to_from_below, up_to_itself, up_to_trans}
 use Rattle.key_ranges.proofs.RangeLemmas.{meets_parts, within_table}
@@ -19,7 +19,7 @@ use Rattle.range_set.proofs.JoinedLemmas.{joined_are_of_table, joined_has_in}
 use Rattle.cell_slots.specs.declared.slot.Slot.{Slot}
 use Rattle.cell_slots.specs.declared.slot.Slot.TheVariants.{Free, Lent, Held}
 use Rattle.cell_slots.specs.declared.slot.Part.{Part}
-use Rattle.cell_slots.specs.Places.{KeepsPlace}
+use Rattle.cell_slots.specs.Places.{KeepsPlace, ServeKept}
 use Rattle.cell_slots.specs.Slots.{Frame, HasFree, Holdings, IsLeft, MeetsNone, place_at, place_of}
 use Rattle.cell_slots.specs.Spending.{CoversAlone, Reserves, one_gap, one_part}
 use Rattle.cell_slots.proofs.FrameLemmas.{get-set_other, get-set_same}
@@ -202,6 +202,20 @@ same_ranges at rank j a b [] [] e = refl
 same_ranges at rank j a b [] (y ∷ ys) h = absurd h
 same_ranges at rank j a b (x ∷ xs) [] h = absurd h
 same_ranges at rank j a b (x ∷ xs) (y ∷ ys) h = ap (λ (r : Range). r ∷ ranges ys) h.1.same_range ∙ ap (λ (rs : List Range). x.range ∷ rs) (same_ranges at rank j h.0 b xs ys h.2)
+
+-- each part with a cell stays
+has_kept_cell : (at rank : ℕ) (j : Join) (a b : Store) (xs ys : List Part) (r : Range) (id : ℕ) → GetCells at rank j a xs ys b → Has xs (part r (Some id)) → Has ys (part r (Some id))
+has_kept_cell at rank j a b [] ys r id h here = absurd here
+has_kept_cell at rank j a b (x ∷ xs) [] r id h here = absurd h
+has_kept_cell at rank j a b (x ∷ xs) (y ∷ ys) r id h (inl e) =
+    let gets : GetsCell at rank j x.range a (Some id) y.cell h.0 = subst (λ (c : Option ℕ). GetsCell at rank j x.range a c y.cell h.0) (ap (λ (p : Part). p.cell) e) h.1.cell in
+    inl (ap (λ (t : Range). part t y.cell) (h.1.same_range ∙ ap (λ (p : Part). p.range) e) ∙ ap (λ (c : Option ℕ). part r c) gets.0)
+has_kept_cell at rank j a b (x ∷ xs) (y ∷ ys) r id h (inr here) = inr (has_kept_cell at rank j h.0 b xs ys r id h.2 here)
+
+-- so the places within a range that were parts are parts still
+pub serve_still : (at rank : ℕ) (j : Join) (a b : Store) (keeps : ℕ → Option (ℕ × Range)) (range : Range) (xs ys : List Part) → GetCells at rank j a xs ys b → ServeKept keeps at range xs → ServeKept keeps at range ys
+serve_still at rank j a b keeps range xs ys gets serve = λ id place kept inside.
+    contains_from_has ys (part place (Some id)) (has_kept_cell at rank j a b xs ys place id gets (has_from_contains xs (part place (Some id)) (serve id place kept inside)))
 
 -- a part with a cell alone stays
 pub alone_from : (at rank : ℕ) (j : Join) (a b : Store) (range : Range) (id : ℕ) (ys : List Part) → GetCells at rank j a (one_part range id) ys b → CoversAlone a.holdings b.holdings id range ys

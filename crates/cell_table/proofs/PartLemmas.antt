@@ -2,7 +2,7 @@
 use Rattle.std.proofs.Common.{◌≡◌, ℕ, true, List, [], ◌∷◌, map, Contains, Option, Some, None, inl, inr, sym, ap, ◌∙◌, subst}
 use Rattle.std.proofs.lemmas.Option.{none-some, same_Some}
 use Rattle.semantics.specs.Texts.{Range, Text}
-use Rattle.semantics.proofs.MemberLemmas.{Has, has_from_contains, passes_from_all}
+use Rattle.semantics.proofs.MemberLemmas.{Has, contains_from_has, has_from_contains, passes_from_all}
 use Rattle.key_ranges.specs.Ranges.{is_open}
 use Rattle.layering.specs.Parts.{JoinUpTo}
 use Rattle.range_set.specs.declared.piece.Piece.{Piece}
@@ -12,10 +12,10 @@ use Rattle.range_set.specs.Held.{are_apart, is_free}
 use Rattle.range_set.specs.Pieces.{gaps_of, kept_of, ranges_of}
 use Rattle.cell_slots.specs.declared.slot.Slot.{Slot}
 use Rattle.cell_slots.specs.declared.slot.Part.{Part}
-use Rattle.cell_slots.specs.Places.{ArePieces, LiesInPlace}
+use Rattle.cell_slots.specs.Places.{ArePieces, LiesInPlace, ServeKept}
 use Rattle.cell_slots.specs.Slots.{MeetsNone, place_at}
 use Rattle.cell_slots.specs.Spending.{one_gap, one_part}
-use Rattle.cell_slots.proofs.PieceLemmas.{apart_from_free, gap_piece, lies_in_place, whole_piece}
+use Rattle.cell_slots.proofs.PieceLemmas.{apart_from_free, gap_piece, inside_is_kept, lies_in_place, whole_piece}
 use Rattle.cell_table.specs.Places.{Places, held_at}
 use Rattle.cell_table.specs.Stores.{AreDirected, IsGap, part_of}
 use Rattle.cell_table.proofs.DirectedLemmas.{listed_has, listed_keeps}
@@ -45,6 +45,19 @@ pub lies_from_kept : (slots : List Slot) (places : Places) (at : ℕ) (range : R
     Contains (map part_of ps) (part r (Some id)) → LiesInPlace (place_at slots) id at r
 lies_from_kept slots places at range ps r id d pieces h =
     lies_in_place (place_at slots) (held_at places) at range ps r id d.kept pieces (has_kept_piece ps r id (has_from_contains (map part_of ps) (part r (Some id)) h))
+
+-- a kept piece gives a part with its cell
+kept_part : (ps : List (Piece ℕ)) (r : Range) (id : ℕ) → Has (kept_of ps) (r, id) → Has (map part_of ps) (part r (Some id))
+kept_part [] r id h = absurd h
+kept_part (Kept s i ∷ ps) r id (inl e) = inl (ap (λ (k : Range × ℕ). part k.0 (Some k.1)) e)
+kept_part (Kept s i ∷ ps) r id (inr h) = inr (kept_part ps r id h)
+kept_part (Gap s ∷ ps) r id h = inr (kept_part ps r id h)
+
+-- so each place within the range is a part, whole
+pub serve_kept : (slots : List Slot) (places : Places) (at : ℕ) (range : Range) (ps : List (Piece ℕ)) → AreDirected slots places → ArePieces range (held_at places at) ps → are_apart (held_at places at) ≡ true →
+    ServeKept (place_at slots) at range (map part_of ps)
+serve_kept slots places at range ps d pieces apart = λ id place keeps inside.
+    contains_from_has (map part_of ps) (part place (Some id)) (kept_part ps place id (inside_is_kept (held_at places at) id place range ps pieces apart (listed_has slots places id at place d keeps) inside))
 
 -- ---- a gap
 

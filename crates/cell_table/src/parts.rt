@@ -1,10 +1,8 @@
 // Parts of a range, from its pieces.
-ghost use Rattle.std.specs.Prelude.{◌≡◌, ◌<◌, map, IfOk};
-ghost use Rattle.cell_slots.specs.Spending.{one_gap};
+ghost use Rattle.std.specs.Prelude.{◌≡◌, map, IfOk};
 ghost use Rattle.cell_table.specs.Stores.{part_of};
 
 use cell_slots::Part;
-use key_space::Range;
 use out_of_memory::OutOfMemory;
 use range_set::Piece;
 use std::alloc::Global;
@@ -30,17 +28,5 @@ pub fn parts_of(alloc: Global, pieces: Vec<Piece<u32>>) -> Result<Vec<Part>, Out
     for piece in pieces {
         parts.push(part_of(piece))?;
     }
-    Ok(parts)
-}
-
-/// The range as one part that no cell holds.
-pub fn one_gap(alloc: Global, range: &Range) -> Result<Vec<Part>, OutOfMemory>
-    ensures { IfOk result (λ parts. parts.items ≡ one_gap range.now) }
-{
-    let mut parts = Vec::with_capacity(alloc, 1)?;
-    parts.push(Part {
-        range: range.copy()?,
-        cell: None,
-    })?;
     Ok(parts)
 }

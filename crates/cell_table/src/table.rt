@@ -9,7 +9,7 @@ ghost use Rattle.kept_ranges.specs.Sound.{KeptRange};
 ghost use Rattle.range_state.specs.Held.{forgotten};
 ghost use Rattle.evict_book.specs.Books.{total_weight};
 ghost use Rattle.cell_slots.specs.declared.slot.Slot.TheVariants.{Free, Lent, Held};
-ghost use Rattle.cell_slots.specs.Places.{LiesInPlace};
+ghost use Rattle.cell_slots.specs.Places.{LiesInPlace, ServeKept};
 ghost use Rattle.cell_slots.specs.Slots.{Frame, HasFree, MeetsNone, place_at};
 ghost use Rattle.cell_slots.specs.Spending.{CoversAlone, MayKeep, Reserves, one_gap, one_part};
 ghost use Rattle.cell_table.specs.Stores.{AreBooked, AreOfTable, IsGap, IsLowestFree, Store, free_cells, unused, with_slot_in, without_cell};
@@ -17,7 +17,7 @@ ghost use Rattle.cell_table.specs.Moves.{Evicts, GetCells, GetsCellAs, IsHeld, I
 
 use crate::directory::Directory;
 use crate::lending::{given, held_in, lendable, made_anew};
-use crate::parts::{one_gap, parts_of};
+use crate::parts::parts_of;
 use crate::slots::Slots;
 use cell_slots::{Part, Slot, are_too_many};
 use evict_book::EvictBook;
@@ -83,6 +83,7 @@ impl CellTable {
         ensures join { IfOk result (λ parts. JoinTo range.now (map (λ part. part.range) parts.items)) }
         ensures kept { IfOk result (λ parts. (id : ℕ) (part : Bounds) → Contains parts.items (record { range = part; cell = Some id }) → LiesInPlace (place_at self.now.holdings.slots) id at part) }
         ensures gaps { IfOk result (λ parts. (part : Bounds) → Contains parts.items (record { range = part; cell = None }) → IsGap self.now.holdings.slots at part) }
+        ensures served { IfOk result (λ parts. ServeKept (place_at self.now.holdings.slots) at range.now parts.items) }
         ensures whole { IfOk result (λ parts. (id : ℕ) → is_open range.now ≡ true → LiesInPlace (place_at self.now.holdings.slots) id at range.now → parts.items ≡ one_part range.now id) }
         ensures none { IfOk result (λ parts. is_open range.now ≡ true → MeetsNone self.now.holdings.slots at range.now → parts.items ≡ one_gap range.now) }
     {
@@ -121,8 +122,8 @@ impl CellTable {
     }
 
     /// The range in parts, as `parts` gives them; for a push join each part that no cell holds is reserved, while a cell is
-    /// free. Where there are more than 64 parts, the range is one part that no cell holds, and nothing is reserved. It
-    /// takes the search for the parts, and for each that is reserved what `reserve` takes.
+    /// free. Where there are more than 64 parts nothing is reserved. It takes the search for the parts, and for each that is
+    /// reserved what `reserve` takes.
     ///
     /// On `OutOfMemory` some parts may be reserved.
     pub fn cover(
@@ -134,6 +135,7 @@ impl CellTable {
     ) -> Result<Vec<Part>, OutOfMemory>
         requires { AreOfTable self.old.holdings.slots at (table_of range.now.low) }
         ensures join { IfOk result (λ parts. JoinTo range.now (map (λ part. part.range) parts.items)) }
+        ensures served { IfOk result (λ parts. ServeKept (place_at self.old.holdings.slots) at range.now parts.items) }
         ensures alone { IfOk result (λ parts. (id : ℕ) → is_open range.now ≡ true → LiesInPlace (place_at self.old.holdings.slots) id at range.now → CoversAlone self.old.holdings self.new.holdings id range.now parts.items) }
         ensures reserved { IfOk result (λ parts. is_open range.now ≡ true → MayKeep self.old.holdings.slots at join.now range.now → Reserves self.old.holdings self.new.holdings at rank join.now range.now parts.items) }
         ensures pulled { (join.now.kind ≡ push → ⊥) → self.new ≡ self.old }
@@ -144,7 +146,7 @@ impl CellTable {
     {
         let parts = self.parts(at, range)?;
         if are_too_many(parts.len(), range) {
-            return one_gap(self.alloc, range);
+            return Ok(parts);
         }
         match join.kind {
             Kind::Pull => Ok(parts),

@@ -15,6 +15,8 @@ mod letting_go;
 #[cfg(test)]
 mod limited;
 #[cfg(test)]
+mod many_kept;
+#[cfg(test)]
 mod plain;
 #[cfg(test)]
 mod script;

@@ -120,7 +120,7 @@ fn many_ranges(alloc: Global) -> Result<String, Fail> {
     Ok(text)
 }
 
-/// A range in very many parts is read as a whole, and none of its gaps gets a cell.
+/// Of a range in very many parts none of the gaps gets a cell.
 #[test]
 fn many_parts(rt: HostRuntime) -> Result<(), Fail> {
     let alloc = rt.alloc();

@@ -20,9 +20,10 @@ use Rattle.layering.specs.Parts.{JoinTo}
 use Rattle.layering.proofs.PartLemmas.{parts_make_range}
 use Rattle.layering.proofs.ReachLemmas.{reached_stand}
 use Rattle.kept_ranges.proofs.PathLemmas.{has_from_at}
-use Rattle.cell_slots.specs.Slots.{IsOutput, StandsAs}
+use Rattle.cell_slots.specs.Slots.{IsDeclared, IsOutput, StandsAs}
 use Rattle.cell_slots.specs.Spending.{JoinsSpend}
-use Rattle.cell_slots.proofs.DeclaredLemmas.{stands_as, stands_over}
+use Rattle.cell_slots.proofs.DeclaredLemmas.{declared_once, stands_as, stands_over}
+use Rattle.range_gaps.specs.Gaps.{GiveSame}
 
 -- ---- parts of a range, each of which is a thing with a range
 
@@ -40,6 +41,12 @@ part_ascends range j table pairs is = subst Ascends (sym is) (ascending-pairs_wi
 pub output_over : (h more : History) (p at rank : ℕ) (range : Range) (pairs : Table) → p ≤ length h → IsPrefix h more → IsOutput more p at rank range pairs → IsOutput h p at rank range pairs
 output_over h more p at rank range pairs less prefix is = λ j stands.
     is j (stands_over h more p at rank j less prefix stands) ∙ ap (λ l. pairs_within range (out j (below l rank))) (take_prefix p h more less prefix)
+
+-- what the join that was declared at a position gives over a longer history, in a range in which it gives the same as in the part that is asked for
+pub output_alone : (h more : History) (p at rank : ℕ) (range part : Range) (k : Join) (pairs : Table) → p ≤ length h → IsPrefix h more → IsDeclared h at k → GiveSame k part range →
+    pairs ≡ pairs_within range (out k (below (take p more) rank)) → IsOutput h p at rank part pairs
+output_alone h more p at rank range part k pairs less prefix declared same is = λ j stands.
+    is ∙ same (below (take p more) rank) ∙ (λ i. pairs_within part (out (declared_once h at k j declared stands.declared i) (below (take_prefix p h more less prefix i) rank)))
 
 -- ---- the cost of one join
 

@@ -7,6 +7,7 @@ ghost use Rattle.semantics.specs.Outputs.{out};
 ghost use Rattle.semantics.specs.States.{below};
 ghost use Rattle.growing_history.specs.Entered.{HasEntered};
 ghost use Rattle.layering.specs.Merging.{Ascends};
+ghost use Rattle.layering.specs.Parts.{JoinTo};
 ghost use Rattle.layering.specs.Reached.{reached, with_parts};
 ghost use Rattle.join_eval.specs.Moves.{Moves};
 ghost use Rattle.cell_slots.specs.Slots.{IsOutput, IsReached, StandsAs};
@@ -14,13 +15,17 @@ ghost use Rattle.cell_slots.specs.Spending.{JoinsSpend};
 
 use crate::query::Query;
 use crate::range_cache::RangeCache;
+use cell_slots::are_too_many;
 use join_eval::Reader;
-use join_types::Pair;
+use join_types::{Join, Pair};
 use key_space::Range;
 use out_of_memory::OutOfMemory;
 use range_serving::merge;
 use std::sync::ledger::Ledger;
 use steps::Steps;
+
+/// The most gaps that may read all of what a join reads first, one after another: as many as there can be between 64 parts.
+const MOST_WIDE: usize = 32;
 
 /// Pairs, and others behind them. Linear in the others; where there are no pairs the others are given back.
 fn put_behind(pairs: Vec<Pair>, more: Vec<Pair>) -> Result<Vec<Pair>, OutOfMemory>
@@ -88,6 +93,71 @@ fn read_parts<R: Reader, C: RangeCache<R>, L: Ledger>(
     read_each(cache, query, parts, reader, steps)
 }
 
+/// Says whether at most 32 of the parts, of which nothing is kept, would each read all of what the join reads first. It looks at
+/// them up to the next one.
+fn are_few_wide<R: Reader, C: RangeCache<R>>(
+    cache: &C,
+    join: &Join,
+    parts: &[C::Part],
+) -> Result<bool, OutOfMemory> {
+    let mut left = MOST_WIDE;
+    for part in parts {
+        if cache.reads_all(join, part)? {
+            let Some(less) = left.checked_sub(1) else {
+                return Ok(false);
+            };
+            left = less;
+        }
+    }
+    Ok(true)
+}
+
+/// Says whether parts of a range are read one by one: at most 32 of those of which nothing is kept would each read all of what the
+/// join reads first. It takes a copy of the join, and a few texts for each part.
+fn are_read_apart<R: Reader, C: RangeCache<R>>(
+    cache: &C,
+    query: Query,
+    parts: &[C::Part],
+    reader: &mut R,
+) -> Result<bool, OutOfMemory>
+    requires within { query.p ≤ length (R.list reader.old) }
+    requires above { R.floor reader.old ≤ query.p }
+    requires stands { (j : PlainJoin) × StandsAs (R.list reader.old) query.p query.at query.rank j }
+    ensures moves { Moves R.list R.floor (C.left (query.rank + 1)) reader.old reader.new }
+{
+    let join = cache.copy_join(query, reader)?;
+    are_few_wide::<R, C>(cache, &join, parts)
+}
+
+/// What a join gives in a range that is in very many parts, of which no more are to be kept: what is kept of it is read, and only
+/// the gaps between are evaluated. Where more than 32 of them would read all of what the join reads first, one after another, the
+/// range is evaluated as a whole instead.
+fn read_many<R: Reader, C: RangeCache<R>, L: Ledger>(
+    cache: &C,
+    query: Query,
+    range: &Range,
+    parts: &[C::Part],
+    reader: &mut R,
+    steps: &mut Steps<L>,
+) -> Result<Vec<Pair>, OutOfMemory>
+    requires within { query.p ≤ length (R.list reader.old) }
+    requires above { R.floor reader.old ≤ query.p }
+    requires entered { HasEntered (R.list reader.old) }
+    requires stands { (j : PlainJoin) × StandsAs (R.list reader.old) query.p query.at query.rank j }
+    requires next { R.top ≡ query.rank }
+    requires joins { JoinTo range.now (map C.range_of parts.now) }
+    ensures output { IfOk result (λ pairs. IsOutput (R.list reader.old) query.p query.at query.rank range.now pairs.items) }
+    ensures moves { Moves R.list R.floor (C.left (query.rank + 1)) reader.old reader.new }
+    ensures counted { steps.old ≤ steps.new }
+    ensures cost { IfOk result (λ pairs. steps.old + length pairs.items ≤ steps.new) }
+{
+    let are_apart = are_read_apart(cache, query, parts, reader)?;
+    if are_apart {
+        return read_each(cache, query, parts, reader, steps);
+    }
+    cache.read_whole(query, range, reader, steps)
+}
+
 /// What a join gives in a range: from where parts of it are kept, and for the rest from where it may be kept.
 fn read_join<R: Reader, C: RangeCache<R>, L: Ledger>(
     cache: &C,
@@ -109,7 +179,11 @@ fn read_join<R: Reader, C: RangeCache<R>, L: Ledger>(
         C.cost_one reader.old reader.new query.at query.rank query.p range.now j (steps.new - steps.old)) }
 {
     let parts = cache.cover(query, range, reader)?;
-    read_parts(cache, query, parts.as_slice(), reader, steps)
+    let all = parts.as_slice();
+    if are_too_many(all.len(), range) {
+        return read_many(cache, query, range, all, reader, steps);
+    }
+    read_parts(cache, query, all, reader, steps)
 }
 
 /// Adds to the pairs that stand below a rank in a range what the joins of this rank give in it that the range reaches: these

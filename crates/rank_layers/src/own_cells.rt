@@ -8,16 +8,17 @@ ghost use Rattle.cell_slots.proofs.FrameLemmas.{frame_of_same, frame_weaker};
 ghost use Rattle.cell_slots.proofs.SpendingLemmas.{cost_of_part, cost_of_parts, spends_next};
 ghost use Rattle.rank_layers.specs.Telling.{IsUnknownSince};
 
-use crate::part::{changes_of_part, read_part};
+use crate::part::{changes_of_part, read_alone, read_part};
 use crate::query::Query;
 use crate::range_cache::RangeCache;
 use crate::rank::Rank;
 use crate::rank_reader::RankReader;
 use cell_slots::{Cells, Part};
 use join_eval::{Between, Changed};
-use join_types::Pair;
+use join_types::{Join, Pair};
 use key_space::Range;
 use out_of_memory::OutOfMemory;
+use range_gaps::reads_all;
 use std::alloc::Global;
 use std::sync::ledger::Ledger;
 use steps::Steps;
@@ -112,6 +113,31 @@ impl<'s, S: Cells, T: Rank> RangeCache<RankReader<'s, S, T>> for OwnCells {
         steps: &mut Steps<L>,
     ) -> Result<Vec<Pair>, OutOfMemory> {
         read_part::<S, T, L>(self.alloc, query, part, reader.lowest, steps)
+    }
+
+    fn read_whole<L: Ledger>(
+        &self,
+        query: Query,
+        range: &Range,
+        reader: &mut RankReader<'s, S, T>,
+        steps: &mut Steps<L>,
+    ) -> Result<Vec<Pair>, OutOfMemory> {
+        read_alone::<S, T, L>(self.alloc, query, range, reader.lowest, steps)
+    }
+
+    fn copy_join(
+        &self,
+        query: Query,
+        reader: &mut RankReader<'s, S, T>,
+    ) -> Result<Join, OutOfMemory> {
+        reader.lowest.join_at(query.at)
+    }
+
+    fn reads_all(&self, join: &Join, part: &Part) -> Result<bool, OutOfMemory> {
+        match part.cell {
+            Some(_) => Ok(false),
+            None => reads_all(self.alloc, join, &part.range),
+        }
     }
 
     fn changes_since<L: Ledger>(

@@ -18,8 +18,10 @@ use crate::rank_reader::RankReader;
 use cell_slots::{Cells, Part};
 use join_eval::{Changed, NeedBound};
 use join_types::Pair;
+use key_space::Range;
 use out_of_memory::OutOfMemory;
 use pq_io::OpenGate;
+use range_gaps::output_part;
 use range_serving::{changes_since, serve, serve_alone};
 use std::alloc::Global;
 use std::convert::Infallible;
@@ -27,11 +29,11 @@ use std::marker::PhantomData;
 use std::sync::ledger::Ledger;
 use steps::Steps;
 
-/// What the join gives in the part, from a kept range of its own that is let go.
-fn read_alone<S: Cells, T: Rank, L: Ledger>(
+/// Reads what the join gives in a range of which nothing is kept, from a kept range of its own that is let go.
+pub fn read_alone<S: Cells, T: Rank, L: Ledger>(
     alloc: Global,
     query: Query,
-    part: &Part,
+    part: &Range,
     lowest: &mut S,
     steps: &mut Steps<L>,
 ) -> Result<Vec<Pair>, OutOfMemory>
@@ -40,13 +42,13 @@ fn read_alone<S: Cells, T: Rank, L: Ledger>(
     requires entered { HasEntered (S.list lowest.old) }
     requires stands { (j : PlainJoin) × StandsAs (S.list lowest.old) query.p query.at query.rank j }
     requires next { T.top ≡ query.rank }
-    ensures output { IfOk result (λ pairs. IsOutput (S.list lowest.old) query.p query.at query.rank part.now.range pairs.items) }
+    ensures output { IfOk result (λ pairs. IsOutput (S.list lowest.old) query.p query.at query.rank part.now pairs.items) }
     ensures moves { Moves S.list S.floor (λ a b. Frame (query.rank + 1) (S.holdings a) (S.holdings b)) lowest.old lowest.new }
     ensures counted { steps.old ≤ steps.new }
     ensures cost { IfOk result (λ pairs. steps.old + 1 + length pairs.items ≤ steps.new) }
 {
     let join = lowest.join_at(query.at)?;
-    let range = part.range.copy()?;
+    let range = output_part(alloc, &join, part)?;
     let mut reader: RankReader<'_, S, T> = RankReader {
         alloc,
         lowest,
@@ -98,10 +100,10 @@ pub fn read_part<S: Cells, T: Rank, L: Ledger>(
         OnOk result (KeepsJust (S.holdings lowest.old) (S.holdings lowest.new) query.rank query.at query.p part.now.range) }
 {
     let Some(id) = part.cell else {
-        return read_alone::<S, T, L>(alloc, query, part, lowest, steps);
+        return read_alone::<S, T, L>(alloc, query, &part.range, lowest, steps);
     };
     let Some(state) = lowest.lend(id, query.at, query.rank, query.p, &part.range)? else {
-        return read_alone::<S, T, L>(alloc, query, part, lowest, steps);
+        return read_alone::<S, T, L>(alloc, query, &part.range, lowest, steps);
     };
     let mut state = state;
     let bound: NeedBound<Infallible, Infallible> = NeedBound::Every;

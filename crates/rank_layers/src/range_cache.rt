@@ -11,13 +11,13 @@ ghost use Rattle.layering.specs.Reached.{reached};
 ghost use Rattle.join_eval.specs.Answers.{TellsBetween};
 ghost use Rattle.join_eval.specs.declared.reading.Changed.TheVariants.{All};
 ghost use Rattle.join_eval.specs.Moves.{Moves};
-ghost use Rattle.cell_slots.specs.Slots.{IsOutput, IsReached, StandsAs};
+ghost use Rattle.cell_slots.specs.Slots.{IsDeclared, IsOutput, IsReached, StandsAs};
 ghost use Rattle.cell_slots.specs.Spending.{JoinsSpend};
 ghost use Rattle.rank_layers.specs.Telling.{TellsJoin};
 
 use crate::query::Query;
 use join_eval::{Between, Changed, Reader};
-use join_types::Pair;
+use join_types::{Join, Pair};
 use key_space::Range;
 use out_of_memory::OutOfMemory;
 use std::alloc::Global;
@@ -28,8 +28,8 @@ use steps::Steps;
 /// named by the position of its declaration, and is of the reader's top rank.
 ///
 /// What a call leaves of the reader beside its list is `left`, what a look at the joins leaves is `looked`, that it is not known
-/// what changed in a part is `unknown`, and what reading costs and leaves is `spends`. That is put together from `covered`, what covering a range leaves, and `took`, what reading
-/// a part of it costs and leaves. All are the implementing type's to say.
+/// what changed in a part is `unknown`, and what reading costs and leaves is `spends`. That is put together from `covered`, what
+/// covering a range leaves, and `took`, what reading a part of it costs and leaves. All are the implementing type's to say.
 pub trait RangeCache<R: Reader> {
     /// A part of a range, with where it is kept, if it is.
     type Part: Drop;
@@ -123,6 +123,35 @@ pub trait RangeCache<R: Reader> {
         ensures counted { steps.old ≤ steps.new }
         ensures cost { IfOk result (λ pairs. steps.old + 1 + length pairs.items ≤ steps.new) }
         ensures took { IfOk result (λ pairs. took reader.old reader.new query.at query.rank query.p part.now (length pairs.items) (steps.new - steps.old)) };
+
+    /// Reads what the join gives in a range, as where nothing of it is kept.
+    fn read_whole<L: Ledger>(
+        &self,
+        query: Query,
+        range: &Range,
+        reader: &mut R,
+        steps: &mut Steps<L>,
+    ) -> Result<Vec<Pair>, OutOfMemory>
+        requires within { query.p ≤ length (R.list reader.old) }
+        requires above { R.floor reader.old ≤ query.p }
+        requires entered { HasEntered (R.list reader.old) }
+        requires stands { (j : PlainJoin) × StandsAs (R.list reader.old) query.p query.at query.rank j }
+        requires next { R.top ≡ query.rank }
+        ensures output { IfOk result (λ pairs. IsOutput (R.list reader.old) query.p query.at query.rank range.now pairs.items) }
+        ensures moves { Moves R.list R.floor (left (query.rank + 1)) reader.old reader.new }
+        ensures counted { steps.old ≤ steps.new }
+        ensures cost { IfOk result (λ pairs. steps.old + 1 + length pairs.items ≤ steps.new) };
+
+    /// Gives a copy of the join. Linear in it.
+    fn copy_join(&self, query: Query, reader: &mut R) -> Result<Join, OutOfMemory>
+        requires within { query.p ≤ length (R.list reader.old) }
+        requires above { R.floor reader.old ≤ query.p }
+        requires stands { (j : PlainJoin) × StandsAs (R.list reader.old) query.p query.at query.rank j }
+        ensures declared { IfOk result (IsDeclared (R.list reader.old) query.at) }
+        ensures moves { Moves R.list R.floor looked reader.old reader.new };
+
+    /// Says whether nothing is kept of the part, and reading it reads all of what the join reads first. No answer rests on it.
+    fn reads_all(&self, join: &Join, part: &Self::Part) -> Result<bool, OutOfMemory>;
 
     /// Says what changed in the join's output in the part since a position, as what is kept of it knows. `All` comes where that
     /// is not known.

@@ -1,4 +1,4 @@
-// Rows of data over tables, rows with their needs, operators, what a join gives over a table, groups, and single changes.
+// Rows of data over tables, rows with their needs, operators, what a join gives over a table, gaps, groups, and single changes.
 //
 // A line of `stdin` is a kind and its fields, between `;`, and is printed again with what its calls answer; the file `stdout` holds
 // the answers that are wanted. Most kinds take many calls, and each that answers writes its answer with a `;` behind it: a
@@ -9,6 +9,7 @@
 #![tactic(auto)]
 
 mod changes;
+mod gaps;
 mod groups;
 mod operating;
 mod outputs;
@@ -33,6 +34,7 @@ fn answer(alloc: Global, row: &str, text: &mut String) -> Result<(), Unread> {
         "least number" => operating::least_number(alloc, text),
         "output" => outputs::output_of(alloc, &mut fields, text),
         "matches" => outputs::count_matches(alloc, &mut fields, text),
+        "gap" => gaps::part_of(alloc, &mut fields, text),
         "group" => groups::play(alloc, &mut fields, text),
         "change" => changes::play(alloc, &mut fields, text),
         _ => answer_history(alloc, row, text),

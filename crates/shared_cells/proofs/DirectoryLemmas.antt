@@ -16,7 +16,7 @@ use Rattle.range_set.specs.Pieces.{gaps_of, kept_of, range_of, ranges_of}
 use Rattle.range_set.proofs.JoinedLemmas.{joined_lie_in}
 use Rattle.cell_slots.specs.declared.slot.Part.{Part}
 use Rattle.cell_slots.specs.Places.{KeepsPlace, LiesInPlace}
-use Rattle.cell_slots.specs.Spending.{one_gap, one_part}
+use Rattle.cell_slots.specs.Spending.{one_part}
 use Rattle.cell_slots.proofs.FrameLemmas.{get-set_other, get-set_same}
 use Rattle.cell_slots.proofs.PieceLemmas.{within_itself, within_trans}
 use Rattle.cell_slots.proofs.PlaceLemmas.{kept_left, kept_same, kept_taken, occupied_by_set, place_from_slot, vacated_by_set}
@@ -231,6 +231,16 @@ made_gap seen join spots (Kept r i ∷ ps) (y ∷ ys) made part (inr h) = made_g
 made_gap seen join spots (Gap r ∷ ps) (y ∷ ys) made part (inl e) = inl (sym made.0.0 ∙ ap (λ (q : Part). q.range) e)
 made_gap seen join spots (Gap r ∷ ps) (y ∷ ys) made part (inr h) = inr (made_gap seen join spots ps ys made.1 part h)
 
+-- each kept piece makes a part with its cell
+made_served : {X : Type 0} (seen : X → Part) (join : RankedJoin) (spots : List SpotView) (pieces : List (Piece ℕ)) (items : List X) → AreMade seen join spots pieces items →
+    (r : Range) (id : ℕ) → Has (kept_of pieces) (r, id) → Has (map seen items) (record { range = r; cell = Some id })
+made_served seen join spots [] items made r id h = absurd h
+made_served seen join spots (p ∷ ps) [] made r id h = absurd made
+made_served seen join spots (Kept s i ∷ ps) (y ∷ ys) made r id (inl e) =
+    inl ((λ k. record { range = made.0.0 k; cell = made.0.1 k }) ∙ ap (λ (q : Range × ℕ). record { range = q.0; cell = Some q.1 }) e)
+made_served seen join spots (Kept s i ∷ ps) (y ∷ ys) made r id (inr h) = inr (made_served seen join spots ps ys made.1 r id h)
+made_served seen join spots (Gap s ∷ ps) (y ∷ ys) made r id h = inr (made_served seen join spots ps ys made.1 r id h)
+
 -- one kept piece makes one part, with its cell
 made_whole : {X : Type 0} (seen : X → Part) (join : RankedJoin) (spots : List SpotView) (range : Range) (id : ℕ) (items : List X) → AreMade seen join spots (Kept range id ∷ []) items → map seen items ≡ one_part range id
 made_whole seen join spots range id [] made = absurd made
@@ -316,6 +326,12 @@ pub covers_gap : {X : Type 0} (seen : X → Part) (join : RankedJoin) (range : R
 covers_gap seen join range keep before now pieces items covers ranges clear part h =
     passes_from_all (is_free ranges) (gaps_of pieces) part clear (made_gap seen join now.spots pieces items covers.made part (has_from_contains (map seen items) (record { range = part; cell = None }) h))
 
+-- a kept piece is a part, with its cell
+pub covers_served : {X : Type 0} (seen : X → Part) (join : RankedJoin) (range : Range) (keep : Bool) (before now : DirectoryView) (pieces : List (Piece ℕ)) (items : List X) → CoversSoFar seen join range keep before now pieces items →
+    (id : ℕ) (part : Range) → Has (kept_of pieces) (part, id) → Contains (map seen items) (record { range = part; cell = Some id })
+covers_served seen join range keep before now pieces items covers id part h =
+    contains_from_has (map seen items) (record { range = part; cell = Some id }) (made_served seen join now.spots pieces items covers.made part id h)
+
 -- a range that is one kept piece is one part, with its cell
 pub covers_whole : {X : Type 0} (seen : X → Part) (join : RankedJoin) (range : Range) (keep : Bool) (before now : DirectoryView) (pieces : List (Piece ℕ)) (items : List X) → CoversSoFar seen join range keep before now pieces items →
     (id : ℕ) → pieces ≡ Kept range id ∷ [] → map seen items ≡ one_part range id
@@ -326,21 +342,3 @@ covers_whole seen join range keep before now pieces items covers id is =
 pub covers_alone : {X : Type 0} (seen : X → Part) (join : RankedJoin) (range : Range) (keep : Bool) (before now : DirectoryView) (pieces : List (Piece ℕ)) (items : List X) → CoversSoFar seen join range keep before now pieces items →
     pieces ≡ Gap range ∷ [] → map (λ x. (seen x).range) items ≡ range ∷ []
 covers_alone seen join range keep before now pieces items covers is = made_ranges seen join now.spots pieces items covers.made ∙ ap ranges_of is
-
--- ---- a range as one part without a cell
-
--- no part of it has a cell
-pub gap_has_none : (range : Range) (parts : List Part) (id : ℕ) (part : Range) → parts ≡ one_gap range → Contains parts (record { range = part; cell = Some id }) → ⊥
-gap_has_none range parts id part one h =
-    elim (has_from_contains (one_gap range) (record { range = part; cell = Some id }) (subst (λ (ps : List Part). Contains ps (record { range = part; cell = Some id })) one h)) [
-      | inl e ↦ none-some id (ap (λ (q : Part). q.cell) e)
-      | inr more ↦ more
-    ]
-
--- and the range is the part
-pub gap_is_range : (range : Range) (parts : List Part) (part : Range) → parts ≡ one_gap range → Contains parts (record { range = part; cell = None }) → part ≡ range
-gap_is_range range parts part one h =
-    elim (has_from_contains (one_gap range) (record { range = part; cell = None }) (subst (λ (ps : List Part). Contains ps (record { range = part; cell = None })) one h)) [
-      | inl e ↦ sym (ap (λ (q : Part). q.range) e)
-      | inr more ↦ absurd more
-    ]

@@ -1,5 +1,5 @@
 // Which ranges have a cell, behind a lock.
-ghost use Rattle.std.specs.Prelude.{◌≡◌, ◌≤◌, ◌⊎◌, ℕ, [], ◌∷◌, All, Contains, false, length, map, replicate, slice_get, slice_set, true, IfOk, IfSome, MatchOption, None, OnErr, Some};
+ghost use Rattle.std.specs.Prelude.{◌≡◌, ◌≤◌, ℕ, [], ◌∷◌, All, Contains, false, length, map, replicate, slice_get, slice_set, true, IfOk, IfSome, MatchOption, None, OnErr, Some};
 ghost use Rattle.semantics.specs.Texts.{Range as Bounds};
 ghost use Rattle.key_ranges.specs.Ranges.{is_open};
 ghost use Rattle.layering.specs.Parts.{IsWithin, JoinTo};
@@ -7,7 +7,7 @@ ghost use Rattle.range_set.specs.declared.piece.Piece.TheVariants.{Gap, Kept};
 ghost use Rattle.range_set.specs.Held.{are_apart, is_free};
 ghost use Rattle.range_set.specs.Pieces.{kept_of, range_of};
 ghost use Rattle.cell_slots.specs.Places.{ArePieces, KeepsPlace, LiesInPlace};
-ghost use Rattle.cell_slots.specs.Spending.{one_gap, one_part};
+ghost use Rattle.cell_slots.specs.Spending.{one_part};
 ghost use Rattle.shared_cells.specs.Spots.{leaving, number_at, number_of, numbered, place_at, free};
 ghost use Rattle.shared_cells.specs.Listings.{listed_at};
 ghost use Rattle.shared_cells.specs.Directories.{GivesCell, GivesParts, IsLetGo, IsMadeOf, IsSame, NoneIsLetGo, directory_of};
@@ -61,17 +61,11 @@ impl<N: Naming> Model for Directory<N> {
     ghost invariant = { λ d. IsDirectory d.spots d.listings };
 }
 
-/// Gives the range as one part that no cell has.
-fn whole<N: Naming>(alloc: Global, range: &Range) -> Result<Vec<Part<N>>, OutOfMemory>
-    ensures range { IfOk result (λ parts. map (λ part. part.range) parts.items ≡ range.now ∷ []) }
-    ensures one { IfOk result (λ parts. map (λ part. numbered part.range part.cell) parts.items ≡ one_gap range.now) }
+/// Says whether the gaps of a range in so many parts are to be kept: where they may be, and the parts are not too many. Constant.
+fn are_gaps_kept(keep: bool, parts: usize, range: &Range) -> bool
+    ensures { keep ≡ false → result ≡ false }
 {
-    let mut parts = Vec::with_capacity(alloc, 1)?;
-    parts.push(Part {
-        range: range.copy()?,
-        cell: None,
-    })?;
-    Ok(parts)
+    keep && !are_too_many(parts, range)
 }
 
 /// Gives a range of the join a cell for its rank, and answers with the cell's number, for whose uses there is room then. It gives
@@ -193,8 +187,9 @@ impl<N: Naming> Directory<N> {
         Ok(left)
     }
 
-    /// Gives the range in parts, in order, each with the cell in whose place it lies, where there is one. To be kept, each gap
-    /// between them is given a cell, while there is a number without one. A range in very many parts is one part without a cell.
+    /// Gives the range in parts, in order, each with the cell in whose place it lies, where there is one: each listed range that
+    /// lies within the range is a part. To be kept, each gap between them is given a cell, while there is a number without one; of
+    /// a range in more than 64 parts none is.
     ///
     /// It takes two searches, and for each part that is given a cell a few more. On `OutOfMemory` some gaps may have been given
     /// cells.
@@ -210,7 +205,10 @@ impl<N: Naming> Directory<N> {
             LiesInPlace (place_at self.new.spots) id join part) }
         ensures gaps { IfOk result (λ parts. (part : Bounds) →
             Contains (map (λ p. numbered p.range p.cell) parts.items) (record { range = part; cell = None }) →
-            (part ≡ range.now) ⊎ (is_free (listed_at self.old.listed join) part ≡ true)) }
+            is_free (listed_at self.old.listed join) part ≡ true) }
+        ensures served { IfOk result (λ parts. (id : ℕ) (place : Bounds) →
+            Contains (listed_at self.old.listed join) (place, id) → IsWithin place range.now →
+            Contains (map (λ p. numbered p.range p.cell) parts.items) (record { range = place; cell = Some id })) }
         ensures whole { IfOk result (λ parts. (id : ℕ) (place : Bounds) → is_open range.now ≡ true →
             Contains (listed_at self.old.listed join) (place, id) → IsWithin range.now place →
             map (λ p. numbered p.range p.cell) parts.items ≡ one_part range.now id) }
@@ -221,12 +219,10 @@ impl<N: Naming> Directory<N> {
         ensures pulled { keep ≡ false → self.new ≡ self.old }
     {
         let pieces = self.pieces(join, range)?;
-        if are_too_many(pieces.len(), range) {
-            return whole(self.alloc, range);
-        }
+        let is_kept = are_gaps_kept(keep, pieces.len(), range);
         let mut parts = Vec::with_capacity(self.alloc, pieces.len())?;
         for piece in pieces {
-            parts.push(self.part(join, piece, keep)?)?;
+            parts.push(self.part(join, piece, is_kept)?)?;
         }
         Ok(parts)
     }

@@ -50,8 +50,8 @@ impl<N: Naming> SharedCells<N> {
     }
 
     /// The range in parts, in order, each with the cell that has it for the join and its rank, where one does. To be kept, each
-    /// gap between them is given a cell, while there are fewer than there may be. A range in very many parts is one part
-    /// without a cell. While another thread has the directory, this one sleeps.
+    /// gap between them is given a cell, while there are fewer than there may be; of a range in more than 64 parts none is. While
+    /// another thread has the directory, this one sleeps.
     ///
     /// It takes two searches, and for each part that is given a cell a few more. On `OutOfMemory` some gaps may have been given
     /// cells.

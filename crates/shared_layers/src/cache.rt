@@ -1,13 +1,14 @@
 // The cells that threads share, as the cache of a layer.
 
-use crate::part::{changes_of_part, read_part};
+use crate::part::{changes_of_part, read_alone, read_part};
 use crate::room::Room;
 use base_shards::Naming;
 use join_eval::{Between, Changed};
-use join_types::Pair;
+use join_types::{Join, Pair};
 use key_space::Range;
 use out_of_memory::OutOfMemory;
 use pq_io::Gate;
+use range_gaps::reads_all;
 use rank_layers::{Query, RangeCache};
 use shared_cells::{Part, RankedJoin};
 use shared_reader::Stacked;
@@ -97,6 +98,27 @@ impl<'a, N: Naming, W: Wait, G: Gate, R: Stacked<N>> RangeCache<R> for Room<'a, 
         steps: &mut Steps<L>,
     ) -> Result<Vec<Pair>, OutOfMemory> {
         read_part(self, query, part, reader, steps)
+    }
+
+    fn read_whole<L: Ledger>(
+        &self,
+        query: Query,
+        range: &Range,
+        reader: &mut R,
+        steps: &mut Steps<L>,
+    ) -> Result<Vec<Pair>, OutOfMemory> {
+        read_alone(self, query, range, reader, steps)
+    }
+
+    fn copy_join(&self, query: Query, reader: &mut R) -> Result<Join, OutOfMemory> {
+        reader.join_at(query.p, query.at)
+    }
+
+    fn reads_all(&self, join: &Join, part: &Part<N>) -> Result<bool, OutOfMemory> {
+        match &part.cell {
+            Some(_) => Ok(false),
+            None => reads_all(self.alloc, join, &part.range),
+        }
     }
 
     fn changes_since<L: Ledger>(

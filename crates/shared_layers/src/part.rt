@@ -13,6 +13,7 @@ use join_types::Pair;
 use key_space::Range;
 use out_of_memory::OutOfMemory;
 use pq_io::Gate;
+use range_gaps::output_part;
 use range_serving::serve_alone;
 use rank_layers::Query;
 use shared_cells::{Cell, Part};
@@ -21,8 +22,8 @@ use std::sync::Wait;
 use std::sync::ledger::Ledger;
 use steps::Steps;
 
-/// What the join gives in the part, of which nothing is kept. The gate is passed before it is evaluated.
-fn read_alone<N: Naming, W, G: Gate, R: Stacked<N>, L: Ledger>(
+/// Reads what the join gives in the part, of which nothing is kept. The gate is passed before it is evaluated.
+pub fn read_alone<N: Naming, W, G: Gate, R: Stacked<N>, L: Ledger>(
     room: &Room<'_, N, W, G>,
     query: Query,
     part: &Range,
@@ -40,7 +41,7 @@ fn read_alone<N: Naming, W, G: Gate, R: Stacked<N>, L: Ledger>(
     ensures cost { IfOk result (λ pairs. steps.old + 1 + length pairs.items ≤ steps.new) }
 {
     let join = reader.join_at(query.p, query.at)?;
-    let range = part.copy()?;
+    let range = output_part(room.alloc, &join, part)?;
     serve_alone(
         room.alloc, join, query.rank, query.p, range, room.gate, reader, steps,
     )

@@ -2,7 +2,8 @@ use Rattle.std.proofs.Common.{◌≤◌, sym, subst, arith}
 use Rattle.std.proofs.lemmas.Result.{IfOk-weaker}
 use Rattle.growing_history.proofs.PrefixLemmas.{prefix_length}
 use Rattle.join_eval.proofs.MovesLemmas.{moves_trans}
-use Rattle.shared_layers.proofs.LayerLemmas.{ranked_over, output_alone}
+use Rattle.rank_layers.proofs.JoinLemmas.{output_alone}
+use Rattle.shared_layers.proofs.LayerLemmas.{ranked_over}
 use Rattle.shared_layers.proofs.part.read_alone.Goals as goal
 
 pub join_at-requires-clause-stands : goal.join_at-requires-clause-stands

@@ -5,11 +5,11 @@ use Rattle.key_ranges.specs.Ranges.{is_open}
 use Rattle.layering.specs.Parts.{JoinTo}
 use Rattle.cell_slots.specs.declared.slot.Slot.{Slot}
 use Rattle.cell_slots.specs.declared.slot.Part.{Part}
-use Rattle.cell_slots.specs.Places.{LiesInPlace}
+use Rattle.cell_slots.specs.Places.{LiesInPlace, ServeKept}
 use Rattle.cell_slots.specs.Slots.{MeetsNone, place_at}
 use Rattle.cell_slots.specs.Spending.{one_gap, one_part}
 use Rattle.cell_table.specs.Stores.{IsGap}
-use Rattle.cell_table.proofs.PartLemmas.{gap_from_free, join_parts, lies_from_kept, lone_gap, part, whole_part}
+use Rattle.cell_table.proofs.PartLemmas.{gap_from_free, join_parts, lies_from_kept, lone_gap, part, serve_kept, whole_part}
 use Rattle.cell_table.proofs.table.CellTable.parts.Goals as goal
 
 pub returns-clause-join : goal.returns-clause-join
@@ -29,6 +29,12 @@ returns-clause-gaps c =
     subst (λ (slots : List Slot). IfOk c.parts_of.result (λ parts. (r : Bounds) → Contains parts.items (part r None) → IsGap slots c.args.at r)) (ap (λ t. t.holdings.slots) c.self.view_is)
     (IfOk-weaker c.parts_of.result _ _ (λ parts is r h. gap_from_free c.self.inside.slots c.self.inside.directory c.args.at c.args.range.now c.in_ok-pieces.pieces.items r c.self.invariant.directed c.in_ok-pieces.ensures.pieces
     (subst (λ (xs : List Part). Contains xs (part r None)) is h)) c.parts_of.ensures)
+
+pub returns-clause-served : goal.returns-clause-served
+returns-clause-served c =
+    subst (λ (slots : List Slot). IfOk c.parts_of.result (λ parts. ServeKept (place_at slots) c.args.at c.args.range.now parts.items)) (ap (λ t. t.holdings.slots) c.self.view_is)
+    (IfOk-weaker c.parts_of.result _ _ (λ parts is. subst (λ (xs : List Part). ServeKept (place_at c.self.inside.slots) c.args.at c.args.range.now xs) (sym is)
+    (serve_kept c.self.inside.slots c.self.inside.directory c.args.at c.args.range.now c.in_ok-pieces.pieces.items c.self.invariant.directed c.in_ok-pieces.ensures.pieces c.cover.ensures.apart)) c.parts_of.ensures)
 
 pub returns-clause-whole : goal.returns-clause-whole
 returns-clause-whole c =

@@ -1,6 +1,7 @@
 -- Reading base pairs after some entries.
-use Rattle.std.proofs.Common.{◌≡◌, ◌==◌, ℕ, zero, suc, ◌+◌, ◌-◌, ◌%◌, ◌≤◌, ◌⊎◌, inl, inr, true, false, cond, not, List, [], ◌∷◌, ◌++◌, length, take, drop, Contains, None, refl, sym, ap, ◌∙◌, subst, arith, Bool, Result, Ok, Err, OnOk, OnErr}
-use Rattle.std.proofs.lemmas.List.{take_all, take-append-drop, length-drop}
+use Rattle.std.proofs.Common.{◌≡◌, ◌==◌, ℕ, zero, suc, ◌+◌, ◌-◌, ◌%◌, ◌≤◌, ◌⊎◌, inl, inr, true, false, cond, not, List, [], ◌∷◌, ◌++◌, length, map, take, drop, Contains, None, refl, sym, ap, ◌∙◌, subst, arith, Bool, Result, Ok, Err, OnOk, OnErr}
+use Rattle.std.proofs.lemmas.Bool.{false≢true}
+use Rattle.std.proofs.lemmas.List.{take_all, take-append-drop, length-drop, length-map}
 use Rattle.semantics.specs.Texts.{Text, Table, value_at, is_range, Range, within, pairs_within, pairs_where}
 use Rattle.semantics.specs.Histories.{Entry, History, IsPrefix, joins_of, changed_at, base_of, is_computed}
 use Rattle.semantics.specs.States.{below}
@@ -20,9 +21,12 @@ use Rattle.join_eval.specs.declared.between.Between.{Between}
 use Rattle.join_eval.specs.declared.between.Between.TheVariants.{Steady, Bare, Other}
 use Rattle.join_eval.specs.declared.reading.Changed.{Changed}
 use Rattle.join_eval.specs.declared.reading.Changed.TheVariants.{Keys, All}
-use Rattle.join_eval.specs.Answers.{AnswersChanges, ListsChanges, ListsExactly, TellsBetween}
-use Rattle.base_reader.specs.Reaching.{AnswersKeys}
+use Rattle.join_eval.specs.Answers.{AnswersChanges, ListsChanges, ListsExactly, MayNotBeKnown, TellsBetween}
+use Rattle.state_changes.specs.StateChanges.{Change, change_to}
+use Rattle.base_reader.specs.Hiding.{without_hidden}
+use Rattle.base_reader.specs.Reaching.{AnswersKeys, is_known}
 use Rattle.base_versions.specs.Kept.{Kept, StandsFor, HasEnteredInPart}
+use Rattle.base_versions.specs.Valued.{base_changes}
 
 -- ---- the first entries
 
@@ -87,7 +91,7 @@ lists h q p rank range same = record {
 }
 
 -- they do at rank 0 where no join is declared or dropped between, and over a range that is bare throughout
-changed_listed : (h : History) (q p rank : ℕ) (range : Range) (keys : List Text) → HasEntered h → is_range range.low range.high ≡ true → q ≤ p → rank ≤ 0 → keys ≡ changed_keys q p range h →
+pub changed_listed : (h : History) (q p rank : ℕ) (range : Range) (keys : List Text) → HasEntered h → is_range range.low range.high ≡ true → q ≤ p → rank ≤ 0 → keys ≡ changed_keys q p range h →
     (changed_at (take p h) ≤ q) ⊎ IsBareThroughout h q p range → ListsChanges h q p rank range keys
 changed_listed h q p rank range keys entered ok order none is (inl steady) =
     let zero_rank : 0 ≡ rank = omega arith in
@@ -112,6 +116,42 @@ pub changed_of_bare : (h : History) (q p : ℕ) (range : Range) (keys named : Li
 changed_of_bare h q p range keys named Steady answer is said bare answers = subst (λ ks. ListsExactly ks answer) is answers
 changed_of_bare h q p range keys named Bare answer is said bare answers = subst (λ ks. ListsExactly ks answer) is answers
 changed_of_bare h q p range keys named Other answer is said bare answers = absurd (said.1 bare)
+
+-- ---- what is seen at changed keys
+
+-- what is seen at a key at rank 0
+seen_at : (h : History) (p rank : ℕ) (key : Text) → rank ≤ 0 → cond (not (is_computed (joins_of (take p h)) key)) (value_at key (base_of (take p h))) None ≡ value_at key (below (take p h) rank)
+seen_at h p rank key none =
+    sym (ap (value_at key) (below-zero (take p h)) ∙ value_at-visible key (take p h)) ∙ ap (λ r. value_at key (below (take p h) r)) (let e : 0 ≡ rank = omega arith in e)
+
+-- base values without those that outputs hide are what is seen
+hidden_seen : (h : History) (p rank : ℕ) (keys : List Text) → rank ≤ 0 → map (without_hidden (joins_of (take p h))) (map (change_to (base_of (take p h))) keys) ≡ map (change_to (below (take p h) rank)) keys
+hidden_seen h p rank [] none = refl
+hidden_seen h p rank (k ∷ ks) none = λ i. record { key = k; value = seen_at h p rank k none i } ∷ hidden_seen h p rank ks none i
+
+-- so it is of the changed keys, where the joins are those of a longer list
+pub changes_seen : (h more : History) (q p rank : ℕ) (range : Range) (found left : List Change) → p ≤ length h → IsPrefix h more → rank ≤ 0 → found ≡ base_changes q p range h → left ≡ map (without_hidden (joins_of (take p more))) found →
+    left ≡ map (change_to (below (take p h) rank)) (changed_keys q p range h)
+changes_seen h more q p rank range found left inside begins none is hidden =
+    hidden
+    ∙ (λ i. map (without_hidden (joins_of (take_prefix p h more inside begins i))) (is i))
+    ∙ hidden_seen h p rank (changed_keys q p range h) none
+
+-- where it is known which keys changed, no join is declared or dropped between, or the range is bare throughout
+pub known_since : (h : History) (q p : ℕ) (range : Range) (joins : Between) → TellsBetween h q p range joins → is_known joins ≡ true → (changed_at (take p h) ≤ q) ⊎ IsBareThroughout h q p range
+known_since h q p range Steady said known = inl said
+known_since h q p range Bare said known = inr said
+known_since h q p range Other said known = absurd (false≢true known)
+
+-- and where it is not, it may not be
+pub unknown_since : (h : History) (q p rank : ℕ) (range : Range) (joins : Between) → TellsBetween h q p range joins → is_known joins ≡ false → MayNotBeKnown h q p rank range
+unknown_since h q p rank range Steady said unknown = absurd (false≢true (sym unknown))
+unknown_since h q p rank range Bare said unknown = absurd (false≢true (sym unknown))
+unknown_since h q p rank range Other said unknown = record { computed = said.1; why = inl said.0 }
+
+-- there are as many changes as keys
+pub base_changes_count : (h : History) (q p : ℕ) (range : Range) (found : List Change) → found ≡ base_changes q p range h → length found ≡ length (changed_keys q p range h)
+base_changes_count h q p range found is = ap length is ∙ length-map (changed_keys q p range h) (change_to (base_of (take p h)))
 
 -- ---- versions that catch up
 

@@ -1,3 +1,4 @@
 pub mod Holds
 pub mod Spent
 pub mod Reaching
+pub mod Hiding

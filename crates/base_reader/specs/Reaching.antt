@@ -1,5 +1,5 @@
 -- The joins of a set by their positions and numbers, and those that a range reaches.
-use Rattle.std.specs.Prelude.{◌≡◌, ◌&&◌, ◌==◌, ℕ, ◌≤◌, List, length, slice_get, slice_index, take, Bool, Option, Some, None, option_map}
+use Rattle.std.specs.Prelude.{◌≡◌, ◌&&◌, ◌==◌, ℕ, ◌≤◌, List, length, slice_get, slice_index, take, Bool, true, false, Option, Some, None, option_map}
 use Rattle.semantics.specs.Texts.{Text, Range}
 use Rattle.semantics.specs.Joins.{Join}
 use Rattle.semantics.specs.Histories.{History, DeclaredJoin}
@@ -38,3 +38,9 @@ AnswersKeys keys Steady answer = ListsExactly keys answer
 AnswersKeys keys Bare answer = ListsExactly keys answer
 AnswersKeys keys Other (Keys listed) = ⊥
 AnswersKeys keys Other All = Unit {0}
+
+-- whether it is known which keys changed, where this is so of the joins
+abbrev pub is_known : Between → Bool
+is_known Steady = true
+is_known Bare = true
+is_known Other = false

@@ -6,14 +6,16 @@ ghost use Rattle.semantics.specs.States.{below};
 ghost use Rattle.growing_history.specs.Changes.{changed_keys, IsBareAt, IsBareThroughout};
 ghost use Rattle.growing_history.specs.Entered.{HasEntered};
 ghost use Rattle.layering.specs.Reached.{reached};
-ghost use Rattle.join_eval.specs.Answers.{AnswersChanges, CostsOne, ListsExactly, TellsBetween};
+ghost use Rattle.join_eval.specs.Answers.{AnswersChanges, CostsOne, ListsExactly, TellsAtCost, TellsBetween, TellsChanges, TellsExactly, TellsValues};
 ghost use Rattle.join_eval.specs.Moves.{Moves};
-ghost use Rattle.base_reader.specs.Reaching.{AnswersKeys};
+ghost use Rattle.base_reader.specs.Hiding.{without_hidden};
+ghost use Rattle.base_reader.specs.Reaching.{AnswersKeys, is_known};
 
-use crate::hiding::hide_computed;
+use crate::hiding::{hide_computed, hide_values};
 use crate::reaching::{between, reached_in};
 use crate::source::BaseSource;
-use join_eval::{Between, Changed};
+use change_lists::{Change, keys_of};
+use join_eval::{Between, Changed, Changes};
 use join_types::Pair;
 use key_space::range::look_at;
 use key_space::{Key, Range};
@@ -38,6 +40,25 @@ fn visible<S: BaseSource>(
     }
     let joins = source.make_joins(p)?;
     hide_computed(alloc, &joins, pairs)
+}
+
+/// These changes, without the values at keys that an output holds after the first p entries.
+fn visible_changes<S: BaseSource>(
+    source: &mut S,
+    p: u64,
+    changes: Vec<Change>,
+) -> Result<Vec<Change>, OutOfMemory>
+    requires within { p ≤ length (S.list source.old) }
+    requires above { S.floor source.old ≤ p }
+    ensures visible { IfOk result (λ left. left.items ≡ map (without_hidden (joins_of (take p (S.list source.old)))) changes.items) }
+    ensures moves { Moves S.list S.floor S.went source.old source.new }
+{
+    let alloc = source.alloc();
+    if let Some(joins) = source.joins_at_hand(p) {
+        return hide_values(alloc, joins, changes);
+    }
+    let joins = source.make_joins(p)?;
+    hide_values(alloc, &joins, changes)
 }
 
 /// Reads what stands in the range after the first p entries below a rank, which is 0: the base pairs that no output hides.
@@ -120,6 +141,17 @@ fn known(keys: Vec<Key>, joins: Between) -> Changed
     }
 }
 
+/// Whether it is known which keys changed, where this is so of the joins.
+fn is_known(joins: Between) -> bool
+    ensures { result ≡ is_known joins }
+{
+    match joins {
+        Between::Steady => true,
+        Between::Bare => true,
+        Between::Other => false,
+    }
+}
+
 /// Says what may have changed in the range between the first q and the first p entries below a rank, which is 0: the keys that
 /// the entries between put or remove, where no join is declared or dropped between or the range is bare throughout, and
 /// otherwise it is not known which.
@@ -146,7 +178,43 @@ pub fn lowest_changed<S: BaseSource, L: Ledger>(
     ensures bare_cost { IsBareThroughout (S.list source.old) q p range.now → IfOk result (λ _. steps.new ≡ steps.old + 1 + length (changed_keys q p range.now (S.list source.old))) }
 {
     look_at(range);
-    let keys = source.base_changes(q, p, range, steps)?;
+    let changes = source.base_changes(q, p, range, steps)?;
     let joins = lowest_between(source, q, p, range)?;
+    let keys = keys_of(source.alloc(), changes)?;
     Ok(known(keys, joins))
+}
+
+/// Says what may have changed in the range as `lowest_changed` does, and beside each key what stands there after the first p
+/// entries: the value of its base pair, if there is one and no output hides it.
+///
+/// The steps are as many as these keys, and one.
+pub fn lowest_changes<S: BaseSource, L: Ledger>(
+    source: &mut S,
+    q: u64,
+    p: u64,
+    range: &Range,
+    rank: u8,
+    steps: &mut Steps<L>,
+) -> Result<Changes, OutOfMemory>
+    requires order { q ≤ p }
+    requires within { p ≤ length (S.list source.old) }
+    requires above { S.floor source.old ≤ q }
+    requires ranked { rank ≤ 0 }
+    ensures exact { IfOk result (TellsChanges (S.list source.old) q p rank range.now) }
+    ensures values { IfOk result (TellsValues (below (take p (S.list source.old)) rank)) }
+    ensures moves { Moves S.list S.floor S.went source.old source.new }
+    ensures entered { HasEntered (S.list source.new) }
+    ensures counted { steps.old ≤ steps.new }
+    ensures cost { IfOk result (TellsAtCost steps.old steps.new) }
+    ensures bare { IsBareThroughout (S.list source.old) q p range.now → IfOk result (TellsExactly (changed_keys q p range.now (S.list source.old))) }
+    ensures bare_cost { IsBareThroughout (S.list source.old) q p range.now → IfOk result (λ _. steps.new ≡ steps.old + 1 + length (changed_keys q p range.now (S.list source.old))) }
+{
+    look_at(range);
+    let found = source.base_changes(q, p, range, steps)?;
+    let joins = lowest_between(source, q, p, range)?;
+    if !is_known(joins) {
+        return Ok(Changes::Unlisted);
+    }
+    let changes = visible_changes(source, p, found)?;
+    Ok(Changes::Listed(changes))
 }

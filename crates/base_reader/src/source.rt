@@ -2,14 +2,15 @@
 ghost use Rattle.std.specs.Prelude.{◌≡◌, ℕ, ◌+◌, ◌≤◌, length, take, IfOk, IfSome, option_copied};
 ghost use Rattle.semantics.specs.Texts.{pairs_within};
 ghost use Rattle.semantics.specs.Histories.{History, base_of};
-ghost use Rattle.growing_history.specs.Changes.{changed_keys};
 ghost use Rattle.growing_history.specs.Entered.{HasEntered};
+ghost use Rattle.base_versions.specs.Valued.{base_changes};
 ghost use Rattle.join_set.specs.Sets.{AreJoins};
 ghost use Rattle.join_eval.specs.Moves.{Moves};
 
+use change_lists::Change;
 use join_set::JoinSet;
 use join_types::Pair;
-use key_space::{Key, Range};
+use key_space::Range;
 use out_of_memory::OutOfMemory;
 use std::alloc::Global;
 use std::sync::ledger::Ledger;
@@ -49,7 +50,8 @@ pub trait BaseSource {
         ensures counted { steps.old ≤ steps.new }
         ensures cost { IfOk result (λ pairs. steps.new ≡ steps.old + 1 + length pairs.items) };
 
-    /// Lists the keys of the range that are put or removed after the first q entries, up to the p-th: in order, each once.
+    /// Lists the keys of the range that are put or removed after the first q entries, up to the p-th, each with the value of its
+    /// base pair after the first p, or none: in order, each once.
     ///
     /// The steps are as many as the keys, and one.
     fn base_changes<L: Ledger>(
@@ -58,15 +60,15 @@ pub trait BaseSource {
         p: u64,
         range: &Range,
         steps: &mut Steps<L>,
-    ) -> Result<Vec<Key>, OutOfMemory>
+    ) -> Result<Vec<Change>, OutOfMemory>
         requires order { q ≤ p }
         requires within { p ≤ length (list self.old) }
         requires above { floor self.old ≤ q }
-        ensures exact { IfOk result (λ keys. keys.items ≡ changed_keys q p range.now (list self.old)) }
+        ensures exact { IfOk result (λ found. found.items ≡ base_changes q p range.now (list self.old)) }
         ensures moves { Moves list floor went self.old self.new }
         ensures entered { HasEntered (list self.old) }
         ensures counted { steps.old ≤ steps.new }
-        ensures cost { IfOk result (λ keys. steps.new ≡ steps.old + 1 + length keys.items) };
+        ensures cost { IfOk result (λ found. steps.new ≡ steps.old + 1 + length found.items) };
 
     /// Lends the joins after the first p entries, where the source has them at hand. What they tell of dropped joins holds from the
     /// floor on. Constant.

@@ -1,10 +1,12 @@
 -- Beginnings of histories.
-use Rattle.std.proofs.Common.{◌≡◌, ℕ, zero, suc, ◌+◌, ◌-◌, ◌≤◌, List, [], ◌∷◌, ◌++◌, length, take, drop, filter, flat_map, refl, sym, ap, ◌∙◌, arith}
+use Rattle.std.proofs.Common.{◌≡◌, ℕ, zero, suc, ◌+◌, ◌-◌, ◌≤◌, List, [], ◌∷◌, ◌++◌, length, take, drop, filter, flat_map, map, refl, sym, ap, ◌∙◌, arith}
 use Rattle.std.proofs.lemmas.List.{length-drop, length-take, drop-append-le, take-append-drop, take-append-le}
-use Rattle.semantics.specs.Histories.{History, IsPrefix}
+use Rattle.semantics.specs.Histories.{History, IsPrefix, base_of}
 use Rattle.growing_history.specs.Changes.{entries_between, in_order, written, changed_keys}
 use Rattle.semantics.specs.Texts.{Range, within}
 use Rattle.growing_history.proofs.PrefixLemmas.{take_prefix}
+use Rattle.state_changes.specs.StateChanges.{change_to}
+use Rattle.base_versions.specs.Valued.{base_changes}
 
 take_nothing : {A : Type 0} (n : ℕ) → take {A = A} n [] ≡ []
 take_nothing zero = refl
@@ -37,3 +39,8 @@ pub changed_prefix : (q p : ℕ) (range : Range) (h more : History) → q ≤ p 
 unfolding changed_keys
 changed_prefix q p range h more order inside prefix =
     ap (λ es. in_order (filter (within range) (flat_map (λ e. written e.write) es))) (between_prefix q p h more order inside prefix)
+
+-- and so are these with what stands there
+pub base_changes_prefix : (q p : ℕ) (range : Range) (h more : History) → q ≤ p → p ≤ length h → IsPrefix h more → base_changes q p range more ≡ base_changes q p range h
+base_changes_prefix q p range h more order inside prefix =
+    λ i. map (change_to (base_of (take_prefix p h more inside prefix i))) (changed_prefix q p range h more order inside prefix i)

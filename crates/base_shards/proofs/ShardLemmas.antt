@@ -5,11 +5,12 @@ use Rattle.std.proofs.lemmas.List.{length-take, length-drop, take_all}
 use Rattle.semantics.specs.Texts.{Text, Table, Range, pairs_within}
 use Rattle.semantics.specs.Histories.{History, base_of}
 use Rattle.growing_history.specs.Changes.{changed_keys}
-use Rattle.key_space.specs.declared.key.Key.{Key}
 use Rattle.growing_history.specs.Entered.{HasEntered}
 use Rattle.growing_history.proofs.PrefixLemmas.{take_prefix, prefix_length}
+use Rattle.state_changes.specs.StateChanges.{Change}
 use Rattle.base_versions.specs.Kept.{Kept, StandsFor, HasEnteredInPart, has_table, shard_of}
 use Rattle.base_versions.specs.Own.{AreOwn, own_from}
+use Rattle.base_versions.specs.Valued.{base_changes}
 use Rattle.base_versions.specs.declared.placed.Placed.{Placed}
 use Rattle.write_history.specs.Marks.{IsLow}
 use Rattle.write_history.specs.Passes.{HistoryId, PassView, GoesOn}
@@ -17,7 +18,7 @@ use Rattle.write_history.specs.declared.known.Mark.{Mark}
 use Rattle.write_history.specs.declared.known.Mark.TheVariants.{Noted}
 use Rattle.base_shards.specs.Shards.{HasNoted, KeepsBeginning}
 use Rattle.write_history.proofs.Few.{few_entries}
-use Rattle.base_shards.proofs.ListLemmas.{take_then, take_of_take, take_is_prefix, changed_prefix}
+use Rattle.base_shards.proofs.ListLemmas.{take_then, take_of_take, take_is_prefix, changed_prefix, base_changes_prefix}
 
 -- with a longer view
 pub keeps_longer : (history : HistoryId) (base : Kept) (old new : PassView) → KeepsBeginning history base old → GoesOn old new → KeepsBeginning history base new
@@ -240,8 +241,15 @@ changed_of_view history base pass q p range keys keeps from order inside exact =
     let long : p ≤ length (take base.position pass.view) = omega (arith, length-take base.position pass.view, keeps.reaches) in
     exact base.start (take base.position pass.view) keeps.stands from ∙ sym (changed_prefix q p range (take base.position pass.view) pass.view order long (take_is_prefix base.position pass.view))
 
+-- and so are the changed keys with what stands there
+pub changes_of_view : (history : HistoryId) (base : Kept) (pass : PassView) (q p : ℕ) (range : Range) (found : List Change) → KeepsBeginning history base pass → base.start ≤ q → q ≤ p → p ≤ base.position →
+    ((start : ℕ) (h : History) → StandsFor start base h → start ≤ q → found ≡ base_changes q p range h) → found ≡ base_changes q p range pass.view
+changes_of_view history base pass q p range found keeps from order inside exact =
+    let long : p ≤ length (take base.position pass.view) = omega (arith, length-take base.position pass.view, keeps.reaches) in
+    exact base.start (take base.position pass.view) keeps.stands from ∙ sym (base_changes_prefix q p range (take base.position pass.view) pass.view order long (take_is_prefix base.position pass.view))
+
 -- where some are given
-pub few_of_view : (history : HistoryId) (base : Kept) (pass : PassView) (q p : ℕ) (range : Range) (found : Option (Vec Key Global)) → KeepsBeginning history base pass → base.start ≤ q → q ≤ p → p ≤ base.position →
-    ((start : ℕ) (h : History) → StandsFor start base h → start ≤ q → IfSome found (λ keys. keys.items ≡ changed_keys q p range h)) → IfSome found (λ keys. keys.items ≡ changed_keys q p range pass.view)
+pub few_of_view : (history : HistoryId) (base : Kept) (pass : PassView) (q p : ℕ) (range : Range) (few : Option (Vec Change Global)) → KeepsBeginning history base pass → base.start ≤ q → q ≤ p → p ≤ base.position →
+    ((start : ℕ) (h : History) → StandsFor start base h → start ≤ q → IfSome few (λ found. found.items ≡ base_changes q p range h)) → IfSome few (λ found. found.items ≡ base_changes q p range pass.view)
 few_of_view history base pass q p range None keeps from order inside exact = tt
-few_of_view history base pass q p range (Some keys) keeps from order inside exact = changed_of_view history base pass q p range keys.items keeps from order inside exact
+few_of_view history base pass q p range (Some found) keeps from order inside exact = changes_of_view history base pass q p range found.items keeps from order inside exact

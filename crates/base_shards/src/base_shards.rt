@@ -4,6 +4,7 @@ ghost use Rattle.std.specs.Arc.{arc_value};
 ghost use Rattle.semantics.specs.Texts.{pairs_within};
 ghost use Rattle.semantics.specs.Histories.{base_of};
 ghost use Rattle.growing_history.specs.Changes.{changed_keys};
+ghost use Rattle.base_versions.specs.Valued.{base_changes};
 ghost use Rattle.write_history.specs.declared.known.Mark.TheVariants.{Noted};
 ghost use Rattle.base_shards.specs.Reading.{ReachesBack, ReadsOn};
 ghost use Rattle.base_shards.specs.Changed.{changed_in_all, steps_of_all};
@@ -12,6 +13,7 @@ use crate::key_set::{add_keys, listed};
 use crate::naming::Naming;
 use crate::shard::{SHARDS, Shard, TRIM};
 use base_versions::shard_of;
+use change_lists::Change;
 use join_types::Pair;
 use key_space::{Key, Range};
 use out_of_memory::OutOfMemory;
@@ -205,13 +207,42 @@ impl<N: Naming> BaseShards<N> {
         listed(self.alloc, found)
     }
 
-    /// Lists the keys of the range that are put or removed by the entries after the first q that the pass has seen, up to the p-th:
-    /// in order, each once. None where more than so many changes would be sorted for them. The part of its table is brought to p.
+    /// Lists the keys of the range that are put or removed by the entries after the first q that the pass has seen, up to the p-th,
+    /// each with the value of its base pair after the first p, or none: in order, each once. The part of its table is brought to p.
     /// While another thread has it, this one sleeps.
     ///
-    /// It costs what `BaseVersions::few_changed` does, and a look-up for each entry of the part up to p that is new to it. No step
+    /// It costs what `BaseVersions::changes` does, and a look-up for each entry of the part up to p that is new to it. The steps
+    /// are as many as the keys, and one. On `OutOfMemory` they are not counted, and the part may have come nearer to p.
+    pub fn changes<L: Ledger, R: Wait>(
+        &self,
+        rt: &R,
+        pass: &mut Pass,
+        q: u64,
+        p: u64,
+        range: &Range,
+        steps: &mut Steps<L>,
+    ) -> Result<Vec<Change>, OutOfMemory>
+        requires same_history { pass.old.history ≡ N.history }
+        requires order { q ≤ p }
+        requires within { p ≤ length pass.old.view }
+        requires pinned { ReachesBack pass.old q }
+        ensures reads_on { ReadsOn pass.old pass.new }
+        ensures exact { IfOk result (λ found. found.items ≡ base_changes q p range.now pass.old.view) }
+        ensures cost { IfOk result (λ found. steps.new ≡ steps.old + 1 + length found.items) }
+        ensures spent { steps.old ≤ steps.new }
+    {
+        let number = shard_of(range.table(), SHARDS);
+        let mut shard = self.lock_part(rt, number);
+        shard.advance_to(rt, &self.history, pass, number, p)?;
+        shard.changes(q, p, range, steps)
+    }
+
+    /// Lists the changes as `changes` does. None where more than so many would be sorted for them. The part of its table is brought
+    /// to p. While another thread has it, this one sleeps.
+    ///
+    /// It costs what `BaseVersions::few_changes` does, and a look-up for each entry of the part up to p that is new to it. No step
     /// is counted: who asks counts what it hands on. On `OutOfMemory` the part may have come nearer to p.
-    pub fn few_changed<R: Wait>(
+    pub fn few_changes<R: Wait>(
         &self,
         rt: &R,
         pass: &mut Pass,
@@ -219,18 +250,18 @@ impl<N: Naming> BaseShards<N> {
         p: u64,
         range: &Range,
         most: usize,
-    ) -> Result<Option<Vec<Key>>, OutOfMemory>
+    ) -> Result<Option<Vec<Change>>, OutOfMemory>
         requires same_history { pass.old.history ≡ N.history }
         requires order { q ≤ p }
         requires within { p ≤ length pass.old.view }
         requires pinned { ReachesBack pass.old q }
         ensures reads_on { ReadsOn pass.old pass.new }
-        ensures exact { IfOk result (λ found. IfSome found (λ keys. keys.items ≡ changed_keys q p range.now pass.old.view)) }
+        ensures exact { IfOk result (λ few. IfSome few (λ found. found.items ≡ base_changes q p range.now pass.old.view)) }
     {
         let number = shard_of(range.table(), SHARDS);
         let mut shard = self.lock_part(rt, number);
         shard.advance_to(rt, &self.history, pass, number, p)?;
-        shard.few_changed(q, p, range, most)
+        shard.few_changes(q, p, range, most)
     }
 
     /// Brings a part to a position that the pass has seen, if it is not there yet. In this and every other call that brings

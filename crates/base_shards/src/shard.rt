@@ -5,6 +5,7 @@ ghost use Rattle.semantics.specs.Histories.{base_of};
 ghost use Rattle.growing_history.specs.Changes.{changed_keys, entries_between};
 ghost use Rattle.growing_history.specs.Entered.{HasEntered};
 ghost use Rattle.base_versions.specs.Kept.{shard_of};
+ghost use Rattle.base_versions.specs.Valued.{base_changes};
 ghost use Rattle.write_history.specs.Passes.{GoesOn, own};
 ghost use Rattle.write_history.specs.declared.known.Mark.TheVariants.{Noted};
 ghost use Rattle.base_shards.specs.Marks.{MarksAtLeast, marked_by};
@@ -13,6 +14,7 @@ ghost use Rattle.base_shards.specs.Shards.{with_ranges_of, without_id};
 use crate::marking::mark_written;
 use crate::naming::Naming;
 use base_versions::BaseVersions;
+use change_lists::Change;
 use join_types::Pair;
 use key_space::{Key, Range};
 use out_of_memory::OutOfMemory;
@@ -295,23 +297,45 @@ impl<N: Naming> Shard<N> {
         self.base.changed(q, p, range, steps)
     }
 
-    /// Lists the keys of the range that are put or removed by the entries after the first q that the pass has seen, up to the p-th:
-    /// in order, each once. None where more than so many changes would be sorted for them. It costs what
-    /// `BaseVersions::few_changed` does, and counts no step.
-    pub fn few_changed(
+    /// Lists the keys of the range that are put or removed by the entries after the first q that the pass has seen, up to the p-th,
+    /// each with the value of its base pair after the first p, or none: in order, each once. It costs what `BaseVersions::changes`
+    /// does.
+    ///
+    /// The steps are as many as the keys, and one. On `OutOfMemory` they are not counted.
+    pub fn changes<L: Ledger>(
+        &self,
+        q: u64,
+        p: u64,
+        range: &Range,
+        steps: &mut Steps<L>,
+    ) -> Result<Vec<Change>, OutOfMemory>
+        requires from { self.now.base.start ≤ q }
+        requires order { q ≤ p }
+        requires within { p ≤ self.now.base.position }
+        requires part { shard_of 16 (table_of range.now.low) ≡ self.now.base.shard }
+        ensures exact { IfOk result (λ found. found.items ≡ base_changes q p range.now self.now.pass.view) }
+        ensures cost { IfOk result (λ found. steps.new ≡ steps.old + 1 + length found.items) }
+        ensures spent { steps.old ≤ steps.new }
+    {
+        self.base.changes(q, p, range, steps)
+    }
+
+    /// Lists the changes as `changes` does. None where more than so many would be sorted for them. It costs what
+    /// `BaseVersions::few_changes` does, and counts no step.
+    pub fn few_changes(
         &self,
         q: u64,
         p: u64,
         range: &Range,
         most: usize,
-    ) -> Result<Option<Vec<Key>>, OutOfMemory>
+    ) -> Result<Option<Vec<Change>>, OutOfMemory>
         requires from { self.now.base.start ≤ q }
         requires order { q ≤ p }
         requires within { p ≤ self.now.base.position }
         requires part { shard_of 16 (table_of range.now.low) ≡ self.now.base.shard }
-        ensures { IfOk result (λ found. IfSome found (λ keys. keys.items ≡ changed_keys q p range.now self.now.pass.view)) }
+        ensures { IfOk result (λ few. IfSome few (λ found. found.items ≡ base_changes q p range.now self.now.pass.view)) }
     {
-        self.base.few_changed(q, p, range, most)
+        self.base.few_changes(q, p, range, most)
     }
 
     /// Adds the ranges to those of the id, in order; one that the id has already is not added again. An id that the index

@@ -13,3 +13,4 @@ pub mod ChangedLemmas
 pub mod NewestLemmas
 pub mod GroupLemmas
 pub mod GroupedLemmas
+pub mod ValuedLemmas

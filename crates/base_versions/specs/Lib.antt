@@ -5,4 +5,5 @@ pub mod Changes
 pub mod Groups
 pub mod Kept
 pub mod Own
+pub mod Valued
 pub mod Laws

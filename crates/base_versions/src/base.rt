@@ -7,10 +7,12 @@ ghost use Rattle.join_types.specs.Writes.{plain_write};
 ghost use Rattle.base_versions.specs.Own.{AreOwn, shard_written};
 ghost use Rattle.base_versions.specs.Kept.{StandsFor, HasEnteredInPart, IsChanged, IsEntered, IsKept, IsTrimmedTo, empty_table, has_table, shard_of, table_among};
 ghost use Rattle.base_versions.specs.Named.{named};
+ghost use Rattle.base_versions.specs.Valued.{base_changes};
 
 use crate::changes::{Change, take_early};
 use crate::placed::Placed;
 use crate::table::TableVersions;
+use change_lists::Change as ValuedChange;
 use join_types::{Entry, Pair, Write};
 use key_space::{Key, Range, Value};
 use out_of_memory::OutOfMemory;
@@ -191,25 +193,49 @@ impl BaseVersions {
         Ok(keys)
     }
 
-    /// Lists the keys of the range that are put or removed after the first q entries, up to the p-th: in order, each once. None
-    /// where more than so many changes would be sorted for them: those of the range's group where it lies inside one, and otherwise
-    /// of its table. It costs the search for these changes, and to sort them where they are not more.
+    /// Lists the keys of the range that are put or removed after the first q entries, up to the p-th, each with the value of its
+    /// base pair after the first p, or none: in order, each once. It costs what `changed` does, and for each key the search for
+    /// it and for its version.
+    ///
+    /// The steps are as many as the keys, and one. On `OutOfMemory` they are not counted.
+    pub fn changes<L: Ledger>(
+        &self,
+        q: u64,
+        p: u64,
+        range: &Range,
+        steps: &mut Steps<L>,
+    ) -> Result<Vec<ValuedChange>, OutOfMemory>
+        requires order { q ≤ p }
+        requires within { p ≤ self.now.position }
+        requires own { has_table self.now (table_of range.now.low) ≡ true }
+        ensures exact { IfOk result (λ found. (start : ℕ) (h : History) → StandsFor start self.now h → start ≤ q → found.items ≡ base_changes q p range.now h) }
+        ensures cost { IfOk result (λ found. steps.new ≡ steps.old + 1 + length found.items) }
+        ensures spent { steps.old ≤ steps.new }
+    {
+        let found = self.find_changes(q, p, range)?;
+        steps.count_call(found.len());
+        Ok(found)
+    }
+
+    /// Lists the changes as `changes` does. None where more than so many would be sorted for them: those of the range's group
+    /// where it lies inside one, and otherwise of its table. It costs the search for these, and where they are not more, to sort
+    /// them and to search for each key and for its version.
     ///
     /// No step is counted: who asks counts what it hands on.
-    pub fn few_changed(
+    pub fn few_changes(
         &self,
         q: u64,
         p: u64,
         range: &Range,
         most: usize,
-    ) -> Result<Option<Vec<Key>>, OutOfMemory>
+    ) -> Result<Option<Vec<ValuedChange>>, OutOfMemory>
         requires order { q ≤ p }
         requires own { has_table self.now (table_of range.now.low) ≡ true }
-        ensures { IfOk result (λ found. (start : ℕ) (h : History) → StandsFor start self.now h → start ≤ q → IfSome found (λ keys. keys.items ≡ changed_keys q p range.now h)) }
+        ensures { IfOk result (λ few. (start : ℕ) (h : History) → StandsFor start self.now h → start ≤ q → IfSome few (λ found. found.items ≡ base_changes q p range.now h)) }
     {
         match self.tables.get(range.table()) {
             None => Ok(Some(Vec::new(self.alloc))),
-            Some(table) => table.few_changed(self.alloc, q, p, range, most),
+            Some(table) => table.few_changes(self.alloc, q, p, range, most),
         }
     }
 
@@ -233,6 +259,18 @@ impl BaseVersions {
         match self.tables.get(range.table()) {
             None => Ok(Vec::new(self.alloc)),
             Some(table) => table.changed(self.alloc, q, p, range),
+        }
+    }
+
+    /// The keys of the range that are put or removed after the first q entries, up to the p-th, with what stands there after p.
+    fn find_changes(&self, q: u64, p: u64, range: &Range) -> Result<Vec<ValuedChange>, OutOfMemory>
+        requires order { q ≤ p }
+        requires own { has_table self.now (table_of range.now.low) ≡ true }
+        ensures { IfOk result (λ found. (start : ℕ) (h : History) → StandsFor start self.now h → start ≤ q → found.items ≡ base_changes q p range.now h) }
+    {
+        match self.tables.get(range.table()) {
+            None => Ok(Vec::new(self.alloc)),
+            Some(table) => table.changes(self.alloc, q, p, range),
         }
     }
 

@@ -1,5 +1,5 @@
 // The versions and the changes of one table.
-ghost use Rattle.std.specs.Prelude.{◌≡◌, [], ◌∷◌, ◌++◌, IfNone, IfOk, IfSome, OnOk, OnErr, filter, option_copied, true};
+ghost use Rattle.std.specs.Prelude.{◌≡◌, [], ◌∷◌, ◌++◌, IfNone, IfOk, IfSome, OnOk, OnErr, filter, map, option_copied, true};
 ghost use Rattle.std.specs.List.{AllByRecursion};
 ghost use Rattle.std.specs.List.Sorted.{IsStrictlySortedBy};
 ghost use Rattle.std.specs.Map.{keys_of};
@@ -9,12 +9,14 @@ ghost use Rattle.base_versions.specs.Versions.{AddsVersion, AllAscend, AscendFro
 ghost use Rattle.base_versions.specs.Changes.{Ascend};
 ghost use Rattle.base_versions.specs.Groups.{AreGrouped, HoldsChanges};
 ghost use Rattle.base_versions.specs.Kept.{FindsChanged, empty_table};
+ghost use Rattle.base_versions.specs.Valued.{HasVersion};
 
 use crate::changes::{Change, between, keys_in_order, take_early};
 use crate::group::group_within;
 use crate::groups::ChangesByGroup;
 use crate::room::let_room_go;
 use crate::versions::{Version, Versions};
+use change_lists::Change as ValuedChange;
 use join_types::Pair;
 use key_space::{Key, KeyBound, Range, Value};
 use out_of_memory::OutOfMemory;
@@ -148,10 +150,10 @@ impl TableVersions {
         }
     }
 
-    /// Lists the keys of the range that are put or removed after the first q entries, up to the p-th: in order, each once. None
-    /// where more than so many changes would be sorted for them: those of the range's group where it lies inside one, and otherwise
-    /// of the table. It takes the search for these changes, and to sort them where they are not more.
-    pub fn few_changed(
+    /// The keys of the range that are put or removed after the first q entries, up to the p-th: in order, each once. None where
+    /// more than so many changes would be sorted for them: those of the range's group where it lies inside one, and otherwise of
+    /// the table. It takes the search for these changes, and to sort them where they are not more.
+    fn few_changed(
         &self,
         alloc: Global,
         q: u64,
@@ -170,6 +172,63 @@ impl TableVersions {
         }
         let keys = keys_in_order(alloc, changes, first, last, range)?;
         Ok(Some(keys))
+    }
+
+    /// The keys, each with what stands at it after p entries, in their order. Logarithmic for each of them in the keys of the table
+    /// and in the key's versions. Long texts are shared.
+    fn with_values(
+        &self,
+        alloc: Global,
+        p: u64,
+        keys: Vec<Key>,
+    ) -> Result<Vec<ValuedChange>, OutOfMemory>
+        ensures keys { IfOk result (λ found. map (λ change. change.key) found.items ≡ keys.items) }
+        ensures values { IfOk result (λ found. AllByRecursion (HasVersion p self.now.tracks) found.items) }
+    {
+        let mut found = Vec::with_capacity(alloc, keys.len())?;
+        for key in keys {
+            let value = self.value_at(p, &key);
+            found.push(ValuedChange::of(key, value)?)?;
+        }
+        Ok(found)
+    }
+
+    /// Lists the keys of the range that are put or removed after the first q entries, up to the p-th, each with what stands at it
+    /// after the first p: in order, each once. It takes what `changed` takes, and for each key the search for it and for its
+    /// version.
+    pub fn changes(
+        &self,
+        alloc: Global,
+        q: u64,
+        p: u64,
+        range: &Range,
+    ) -> Result<Vec<ValuedChange>, OutOfMemory>
+        ensures keys { Ascend 0 self.now.changes → IfOk result (λ found. FindsChanged q p range.now self.now (map (λ change. change.key) found.items)) }
+        ensures values { IfOk result (λ found. AllByRecursion (HasVersion p self.now.tracks) found.items) }
+    {
+        let keys = self.changed(alloc, q, p, range)?;
+        self.with_values(alloc, p, keys)
+    }
+
+    /// Lists the changes as `changes` does. None where more than so many would be sorted for them: those of the range's group
+    /// where it lies inside one, and otherwise of the table. It takes the search for these, and where they are not more, to sort
+    /// them and to search for each key and for its version.
+    pub fn few_changes(
+        &self,
+        alloc: Global,
+        q: u64,
+        p: u64,
+        range: &Range,
+        most: usize,
+    ) -> Result<Option<Vec<ValuedChange>>, OutOfMemory>
+        ensures keys { Ascend 0 self.now.changes → IfOk result (λ few. IfSome few (λ found. FindsChanged q p range.now self.now (map (λ change. change.key) found.items))) }
+        ensures values { IfOk result (λ few. IfSome few (λ found. AllByRecursion (HasVersion p self.now.tracks) found.items)) }
+    {
+        let Some(keys) = self.few_changed(alloc, q, p, range, most)? else {
+            return Ok(None);
+        };
+        let found = self.with_values(alloc, p, keys)?;
+        Ok(Some(found))
     }
 
     /// Takes out what nobody asks for who asks from a position on: the first change, where it is not after it, and versions of the

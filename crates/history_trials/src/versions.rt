@@ -2,6 +2,7 @@
 ghost use Rattle.std.specs.Prelude.{◌≡◌, ◌<◌, ◌≤◌, IfOk};
 
 use base_versions::{BaseVersions, shard_of};
+use change_lists::Change;
 use join_types::{Entry, Write};
 use key_space::{Key, Range, Value};
 use std::alloc::Global;
@@ -115,22 +116,49 @@ fn pairs<L: Ledger>(
     Ok(text)
 }
 
-/// The same keys are found where many changes may be sorted for them, and where none may, none are given if there are any.
-fn expect_few(
+/// Whether these are changes of the keys, in their order.
+fn are_of(changes: &[Change], keys: &[Key]) -> bool {
+    for (one, key) in changes.iter().zip(keys.iter()) {
+        if one.key.text() != key.text() {
+            return false;
+        }
+    }
+    changes.len() == keys.len()
+}
+
+/// The text of a value, and none of it where there is none.
+fn text_of(value: Option<&Value>) -> &str {
+    match value {
+        None => "",
+        Some(value) => value.text(),
+    }
+}
+
+/// The same keys are found with what stands there, also where many changes may be sorted for them; where none may, none are given
+/// if there are any.
+fn expect_valued<L: Ledger>(
     rt: &impl Abort,
     base: &BaseVersions,
     between: (u64, u64),
     range: &Range,
     found: &[Key],
+    steps: &mut Steps<L>,
 ) -> Result<(), Fail>
     requires one { base.now.shards ≡ 1 }
     requires first { base.now.shard ≡ 0 }
     requires order { between.0 ≤ between.1 }
+    requires within { between.1 ≤ base.now.position }
 {
     let (q, p) = between;
-    let few = base.few_changed(q, p, range, 1_000)?.ok_or("few")?;
-    assert!(rt; few.as_slice() == found);
-    let none = base.few_changed(q, p, range, 0)?;
+    let changes = base.changes(q, p, range, steps)?;
+    assert!(rt; are_of(changes.as_slice(), found));
+    for change in changes.iter() {
+        let stands = text_of(base.get_at(p, &change.key));
+        assert!(rt; text_of(change.value.as_ref()) == stands);
+    }
+    let few = base.few_changes(q, p, range, 1_000)?.ok_or("few")?;
+    assert!(rt; are_of(few.as_slice(), found));
+    let none = base.few_changes(q, p, range, 0)?;
     assert!(rt; none.is_none() || found.is_empty());
     Ok(())
 }
@@ -154,7 +182,7 @@ fn changed<L: Ledger>(
     let mut steps: Steps<L> = Steps::open(blank);
     assert!(rt; base.start() <= q && q <= p && p <= base.position());
     let found = base.changed(q, p, &range, &mut steps)?;
-    expect_few(rt, base, (q, p), &range, found.as_slice())?;
+    expect_valued(rt, base, (q, p), &range, found.as_slice(), &mut steps)?;
     let mut text = String::new(alloc);
     for key in found {
         text.push_str(key.text())?;

@@ -5,9 +5,12 @@
 
 mod comparing;
 pub mod listed;
+mod valuing;
 mod writing;
 
 pub use listed::ListReader;
 
 #[cfg(test)]
 mod tests;
+#[cfg(test)]
+mod value_tests;

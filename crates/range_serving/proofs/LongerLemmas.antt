@@ -1,5 +1,5 @@
 -- What is said of a kept range over a list that has grown, said of the list as it was.
-use Rattle.std.proofs.Common.{◌≡◌, ℕ, ◌+◌, ◌*◌, ◌≤◌, List, [], ◌∷◌, length, take, Contains, refl, sym, ap, ◌∙◌, subst, inl, inr, ⊎_elim}
+use Rattle.std.proofs.Common.{◌≡◌, ℕ, ◌+◌, ◌≤◌, List, [], ◌∷◌, length, take, Contains, refl, sym, ap, ◌∙◌, subst, inl, inr, ⊎_elim}
 use Rattle.std.specs.List.{AllByRecursion, Any, sum_by}
 use Rattle.semantics.specs.Texts.{Range, Text}
 use Rattle.semantics.specs.Patterns.{Slots}
@@ -95,7 +95,7 @@ little_before h more q p s t prefix within order little =
 pub steps_before : (h more : History) (q p : ℕ) (s t : KeptRange) → IsPrefix h more → p ≤ length h → q ≤ p → t ≡ s → advance_steps more q p t.kept.needs ≡ advance_steps h q p s.kept.needs
 steps_before h more q p s t prefix within order same =
     ap (λ (k : KeptRange). advance_steps more q p k.kept.needs) same
-    ∙ (λ i. sum_by (λ (need : Need). 1 + 3 * length (changed_longer h more q p need.range prefix within order i)) s.kept.needs)
+    ∙ (λ i. sum_by (λ (need : Need). 1 + length (changed_longer h more q p need.range prefix within order i)) s.kept.needs)
 
 -- what is counted where a kept range is brought forward over the longer list is counted over the list
 forward_here : (h more : History) (p : ℕ) (s : KeptRange) (before after : ℕ) → IsPrefix h more → p ≤ length h → CountsForward more p s before after → CountsForward h p s before after

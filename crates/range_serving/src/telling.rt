@@ -22,7 +22,7 @@ use steps::Steps;
 
 /// Advances it to where p entries stand, where it stands below. Otherwise nothing changes, and no step is taken. Where it stands
 /// below and the ranges of its needs are bare from there on, what no changed key touches is left, and it takes no more steps than
-/// an advance: one for each need, and three for each changed key of its range. It takes one step at least for each need, or what
+/// an advance: one for each need, and one for each changed key of its range. It takes one step at least for each need, or what
 /// filling it takes.
 ///
 /// On a fault it stands where it stood, or is forgotten, and is right for the reader's list. The reader may have gone on and steps

@@ -6,7 +6,7 @@ use Rattle.std.proofs.lemmas.Bool.{not-true}
 use Rattle.std.proofs.lemmas.List.{map-append}
 use Rattle.semantics.specs.Texts.{Text, text_cmp, same, Table, is_range, value_at}
 use Rattle.semantics.specs.Joins.{copy, is_check, is_aggregate, checks_of, Source, Join, value_operator}
-use Rattle.semantics.specs.Histories.{History, IsPrefix, joins_of}
+use Rattle.semantics.specs.Histories.{History, joins_of}
 use Rattle.semantics.specs.States.{below, KeepsRules}
 use Rattle.semantics.proofs.MemberLemmas.{Has, has_from_contains, contains_from_has, has_append_left, has_append_right, has_append_cases, has_filter, has_map, has_mapped}
 use Rattle.semantics.proofs.Members.{AllByRecursion-append}
@@ -23,9 +23,9 @@ use Rattle.kept_ranges.specs.Listing.{IsApplied, listed_after, answer_of}
 use Rattle.kept_ranges.specs.ListingLaws.{IsRelisted}
 use Rattle.kept_ranges.specs.Notes.{Mark, key, slots, Note, Notes, note_limit, noted}
 use Rattle.kept_ranges.specs.Rules.{source_of, reported_in, Touch, touch_of, touches_by, touches, is_touched, is_left, Application, applications, applied, AddsTouched, IsAdvanced}
-use Rattle.kept_ranges.specs.Sound.{KeptRange, IsSoundAt, IsSound}
+use Rattle.kept_ranges.specs.Sound.{KeptRange, IsSoundAt}
 use Rattle.kept_ranges.specs.SoundLaws.{AreReportedBetween, CanStand, IsAdvanceMark, MakesNotes}
-use Rattle.kept_ranges.proofs.SoundLemmas.{sound_over_longer, advanced_is_sound, relisted_is_sound}
+use Rattle.kept_ranges.proofs.SoundLemmas.{advanced_is_sound, relisted_is_sound}
 use Rattle.kept_ranges.proofs.TouchLemmas.{touched}
 use Rattle.source_changes.specs.Filling.{CanFill}
 use Rattle.source_changes.specs.Laws.{NeedsCanFill}
@@ -277,22 +277,20 @@ rows_advanced s p reported table held after fits step = record {
 }
 
 -- what is right at a position, said of what is held there
-said_of : (s : Subject) (h more : History) (p : ℕ) (after : Holding) (notes : Notes) → IsPrefix h more → after.position ≡ p → after.notes ≡ notes
-    → IsSoundAt (record (range_kept s after) { position = Some p; notes = notes }) h p → IsSoundAt (range_kept s after) more p
-said_of s h more p after notes prefix position is sound =
-    let later : IsSound (record (range_kept s after) { position = Some p; notes = notes }) more = sound_over_longer (record (range_kept s after) { position = Some p; notes = notes }) h more prefix sound in
-    subst (λ (w : ℕ × Notes). IsSoundAt (record (range_kept s after) { position = Some w.0; notes = w.1 }) more p) (λ i. (sym position i, sym is i)) later
+said_of : (s : Subject) (h : History) (p : ℕ) (after : Holding) (notes : Notes) → after.position ≡ p → after.notes ≡ notes
+    → IsSoundAt (record (range_kept s after) { position = Some p; notes = notes }) h p → IsSoundAt (range_kept s after) h p
+said_of s h p after notes position is sound = subst (λ (w : ℕ × Notes). IsSoundAt (record (range_kept s after) { position = Some w.0; notes = w.1 }) h p) (λ i. (sym position i, sym is i)) sound
 
 -- and right at the later position
-pub rows_sound : (s : Subject) (h more : History) (p : ℕ) (reported : List Text) (held after : Holding) → IsPrefix h more → CanStand (range_kept s held) h p → held.position ≤ p → value_operator s.join ≡ copy
-    → IsSoundAt (range_kept s held) h held.position → AreReportedBetween h held.position p s.rank held.rows.needs reported → RowsStep s p reported (below (take p h) s.rank) held after → IsSoundAt (range_kept s after) more p
-rows_sound s h more p reported held after prefix can le copies sound between step =
+pub rows_sound : (s : Subject) (h : History) (p : ℕ) (reported : List Text) (held after : Holding) → CanStand (range_kept s held) h p → held.position ≤ p → value_operator s.join ≡ copy
+    → IsSoundAt (range_kept s held) h held.position → AreReportedBetween h held.position p s.rank held.rows.needs reported → RowsStep s p reported (below (take p h) s.rank) held after → IsSoundAt (range_kept s after) h p
+rows_sound s h p reported held after can le copies sound between step =
     let added = touch_notes p (touched_by s reported held) ++ key_notes p (applied_by s reported after) in
     let advanced : IsAdvanced s.join s.range reported (below (take p h) s.rank) (kept_of held) (kept_of after) = record { cut = record { needs = step.needs; pending = step.pending }; rows = step.pairs } in
     let at = advanced_is_sound (range_kept s held) (kept_of after) reported added h held.position p can le copies sound between advanced (advance_notes p (touched_by s reported held) (applied_by s reported after)) in
     let own : IsSoundAt (record (range_kept s after) { position = Some p; notes = noted held.notes added }) h p =
     subst (λ (o : Option KeptGroups). IsSoundAt (record (range_kept s after) { position = Some p; notes = noted held.notes added; groups = groups_of o }) h p) (sym step.groups) at in
-    said_of s h more p after (noted held.notes added) prefix step.position step.notes own
+    said_of s h p after (noted held.notes added) step.position step.notes own
 
 -- ---- aggregates
 
@@ -356,11 +354,11 @@ groups_advanced s p reported table held after rules aggregates fits step =
     }
 
 -- and right at the later position
-pub groups_sound : (s : Subject) (h more : History) (p : ℕ) (reported : List Text) (held after : Holding) → IsPrefix h more → CanStand (range_kept s held) h p → held.position ≤ p → is_aggregate (value_operator s.join) ≡ true
-    → IsSoundAt (range_kept s held) h held.position → AreReportedBetween h held.position p s.rank held.rows.needs reported → GroupsStep s p reported (below (take p h) s.rank) held after → IsSoundAt (range_kept s after) more p
-groups_sound s h more p reported held after prefix can le aggregates sound between step =
+pub groups_sound : (s : Subject) (h : History) (p : ℕ) (reported : List Text) (held after : Holding) → CanStand (range_kept s held) h p → held.position ≤ p → is_aggregate (value_operator s.join) ≡ true
+    → IsSoundAt (range_kept s held) h held.position → AreReportedBetween h held.position p s.rank held.rows.needs reported → GroupsStep s p reported (below (take p h) s.rank) held after → IsSoundAt (range_kept s after) h p
+groups_sound s h p reported held after can le aggregates sound between step =
     let added = key_notes p (applied_by s reported held) in
     let relisted : IsRelisted s.join s.range reported (below (take p h) s.rank) (kept_of held) (kept_of after) (λ k. pairs_of k (groups_of held.groups)) (λ k. pairs_of k (groups_of after.groups)) =
     record { needs = step.needs; pending = λ i. (step.pending i).noted; listed = step.listed; ascending = step.ascending; made = step.made; others = step.others } in
-    said_of s h more p after (noted held.notes added) prefix step.position step.notes
+    said_of s h p after (noted held.notes added) step.position step.notes
     (relisted_is_sound (range_kept s held) (kept_of after) (groups_of after.groups) reported added h held.position p can le aggregates sound between relisted (advance_notes p [] (applied_by s reported held)))

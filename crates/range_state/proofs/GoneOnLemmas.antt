@@ -9,14 +9,16 @@ use Rattle.semantics.specs.States.{below}
 use Rattle.semantics.proofs.MemberLemmas.{has_from_contains, contains_from_has}
 use Rattle.growing_history.specs.Changes.{Same}
 use Rattle.growing_history.specs.Entered.{HasEntered, HasRank}
-use Rattle.growing_history.proofs.PrefixLemmas.{take_prefix}
+use Rattle.growing_history.proofs.PrefixLemmas.{prefix_length, take_prefix}
+use Rattle.state_changes.specs.StateChanges.{Change}
+use Rattle.join_eval.specs.Answers.{HaveValues, change_keys}
 use Rattle.range_evaluation.specs.Trees.{Need}
 use Rattle.range_evaluation.proofs.ListedLemmas.{nothing_in}
 use Rattle.kept_ranges.specs.Rules.{Touch, AddsTouched}
 use Rattle.kept_ranges.specs.Sound.{KeptRange, IsSoundAt, IsSound}
 use Rattle.kept_ranges.specs.SoundLaws.{AreReportedBetween}
 use Rattle.kept_ranges.proofs.SoundLemmas.{sound_over_longer}
-use Rattle.range_state.specs.Advanced.{touched_by, IsAdvancedTo}
+use Rattle.range_state.specs.Advanced.{touched_by, CanAdvance, IsAdvancedTo}
 use Rattle.range_state.specs.Filled.{IsFilledAt}
 use Rattle.range_state.specs.Held.{range_kept}
 use Rattle.range_state.specs.declared.holding.Holding.{Holding}
@@ -54,6 +56,20 @@ reported_held s held same v h more p floor needs reported told view is order are
     let own : AreReportedBetween h held.position p s.rank held.rows.needs told = subst (λ (w : List Need × List Text). AreReportedBetween h held.position p s.rank w.0 w.1) (λ i. (are i, sym is_told i)) all in
     let later = reported_longer h more held.position p s.rank held.rows.needs told prefix within up.1 own in
     subst (λ (w : Holding). AreReportedBetween more w.position p s.rank w.rows.needs told) (sym is) later
+
+-- so what is held can be advanced by what is reported
+pub can_advance : (s : Subject) (held same : Holding) (v : KeptRange) (h more : History) (p floor : ℕ) (needs : List Need) (reported told : List Change) → range_kept s held ≡ v → same ≡ held → IsSomeAnd v.position (λ q. (floor ≤ q) × (q ≤ p)) → needs ≡ held.rows.needs → told ≡ reported
+    → IsPrefix h more → p ≤ length h → HasEntered more → HasRank (joins_of (take p h)) s.join s.rank → IsSound v h → AreReportedBetween h held.position p s.rank needs (change_keys reported) → HaveValues (below (take p h) s.rank) reported → CanAdvance s same p told more
+can_advance s held same v h more p floor needs reported told view is order are is_told prefix within entered stands sound all values =
+    let longer : take p h ≡ take p more = sym (take_prefix p h more within prefix) in
+    record {
+      within = omega (arith, within, prefix_length h more prefix);
+      entered = entered;
+      stands = subst (λ (es : History). HasRank (joins_of es) s.join s.rank) longer stands;
+      sound = held_sound s held same v h more view is prefix sound;
+      told = reported_held s held same v h more p floor needs (change_keys reported) (change_keys told) view is order are (ap change_keys is_told) prefix within all;
+      values = subst (λ (w : History × List Change). HaveValues (below w.0 s.rank) w.1) (λ i. (longer i, sym is_told i)) values;
+    }
 
 -- what was made is right, said of what is held
 pub made_sound : (s : Subject) (after made : Holding) (more : History) → after ≡ made → IsSound (range_kept s made) more → IsSoundAt (range_kept s after) more after.position

@@ -7,6 +7,7 @@ use Rattle.semantics.proofs.MemberLemmas.{Has, has_from_contains, contains_from_
 use Rattle.lazy_log.specs.Pending.{NotesOnce}
 use Rattle.kept_ranges.specs.Notes.{key, slots, Note, Notes, note_limit, last_dropped, noted}
 use Rattle.kept_ranges.specs.Rules.{Touch, Application, AddsTouched}
+use Rattle.source_changes.specs.Valued.{ValuedApplication, all_unvalued}
 use Rattle.range_state.specs.Advanced.{touch_notes, key_notes, slots_touched}
 use Rattle.range_state.specs.Work.{NotesEach}
 
@@ -100,6 +101,11 @@ noted_one f old now next xs i x less is so_far one =
     ∙ ap (λ n. noted n (f x ∷ [])) so_far
     ∙ noted_parts old (map f (take i xs)) (f x ∷ [])
     ∙ ap (noted old) (sym (map-append f (take i xs) (x ∷ [])) ∙ ap (map f) (ap (λ y. take i xs ++ y ∷ []) is ∙ sym (take_more xs i x less)))
+
+-- the notes of applications are those of their output keys, whatever they carry
+pub notes_unvalued : (p : ℕ) (applying : List ValuedApplication) → key_notes p (all_unvalued applying) ≡ map (λ (a : ValuedApplication). record { position = p; mark = key a.output }) applying
+notes_unvalued p [] = refl
+notes_unvalued p (a ∷ rest) = ap (λ notes. record { position = p; mark = key a.output } ∷ notes) (notes_unvalued p rest)
 
 -- one note of those that are left
 pub noted_next : (now next : Notes) (note : Note) (rest : List Note) → next ≡ noted now (note ∷ []) → noted next rest ≡ noted now (note ∷ rest)

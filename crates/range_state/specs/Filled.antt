@@ -1,5 +1,5 @@
 -- What is held once a range is filled.
-use Rattle.std.specs.Prelude.{◌≡◌, ℕ, List, [], fold, length, true, if◌then◌else◌, Option}
+use Rattle.std.specs.Prelude.{◌≡◌, ℕ, List, [], fold, length, true, if◌then◌else◌, Option, Some}
 use Rattle.semantics.specs.Texts.{Text, same, Table, pairs_within, with_pair}
 use Rattle.semantics.specs.Joins.{is_aggregate, value_operator}
 use Rattle.semantics.specs.Outputs.{out}
@@ -9,6 +9,7 @@ use Rattle.agg_rows.specs.Kept.{KeptGroups, pairs_of}
 use Rattle.join_eval.specs.Bounds.{Allows, Exceeds}
 use Rattle.kept_ranges.specs.Rules.{Application, IsFilled}
 use Rattle.kept_ranges.specs.Listing.{AreListed}
+use Rattle.source_changes.specs.Valued.{ValuedApplication}
 use Rattle.range_state.specs.Held.{groups_of, kept_of, FitsJoin}
 use Rattle.range_state.specs.Work.{fill_needs}
 use Rattle.range_state.specs.declared.filling.Filling.{Filling}
@@ -46,3 +47,7 @@ listed_each key given = fold (λ pairs c. if same c.output key then with_pair c.
 -- the application of a contribution's pair to its output key
 abbrev pub application_of : Contribution → Application
 application_of c = record { output = c.output; source = c.source }
+
+-- and with its value
+abbrev pub valued_of : Contribution → ValuedApplication
+valued_of c = record { output = c.output; source = c.source; value = Some c.value }

@@ -1,5 +1,5 @@
 -- What filling, advancing and mending leave, and what they cost.
-use Rattle.std.specs.Prelude.{◌≡◌, ℕ, ◌+◌, ◌*◌, ◌<◌, ◌≤◌, ◌⊎◌, List, [], ◌∷◌, map, filter, flat_map, length, take, Any, Contains, Bool, true, false, Option, Some, None}
+use Rattle.std.specs.Prelude.{◌≡◌, ℕ, ◌+◌, ◌<◌, ◌≤◌, ◌⊎◌, List, [], ◌∷◌, map, filter, flat_map, length, take, Any, Contains, Bool, true, false, Option, Some, None}
 use Rattle.std.specs.List.{AllByRecursion, sum_by}
 use Rattle.std.specs.Option.{IsSomeAnd}
 use Rattle.semantics.specs.Texts.{Text, Table, Range, pairs_within}
@@ -11,7 +11,7 @@ use Rattle.semantics.specs.States.{below}
 use Rattle.growing_history.specs.Changes.{changed_keys}
 use Rattle.key_ranges.specs.Containing.{range_slots, only}
 use Rattle.range_evaluation.specs.Trees.{Need, tree, reading_steps}
-use Rattle.source_changes.specs.Asking.{changed_count}
+use Rattle.source_changes.specs.Asking.{asking_steps, changed_count}
 use Rattle.lazy_log.specs.Pending.{meets_output, NotesOnce}
 use Rattle.join_rows.specs.Kept.{KeptRows}
 use Rattle.join_eval.specs.Bounds.{Allows, Exceeds}
@@ -21,9 +21,9 @@ use Rattle.kept_ranges.specs.Rules.{source_of, output_of, IsFilled}
 use Rattle.kept_ranges.specs.Sound.{KeptRange}
 use Rattle.range_state.specs.Ready.{StandsAt}
 
--- the most steps of an advance from q to p over bare ranges: for each need one, and three for each changed key of its range
+-- the most steps of an advance from q to p over bare ranges: to ask for each need, one, and one for each changed key of its range
 abbrev pub advance_steps : History → ℕ → ℕ → List Need → ℕ
-advance_steps h q p needs = sum_by (λ need. 1 + 3 * changed_count q p h need) needs
+advance_steps h q p needs = asking_steps q p h needs
 
 -- the key is one of a check need's range that the entries q + 1 to p put or remove
 abbrev pub IsTouchedBy : History → ℕ → ℕ → KeptRange → Text → Need → Type 0

@@ -1,24 +1,22 @@
 // Advancing to a later position, once it is known which keys changed.
-ghost use Rattle.std.specs.Prelude.{◌≡◌, ◌+◌, ◌*◌, ◌≤◌, length, map, take, true, IfOk, OnOk};
+ghost use Rattle.std.specs.Prelude.{◌≡◌, ◌≤◌, length, map, true, IfOk, OnOk};
 ghost use Rattle.std.specs.List.Sorted.{IsStrictlySortedBy};
 ghost use Rattle.semantics.specs.Texts.{text_cmp, is_range};
 ghost use Rattle.semantics.specs.Joins.{copy, is_aggregate, value_operator};
-ghost use Rattle.semantics.specs.Histories.{joins_of};
-ghost use Rattle.growing_history.specs.Entered.{HasEntered, HasRank};
-ghost use Rattle.join_eval.specs.Moves.{Moves};
+ghost use Rattle.semantics.specs.Histories.{History};
+ghost use Rattle.join_eval.specs.Answers.{change_keys};
 ghost use Rattle.kept_ranges.specs.Notes.{note_limit, noted};
 ghost use Rattle.kept_ranges.specs.Rules.{AddsTouched};
 ghost use Rattle.kept_ranges.specs.Sound.{IsSoundAt};
-ghost use Rattle.kept_ranges.specs.SoundLaws.{AreReportedBetween};
-ghost use Rattle.source_changes.specs.Setting.{AreBareAt};
+ghost use Rattle.source_changes.specs.Valued.{all_unvalued};
 ghost use Rattle.range_state.specs.Held.{FitsJoin, range_kept};
-ghost use Rattle.range_state.specs.Advanced.{applied_by, IsAdvancedTo, key_notes, slots_touched, touch_notes};
+ghost use Rattle.range_state.specs.Advanced.{CanAdvance, IsAdvancedTo, key_notes, slots_touched, touch_notes};
 ghost use Rattle.range_state.specs.Work.{NotesEach};
 
 use crate::holding::Holding;
 use crate::subject::Subject;
 use crate::{Marked, Note, Notes};
-use join_eval::Reader;
+use change_lists::Change;
 use join_output::evaluation::value_op;
 use key_space::Key;
 use lazy_log::LazyLog;
@@ -28,8 +26,6 @@ use source_changes::{
     Application, Touch, applications, apply_values, list_values, remake_rows, touches,
 };
 use std::alloc::Global;
-use std::sync::ledger::Ledger;
-use steps::Steps;
 
 /// Records the touched slots as pending, each once, and notes them. The touched keys are given back.
 fn take_touches(
@@ -60,7 +56,7 @@ fn take_touches(
 /// Notes the output keys that pairs are applied to.
 fn note_keys(position: u64, applying: &[Application], notes: &mut Notes) -> Result<(), OutOfMemory>
     requires { length notes.old.list ≤ note_limit }
-    ensures { OnOk result (notes.new ≡ noted notes.old (key_notes position applying.now)) }
+    ensures { OnOk result (notes.new ≡ noted notes.old (key_notes position (all_unvalued applying.now))) }
 {
     for one in applying {
         let mark = Marked::Key(one.output.copy()?);
@@ -69,33 +65,22 @@ fn note_keys(position: u64, applying: &[Application], notes: &mut Notes) -> Resu
     Ok(())
 }
 
-/// What is held of a copy join at p, where these keys changed since it stood where it stands: touched slots are pending,
+/// What is held of a copy join at p, where these changes are reported since it stood where it stands: touched slots are pending,
 /// the needs that came by touched keys are gone, and the pairs of the value source are applied.
-fn advance_rows<R: Reader, L: Ledger>(
+fn advance_rows(
     subject: &Subject,
     held: Holding,
-    reported: &[Key],
+    reported: &[Change],
     p: u64,
-    reader: &mut R,
-    steps: &mut Steps<L>,
 ) -> Result<Holding, OutOfMemory>
     requires order { held.position ≤ p }
-    requires within { p ≤ length (R.list reader.old) }
-    requires above { R.floor reader.old ≤ p }
-    requires entered { HasEntered (R.list reader.old) }
-    requires stands { HasRank (joins_of (take p (R.list reader.old))) subject.now.join subject.now.rank }
-    requires ranked { subject.now.rank ≤ R.top }
     requires is_range { is_range subject.now.range.low subject.now.range.high ≡ true }
     requires fits { FitsJoin subject.now.join held }
     requires copies { value_operator subject.now.join ≡ copy }
-    requires sound { IsSoundAt (range_kept subject.now held) (R.list reader.old) held.position }
-    requires ascending { IsStrictlySortedBy text_cmp reported.now }
-    requires reported { AreReportedBetween (R.list reader.old) held.position p subject.now.rank held.rows.needs reported.now }
-    ensures advanced { IfOk result (IsAdvancedTo subject.now p reported.now held) }
-    ensures sound { IfOk result (λ after. IsSoundAt (range_kept subject.now after) (R.list reader.new) p) }
-    ensures moves { Moves R.list R.floor R.went reader.old reader.new }
-    ensures counted { steps.old ≤ steps.new }
-    ensures cost { IfOk result (λ after. AreBareAt (R.list reader.old) p (applied_by subject.now reported.now after) → steps.new ≤ steps.old + 2 * length (applied_by subject.now reported.now after)) }
+    requires ascending { IsStrictlySortedBy text_cmp (change_keys reported.now) }
+    requires known { (h : History) × CanAdvance subject.now held p reported.now h }
+    ensures advanced { IfOk result (IsAdvancedTo subject.now p (change_keys reported.now) held) }
+    ensures sound { IfOk result (λ after. (h : History) → CanAdvance subject.now held p reported.now h → IsSoundAt (range_kept subject.now after) h p) }
 {
     let Holding {
         mut rows,
@@ -107,8 +92,8 @@ fn advance_rows<R: Reader, L: Ledger>(
     let Subject {
         alloc,
         join,
-        rank,
         range,
+        ..
     } = subject;
     needs_can_fill();
     let touched = touches(*alloc, join, reported, rows.needs())?;
@@ -116,15 +101,7 @@ fn advance_rows<R: Reader, L: Ledger>(
     rows.drop_needs_by_any(keys.as_slice());
     let applying = applications(*alloc, join, range, &pending, reported, rows.needs())?;
     note_keys(p, applying.as_slice(), &mut notes)?;
-    apply_values(
-        *alloc,
-        applying.as_slice(),
-        *rank,
-        p,
-        &mut rows,
-        reader,
-        steps,
-    )?;
+    apply_values(applying.as_slice(), &mut rows)?;
     Ok(Holding {
         position: p,
         rows,
@@ -134,33 +111,22 @@ fn advance_rows<R: Reader, L: Ledger>(
     })
 }
 
-/// What is held of an aggregate at p, where these keys changed since it stood where it stands: their pairs are listed anew,
-/// and so are made the rows of the output keys that they go to.
-fn advance_groups<R: Reader, L: Ledger>(
+/// What is held of an aggregate at p, where these changes are reported since it stood where it stands: their pairs are listed
+/// anew, and so are made the rows of the output keys that they go to.
+fn advance_groups(
     subject: &Subject,
     held: Holding,
-    reported: &[Key],
+    reported: &[Change],
     p: u64,
-    reader: &mut R,
-    steps: &mut Steps<L>,
 ) -> Result<Holding, OutOfMemory>
     requires order { held.position ≤ p }
-    requires within { p ≤ length (R.list reader.old) }
-    requires above { R.floor reader.old ≤ p }
-    requires entered { HasEntered (R.list reader.old) }
-    requires stands { HasRank (joins_of (take p (R.list reader.old))) subject.now.join subject.now.rank }
-    requires ranked { subject.now.rank ≤ R.top }
     requires is_range { is_range subject.now.range.low subject.now.range.high ≡ true }
     requires fits { FitsJoin subject.now.join held }
     requires aggregates { is_aggregate (value_operator subject.now.join) ≡ true }
-    requires sound { IsSoundAt (range_kept subject.now held) (R.list reader.old) held.position }
-    requires ascending { IsStrictlySortedBy text_cmp reported.now }
-    requires reported { AreReportedBetween (R.list reader.old) held.position p subject.now.rank held.rows.needs reported.now }
-    ensures advanced { IfOk result (IsAdvancedTo subject.now p reported.now held) }
-    ensures sound { IfOk result (λ after. IsSoundAt (range_kept subject.now after) (R.list reader.new) p) }
-    ensures moves { Moves R.list R.floor R.went reader.old reader.new }
-    ensures counted { steps.old ≤ steps.new }
-    ensures cost { IfOk result (λ after. AreBareAt (R.list reader.old) p (applied_by subject.now reported.now after) → steps.new ≤ steps.old + 2 * length (applied_by subject.now reported.now after)) }
+    requires ascending { IsStrictlySortedBy text_cmp (change_keys reported.now) }
+    requires known { (h : History) × CanAdvance subject.now held p reported.now h }
+    ensures advanced { IfOk result (IsAdvancedTo subject.now p (change_keys reported.now) held) }
+    ensures sound { IfOk result (λ after. (h : History) → CanAdvance subject.now held p reported.now h → IsSoundAt (range_kept subject.now after) h p) }
 {
     let Holding {
         mut rows,
@@ -175,14 +141,14 @@ fn advance_groups<R: Reader, L: Ledger>(
     let Subject {
         alloc,
         join,
-        rank,
         range,
+        ..
     } = subject;
     needs_can_fill();
     let applying = applications(*alloc, join, range, &pending, reported, rows.needs())?;
     note_keys(p, applying.as_slice(), &mut notes)?;
     let made = applying.as_slice();
-    list_values(*alloc, made, *rank, p, &mut groups, reader, steps)?;
+    list_values(made, &mut groups)?;
     remake_rows(*alloc, made, &groups, &mut rows)?;
     Ok(Holding {
         position: p,
@@ -193,35 +159,25 @@ fn advance_groups<R: Reader, L: Ledger>(
     })
 }
 
-/// What is held at p, where these keys changed since it stood where it stands.
-pub fn advance_held<R: Reader, L: Ledger>(
+/// What is held at p, where these changes are reported since it stood where it stands. They have the values that are applied, so
+/// that nothing is read.
+pub fn advance_held(
     subject: &Subject,
     held: Holding,
-    reported: &[Key],
+    reported: &[Change],
     p: u64,
-    reader: &mut R,
-    steps: &mut Steps<L>,
 ) -> Result<Holding, OutOfMemory>
     requires order { held.position ≤ p }
-    requires within { p ≤ length (R.list reader.old) }
-    requires above { R.floor reader.old ≤ p }
-    requires entered { HasEntered (R.list reader.old) }
-    requires stands { HasRank (joins_of (take p (R.list reader.old))) subject.now.join subject.now.rank }
-    requires ranked { subject.now.rank ≤ R.top }
     requires is_range { is_range subject.now.range.low subject.now.range.high ≡ true }
     requires fits { FitsJoin subject.now.join held }
-    requires sound { IsSoundAt (range_kept subject.now held) (R.list reader.old) held.position }
-    requires ascending { IsStrictlySortedBy text_cmp reported.now }
-    requires reported { AreReportedBetween (R.list reader.old) held.position p subject.now.rank held.rows.needs reported.now }
-    ensures advanced { IfOk result (IsAdvancedTo subject.now p reported.now held) }
-    ensures sound { IfOk result (λ after. IsSoundAt (range_kept subject.now after) (R.list reader.new) p) }
-    ensures moves { Moves R.list R.floor R.went reader.old reader.new }
-    ensures counted { steps.old ≤ steps.new }
-    ensures cost { IfOk result (λ after. AreBareAt (R.list reader.old) p (applied_by subject.now reported.now after) → steps.new ≤ steps.old + 2 * length (applied_by subject.now reported.now after)) }
+    requires ascending { IsStrictlySortedBy text_cmp (change_keys reported.now) }
+    requires known { (h : History) × CanAdvance subject.now held p reported.now h }
+    ensures advanced { IfOk result (IsAdvancedTo subject.now p (change_keys reported.now) held) }
+    ensures sound { IfOk result (λ after. (h : History) → CanAdvance subject.now held p reported.now h → IsSoundAt (range_kept subject.now after) h p) }
 {
     if value_op(&subject.join).is_aggregate() {
-        advance_groups(subject, held, reported, p, reader, steps)
+        advance_groups(subject, held, reported, p)
     } else {
-        advance_rows(subject, held, reported, p, reader, steps)
+        advance_rows(subject, held, reported, p)
     }
 }

@@ -33,7 +33,7 @@ use join_types::{Join, Pair};
 use key_space::{Key, Range};
 use out_of_memory::OutOfMemory;
 use source_changes::ask_needs;
-use source_changes::laws::{advance_is_cheap, applied_are_bare, few_applications, few_touches};
+use source_changes::laws::{few_applications, few_touches};
 use std::alloc::Global;
 use std::convert::Infallible;
 use std::marker::Model;
@@ -224,14 +224,14 @@ impl RangeState {
     /// then, and changed pairs of the value source are applied. Where the reader does not know what changed in a range that
     /// was read, it is filled again instead; where it stands at p already, nothing is done.
     ///
-    /// It asks the reader once for each need, as `ask_needs` does, and walks the needs. For each need of the value source, each
-    /// changed key in its range then takes work that is logarithmic in the rows, and what `LazyLog::covers` takes; for each need of
-    /// a check, each changed key takes what `LazyLog::note` does. These keys are put in order once, and looked for among those by
-    /// which a need came.
+    /// It asks the reader once for each need, as `ask_needs` does, which gives the values of changed keys too, and walks the
+    /// needs. For each need of the value source, each changed key in its range then takes work that is logarithmic in the rows,
+    /// and what `LazyLog::covers` takes; for each need of a check, each changed key takes what `LazyLog::note` does. These keys
+    /// are put in order once, and looked for among those by which a need came.
     ///
     /// Brought to a later position it takes one step at least for each need; or else it was filled, and takes at least what
     /// `fill` does. Where the ranges of its needs are bare from its position on to p, it takes at most one step for each need and
-    /// three for each key of its range that was put or removed in between; then no need is added, the touched slots are pending
+    /// one for each key of its range that was put or removed in between; then no need is added, the touched slots are pending
     /// once, and it notes no more than these keys.
     ///
     /// On a fault it is unchanged, or nothing is kept. `TooWide` comes only where the range is filled again and that takes more
@@ -277,8 +277,6 @@ impl RangeState {
         self.subject.look();
         let Subject { alloc, rank, .. } = &self.subject;
         let needs = held.rows.needs();
-        advance_is_cheap();
-        applied_are_bare();
         few_touches();
         few_applications();
         let asked = ask_needs(*alloc, needs, *rank, held.position, p, reader, steps)?;
@@ -287,9 +285,7 @@ impl RangeState {
         };
         let advanced = match asked {
             None => fill_at(&self.subject, p, bound, reader, steps)?,
-            Some(reported) => {
-                advance_held(&self.subject, held, reported.as_slice(), p, reader, steps)?
-            }
+            Some(reported) => advance_held(&self.subject, held, reported.as_slice(), p)?,
         };
         self.held = Some(advanced);
         Ok(())

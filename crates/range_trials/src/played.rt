@@ -380,12 +380,12 @@ fn worked_steps(rt: HostRuntime) -> Result<(), Fail> {
     let told = tell(&rt, alloc, lines.as_str())?;
     let script = "fill 102, count, advance 103, count, forget, fill 103, count";
     let shown = play::<Brand>(&rt, alloc, told, (&range, &range, script), Blank::new(1))?;
-    assert_eq!(rt; shown.as_str(), " 103; 5; 104;");
+    assert_eq!(rt; shown.as_str(), " 103; 3; 104;");
     Ok(())
 }
 
 /// Between two times only the posts of these times are read, of 100 of one poster; a post of another time costs one step
-/// for each of both needs, and one of these times three steps more.
+/// for each of both needs, and one of these times one step more.
 #[test]
 fn worked_narrow_steps(rt: HostRuntime) -> Result<(), Fail> {
     let alloc = rt.alloc();
@@ -401,7 +401,7 @@ fn worked_narrow_steps(rt: HostRuntime) -> Result<(), Fail> {
     let told = tell(&rt, alloc, lines.as_str())?;
     let script = "fill 102, count, advance 103, count, advance 104, count, forget, fill 104, count";
     let shown = play::<Brand>(&rt, alloc, told, (&range, &range, script), Blank::new(1))?;
-    assert_eq!(rt; shown.as_str(), " 13; 2; 5; 13;");
+    assert_eq!(rt; shown.as_str(), " 13; 2; 3; 13;");
     Ok(())
 }
 
@@ -416,11 +416,11 @@ fn worked_pending(rt: HostRuntime) -> Result<(), Fail> {
     lines.push_str(
         "t|<u>|<k> = check s|<u>|<g> check g|<g>|<k> copy p|<k>\ng|a|1=\np|1=Hi\ns|zoe|a=1\n",
     )?;
-    // For the fill one and one for each of 41 users, and two for the one group and for the one value, which are read once. For the
-    // advance one for the need of users and one for each of 40 keys, one for the group, in which nothing changed and which is asked
-    // once, two for each need of the value, and two to read that. For the mend of each of 40 users three for both groups, two for
-    // what the one has, two for the value, and one for what the other has.
-    wanted.push_str(" 46; 126; 320;")?;
+    // For the fill one and one for each of 41 users, and two for the one group and for the one value, which are read once. For
+    // the advance one for the need of users and one for each of 40 keys, one for the group, in which nothing changed and which is
+    // asked once, and two for each need of the value. For the mend of each of 40 users three for both groups, two for what the
+    // one has, two for the value, and one for what the other has.
+    wanted.push_str(" 46; 124; 320;")?;
     for number in 10..50_u64 {
         lines.push_str(format!(in alloc; "s|u{number}|a=1\n")?.as_str())?;
         later.push_str(format!(in alloc; "s|u{number}|b=1\n")?.as_str())?;
@@ -455,8 +455,8 @@ fn worked_notes(rt: HostRuntime) -> Result<(), Fail> {
         }
     }
     script.push_str(", since 1, since 2, count")?;
-    // One for the fill, and for each advance one for the need, one for its key, and two to read that.
-    wanted.push_str("; 1029;")?;
+    // One for the fill, and for each advance one for the need and one for its key.
+    wanted.push_str("; 515;")?;
     let range = read_range(&rt, alloc, "b|", "b}");
     let told = tell(&rt, alloc, lines.as_str())?;
     let shown = play::<Brand>(

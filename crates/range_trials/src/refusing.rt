@@ -2,7 +2,7 @@
 ghost use Rattle.std.specs.Prelude.{◌≡◌};
 ghost use Rattle.std.proofs.Common.{rules};
 
-use join_eval::{Changed, Reader};
+use join_eval::{Changed, Changes, Reader};
 use join_types::Pair;
 use key_space::Range;
 use list_reader::ListReader;
@@ -97,6 +97,22 @@ impl Reader for RefusingReader {
         self.count()?;
         if let Ok(Changed::Keys(keys)) = &answer {
             self.hand_out(keys.len());
+        }
+        answer
+    }
+
+    fn changes<L: Ledger>(
+        &mut self,
+        q: u64,
+        p: u64,
+        range: &Range,
+        rank: u8,
+        steps: &mut Steps<L>,
+    ) -> Result<Changes, OutOfMemory> {
+        let answer = self.inner.changes(q, p, range, rank, steps);
+        self.count()?;
+        if let Ok(Changes::Listed(changes)) = &answer {
+            self.hand_out(changes.len());
         }
         answer
     }

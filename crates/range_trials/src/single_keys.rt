@@ -40,24 +40,24 @@ struct Row {
 
 const ROWS: [Row; 4] = [
     Row {
-        // For the fill one and two posts' votes. For the vote of another author one; for one of bob's one, one for the key, and
-        // two to read it.
+        // For the fill one and two posts' votes. For the vote of another author one; for one of bob's one, and one for the key,
+        // which comes with its value.
         first: KARMA,
         other: ["vote|u", "|1|ann=1"],
         last: KARMA_LATER,
         key: "karma|bob",
         script: "fill 44, count, read, advance 45, count, since 44, advance 46, count, since 45, read",
-        wanted: " 3; karma|bob=2; 1;; 4; karma|bob; karma|bob=3;",
+        wanted: " 3; karma|bob=2; 1;; 2; karma|bob; karma|bob=3;",
     },
     Row {
         // For the fill two for what is followed and two for the post. For another poster one for each of both needs; for a new
-        // value three more; for an end of following one more, and one to mend it.
+        // value one more, as it comes with its key; for an end of following one more, and one to mend it.
         first: POST,
         other: ["s|ann|u", "=1"],
         last: POST_LATER,
         key: "t|ann|100|bob",
         script: "fill 43, count, read, advance 45, count, since 43, advance 46, count, since 45, read, advance 47, count, mend, count, read",
-        wanted: " 4; t|ann|100|bob=Hi; 2;; 5; t|ann|100|bob; t|ann|100|bob=Ho; 3; 1;;",
+        wanted: " 4; t|ann|100|bob=Hi; 2;; 3; t|ann|100|bob; t|ann|100|bob=Ho; 3; 1;;",
     },
     Row {
         // A key that does not fit is not looked for, and nothing is followed.

@@ -21,12 +21,14 @@ use Rattle.layering.proofs.SameLemmas.{same_below_next_within, same_where_bare}
 use Rattle.layering.specs.Standing.{SameOutput}
 use Rattle.join_eval.specs.declared.reading.Changed.{Changed}
 use Rattle.join_eval.specs.declared.reading.Changed.TheVariants.{Keys, All}
-use Rattle.join_eval.specs.Answers.{AnswersChanges, ListsChanges, MayNotBeKnown, MeetsOutput}
+use Rattle.join_eval.specs.declared.reading.Changes.{Changes}
+use Rattle.join_eval.specs.declared.reading.Changes.TheVariants.{Listed, Unlisted}
+use Rattle.join_eval.specs.Answers.{AnswersChanges, ListsChanges, MayNotBeKnown, MeetsOutput, TellsChanges, change_keys}
 use Rattle.key_ranges.proofs.OrderLemmas.{up_to_below}
 use Rattle.std.proofs.lemmas.List.{take_all}
 use Rattle.std.proofs.lemmas.Bool.{and_parts}
 use Rattle.cell_slots.specs.Spending.{JoinsSpend}
-use Rattle.rank_layers.specs.Telling.{AddsChanges}
+use Rattle.rank_layers.specs.Telling.{AddsChanges, AddsTold, ListsAdded}
 
 -- ---- the pairs
 
@@ -83,7 +85,7 @@ same_next h q p rank range key entered is order steady inside same outputs =
     (subst (λ joins. AllByRecursion (λ s. SameOutput h q p rank key s.join) (reached range rank joins)) (stay p order (omega arith)) outputs)
 
 -- a range with a key is not empty
-not_empty : (range : Range) (key : Text) → within range key ≡ true → is_open range ≡ true
+pub not_empty : (range : Range) (key : Text) → within range key ≡ true → is_open range ≡ true
 not_empty range key inside = let parts = and_parts _ _ inside in up_to_below range.low key range.high parts.0 parts.1
 
 -- what may not be known below a rank may not be below the next one
@@ -157,18 +159,34 @@ never_bare_at : (h : History) (q p rank : ℕ) (range : Range) → HasEntered h 
 never_bare_at h q p rank range entered is order some bare = some (bare_reached h p rank range (has_entered_taken p h entered) is (bare p order (omega arith)))
 
 -- keys that are listed below a rank, with those that its joins add, are listed below the next one, where the joins are steady
-pub answers_with : (h : History) (q p rank : ℕ) (range : Range) (given : List Text) (answer : Changed) → HasEntered h → is_range range.low range.high ≡ true → q ≤ p → changed_at (take p h) ≤ q →
-    is_open range ≡ true → (reached range rank (joins_of (take p h)) ≡ [] → ⊥) → ListsChanges h q p rank range given →
-    AddsChanges h q p rank range (reached range rank (joins_of (take p h))) given answer → AnswersChanges h q p (rank + 1) range answer
-answers_with h q p rank range given (Keys keys) entered is order steady opened some lists added = record {
+lists_with : (h : History) (q p rank : ℕ) (range : Range) (given keys : List Text) → HasEntered h → is_range range.low range.high ≡ true → q ≤ p → changed_at (take p h) ≤ q → ListsChanges h q p rank range given →
+    ListsAdded h q p rank range (reached range rank (joins_of (take p h))) given keys → ListsChanges h q p (rank + 1) range keys
+lists_with h q p rank range given keys entered is order steady lists added = record {
   ascend = added.ascend;
   inside = added.inside;
   complete = λ key inside unlisted. same_next h q p rank range key entered is order steady inside (lists.complete key inside (λ has. unlisted (added.keeps key has))) (added.complete key inside unlisted);
 }
-answers_with h q p rank range given All entered is order steady opened some lists added = record {
+
+-- where the range reaches an output of the rank it may not be known
+unknown_with : (h : History) (q p rank : ℕ) (range : Range) → HasEntered h → is_range range.low range.high ≡ true → q ≤ p → is_open range ≡ true → (reached range rank (joins_of (take p h)) ≡ [] → ⊥) → MayNotBeKnown h q p (rank + 1) range
+unknown_with h q p rank range entered is order opened some = record {
   computed = never_bare_at h q p rank range entered is order some;
   why = inr (meets_above (joins_of (take p h)) range rank opened some);
 }
+
+-- so is what is answered
+pub answers_with : (h : History) (q p rank : ℕ) (range : Range) (given : List Text) (answer : Changed) → HasEntered h → is_range range.low range.high ≡ true → q ≤ p → changed_at (take p h) ≤ q →
+    is_open range ≡ true → (reached range rank (joins_of (take p h)) ≡ [] → ⊥) → ListsChanges h q p rank range given →
+    AddsChanges h q p rank range (reached range rank (joins_of (take p h))) given answer → AnswersChanges h q p (rank + 1) range answer
+answers_with h q p rank range given (Keys keys) entered is order steady opened some lists added = lists_with h q p rank range given keys.items entered is order steady lists added
+answers_with h q p rank range given All entered is order steady opened some lists added = unknown_with h q p rank range entered is order opened some
+
+-- also with values
+pub tells_with : (h : History) (q p rank : ℕ) (range : Range) (given : List Text) (answer : Changes) → HasEntered h → is_range range.low range.high ≡ true → q ≤ p → changed_at (take p h) ≤ q →
+    is_open range ≡ true → (reached range rank (joins_of (take p h)) ≡ [] → ⊥) → ListsChanges h q p rank range given →
+    AddsTold h q p rank range (reached range rank (joins_of (take p h))) given answer → TellsChanges h q p (rank + 1) range answer
+tells_with h q p rank range given (Listed changes) entered is order steady opened some lists added = lists_with h q p rank range given (change_keys changes.items) entered is order steady lists added
+tells_with h q p rank range given Unlisted entered is order steady opened some lists added = unknown_with h q p rank range entered is order opened some
 
 -- a range that reaches an output of a rank is not bare at all positions
 pub never_bare : (h more : History) (q p rank : ℕ) (range : Range) (ats : List ℕ) → q ≤ p → p ≤ length h → IsPrefix h more → HasEntered more → is_range range.low range.high ≡ true →

@@ -4,3 +4,4 @@ pub mod JoinLemmas
 pub mod KeyLemmas
 pub mod TellingLemmas
 pub mod AboveLemmas
+pub mod ValueLemmas

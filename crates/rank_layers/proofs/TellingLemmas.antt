@@ -23,6 +23,9 @@ use Rattle.layering.specs.Standing.{SameOutput}
 use Rattle.layering.proofs.PartLemmas.{join_order, within_is_kept}
 use Rattle.join_eval.specs.declared.reading.Changed.{Changed}
 use Rattle.join_eval.specs.declared.reading.Changed.TheVariants.{Keys, All}
+use Rattle.join_eval.specs.declared.reading.Changes.{Changes}
+use Rattle.join_eval.specs.declared.reading.Changes.TheVariants.{Listed, Unlisted}
+use Rattle.join_eval.specs.Answers.{change_keys}
 use Rattle.kept_ranges.specs.Sound.{KeptRange}
 use Rattle.range_state.specs.Since.{AnswersSince}
 use Rattle.range_serving.specs.Telling.{TellsOutput}
@@ -31,7 +34,7 @@ use Rattle.cell_slots.specs.declared.slot.Slot.{Slot}
 use Rattle.cell_slots.specs.declared.slot.Slot.TheVariants.{Held}
 use Rattle.cell_slots.specs.Slots.{Holdings, IsDeclared, Takes}
 use Rattle.cell_slots.proofs.DeclaredLemmas.{declared_once}
-use Rattle.rank_layers.specs.Telling.{ListsJoin, TellsJoin, ListsAdded, AddsChanges, CanTell, IsUnknownSince}
+use Rattle.rank_layers.specs.Telling.{AddsChanges, AddsTold, CanTell, IsUnknownSince, ListsAdded, ListsJoin, TellsJoin}
 use Rattle.rank_layers.proofs.KeyLemmas.{less_from_lt}
 
 -- ---- lists
@@ -72,9 +75,9 @@ lists_over h more q p rank j range keys order less prefix lists = record {
 }
 
 -- and so for several joins
-pub adds_over : (h more : History) (q p rank : ℕ) (range : Range) (given : List Text) (answer : Changed) → q ≤ p → p ≤ length h → IsPrefix h more →
-    AddsChanges more q p rank range (reached range rank (joins_of (take p more))) given answer → AddsChanges h q p rank range (reached range rank (joins_of (take p h))) given answer
-adds_over h more q p rank range given (Keys keys) order less prefix added = record {
+added_over : (h more : History) (q p rank : ℕ) (range : Range) (given keys : List Text) → q ≤ p → p ≤ length h → IsPrefix h more →
+    ListsAdded more q p rank range (reached range rank (joins_of (take p more))) given keys → ListsAdded h q p rank range (reached range rank (joins_of (take p h))) given keys
+added_over h more q p rank range given keys order less prefix added = record {
   ascend = added.ascend;
   inside = added.inside;
   keeps = added.keeps;
@@ -83,7 +86,17 @@ adds_over h more q p rank range given (Keys keys) order less prefix added = reco
       (all_then (λ (s : DeclaredJoin). SameOutput more q p rank key s.join) (λ s. SameOutput h q p rank key s.join) (reached range rank (joins_of (take p more)))
       (λ s. same_output_over h more q p rank key s.join order less prefix) (added.complete key inside unlisted));
 }
+
+pub adds_over : (h more : History) (q p rank : ℕ) (range : Range) (given : List Text) (answer : Changed) → q ≤ p → p ≤ length h → IsPrefix h more →
+    AddsChanges more q p rank range (reached range rank (joins_of (take p more))) given answer → AddsChanges h q p rank range (reached range rank (joins_of (take p h))) given answer
+adds_over h more q p rank range given (Keys keys) order less prefix added = added_over h more q p rank range given keys.items order less prefix added
 adds_over h more q p rank range given All order less prefix added = tt
+
+-- also with values
+pub told_over : (h more : History) (q p rank : ℕ) (range : Range) (given : List Text) (answer : Changes) → q ≤ p → p ≤ length h → IsPrefix h more →
+    AddsTold more q p rank range (reached range rank (joins_of (take p more))) given answer → AddsTold h q p rank range (reached range rank (joins_of (take p h))) given answer
+told_over h more q p rank range given (Listed changes) order less prefix added = added_over h more q p rank range given (change_keys changes.items) order less prefix added
+told_over h more q p rank range given Unlisted order less prefix added = tt
 
 -- ---- one part
 

@@ -9,6 +9,9 @@ use Rattle.layering.specs.Parts.{IsWithin, JoinTo}
 use Rattle.layering.specs.Standing.{SameOutput}
 use Rattle.join_eval.specs.declared.reading.Changed.{Changed}
 use Rattle.join_eval.specs.declared.reading.Changed.TheVariants.{Keys, All}
+use Rattle.join_eval.specs.declared.reading.Changes.{Changes}
+use Rattle.join_eval.specs.declared.reading.Changes.TheVariants.{Listed, Unlisted}
+use Rattle.join_eval.specs.Answers.{change_keys}
 use Rattle.kept_ranges.specs.Sound.{KeptRange}
 use Rattle.range_state.specs.Since.{is_unknown_since}
 use Rattle.range_serving.specs.Serving.{IsCaughtUp, IsPast}
@@ -38,6 +41,11 @@ pub record ListsAdded (h : History) (q p rank : ℕ) (range : Range) (joins : Li
 abbrev pub AddsChanges : History → ℕ → ℕ → ℕ → Range → List DeclaredJoin → List Text → Changed → Type 0
 AddsChanges h q p rank range joins given (Keys keys) = ListsAdded h q p rank range joins given keys.items
 AddsChanges h q p rank range joins given All = Unit {0}
+
+-- changes of keys that are listed so, or it is not known which
+abbrev pub AddsTold : History → ℕ → ℕ → ℕ → Range → List DeclaredJoin → List Text → Changes → Type 0
+AddsTold h q p rank range joins given (Listed changes) = ListsAdded h q p rank range joins given (change_keys changes.items)
+AddsTold h q p rank range joins given Unlisted = Unit {0}
 
 -- a kept range can tell of a part at a position: it was kept with the join's rank, does not stand past the position, and holds the part
 pub record CanTell (rank p : ℕ) (part : Range) (s : KeptRange) : Type 0 where

@@ -20,7 +20,7 @@ use std::sync::ledger::Ledger;
 use steps::Steps;
 
 /// Whether the range is not empty.
-fn is_open(range: &Range) -> bool
+pub(crate) fn is_open(range: &Range) -> bool
     ensures { result ≡ is_open range.now }
 {
     range.lo() < range.hi()

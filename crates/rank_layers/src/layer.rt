@@ -7,8 +7,9 @@ use crate::above::{changed_above, pairs_above};
 use crate::own_cells::OwnCells;
 use crate::rank::Rank;
 use crate::rank_reader::RankReader;
+use crate::valuing::changes_above;
 use cell_slots::Cells;
-use join_eval::Changed;
+use join_eval::{Changed, Changes};
 use join_types::Pair;
 use key_space::Range;
 use out_of_memory::OutOfMemory;
@@ -55,6 +56,18 @@ impl Rank for Lowest {
         steps: &mut Steps<L>,
     ) -> Result<Changed, OutOfMemory> {
         lowest.changed(q, p, range, rank, steps)
+    }
+
+    fn changes<S: Cells, L: Ledger>(
+        _alloc: Global,
+        lowest: &mut S,
+        q: u64,
+        p: u64,
+        range: &Range,
+        rank: u8,
+        steps: &mut Steps<L>,
+    ) -> Result<Changes, OutOfMemory> {
+        lowest.changes(q, p, range, rank, steps)
     }
 }
 
@@ -107,6 +120,27 @@ impl<T: Rank> Rank for Layer<T> {
         };
         let cache = OwnCells { alloc };
         changed_above(&cache, rank - 1, q, p, range, &mut reader, steps)
+    }
+
+    fn changes<S: Cells, L: Ledger>(
+        alloc: Global,
+        lowest: &mut S,
+        q: u64,
+        p: u64,
+        range: &Range,
+        rank: u8,
+        steps: &mut Steps<L>,
+    ) -> Result<Changes, OutOfMemory> {
+        if rank <= T::top_rank() {
+            return T::changes(alloc, lowest, q, p, range, rank, steps);
+        }
+        let mut reader: RankReader<'_, S, T> = RankReader {
+            alloc,
+            lowest,
+            rank: PhantomData,
+        };
+        let cache = OwnCells { alloc };
+        changes_above(&cache, rank - 1, q, p, range, &mut reader, steps)
     }
 }
 

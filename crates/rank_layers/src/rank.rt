@@ -4,13 +4,13 @@ ghost use Rattle.semantics.specs.Texts.{pairs_within};
 ghost use Rattle.semantics.specs.States.{below};
 ghost use Rattle.growing_history.specs.Changes.{changed_keys, IsBareAt, IsBareThroughout};
 ghost use Rattle.growing_history.specs.Entered.{HasEntered};
-ghost use Rattle.join_eval.specs.Answers.{AnswersChanges, ListsExactly, CostsOne};
+ghost use Rattle.join_eval.specs.Answers.{AnswersChanges, ListsExactly, CostsOne, TellsAtCost, TellsChanges, TellsExactly, TellsValues};
 ghost use Rattle.join_eval.specs.Moves.{Moves};
 ghost use Rattle.cell_slots.specs.Slots.{Frame};
 ghost use Rattle.cell_slots.specs.Spending.{Spends};
 
 use cell_slots::Cells;
-use join_eval::Changed;
+use join_eval::{Changed, Changes};
 use join_types::Pair;
 use key_space::Range;
 use out_of_memory::OutOfMemory;
@@ -73,6 +73,30 @@ pub trait Rank {
         ensures counted { steps.old ≤ steps.new }
         ensures cost { IfOk result (CostsOne steps.old steps.new) }
         ensures bare { IsBareThroughout (S.list lowest.old) q p range.now → IfOk result (ListsExactly (changed_keys q p range.now (S.list lowest.old))) }
+        ensures bare_cost { IsBareThroughout (S.list lowest.old) q p range.now → IfOk result (λ _. steps.new ≡ steps.old + 1 + length (changed_keys q p range.now (S.list lowest.old))) };
+
+    /// Says what may have changed in the range between the first q and the first p entries, with the joins of ranks below `rank`,
+    /// and what stands at each listed key after the first p, as a reader's `changes` does.
+    fn changes<S: Cells, L: Ledger>(
+        alloc: Global,
+        lowest: &mut S,
+        q: u64,
+        p: u64,
+        range: &Range,
+        rank: u8,
+        steps: &mut Steps<L>,
+    ) -> Result<Changes, OutOfMemory>
+        requires order { q ≤ p }
+        requires within { p ≤ length (S.list lowest.old) }
+        requires above { S.floor lowest.old ≤ q }
+        requires ranked { rank ≤ top }
+        ensures exact { IfOk result (TellsChanges (S.list lowest.old) q p rank range.now) }
+        ensures values { IfOk result (TellsValues (below (take p (S.list lowest.old)) rank)) }
+        ensures moves { Moves S.list S.floor (λ a b. Frame top (S.holdings a) (S.holdings b)) lowest.old lowest.new }
+        ensures entered { HasEntered (S.list lowest.new) }
+        ensures counted { steps.old ≤ steps.new }
+        ensures cost { IfOk result (TellsAtCost steps.old steps.new) }
+        ensures bare { IsBareThroughout (S.list lowest.old) q p range.now → IfOk result (TellsExactly (changed_keys q p range.now (S.list lowest.old))) }
         ensures bare_cost { IsBareThroughout (S.list lowest.old) q p range.now → IfOk result (λ _. steps.new ≡ steps.old + 1 + length (changed_keys q p range.now (S.list lowest.old))) };
 
     /// The rank is one that joins may have, or 8.

@@ -7,7 +7,7 @@ ghost use Rattle.cell_slots.specs.Spending.{Spends};
 
 use crate::rank::Rank;
 use cell_slots::Cells;
-use join_eval::{Changed, Reader};
+use join_eval::{Changed, Changes, Reader};
 use join_types::Pair;
 use key_space::Range;
 use out_of_memory::OutOfMemory;
@@ -67,5 +67,16 @@ impl<'s, S: Cells, T: Rank> Reader for RankReader<'s, S, T> {
         steps: &mut Steps<L>,
     ) -> Result<Changed, OutOfMemory> {
         T::changed(self.alloc, self.lowest, q, p, range, rank, steps)
+    }
+
+    fn changes<L: Ledger>(
+        &mut self,
+        q: u64,
+        p: u64,
+        range: &Range,
+        rank: u8,
+        steps: &mut Steps<L>,
+    ) -> Result<Changes, OutOfMemory> {
+        T::changes(self.alloc, self.lowest, q, p, range, rank, steps)
     }
 }

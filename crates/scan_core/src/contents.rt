@@ -20,7 +20,7 @@ use base_reader::BaseReader;
 use base_reader::lowest::{lowest_between, lowest_reached};
 use cell_slots::{Cells, Part, Slot};
 use cell_table::CellTable;
-use join_eval::{Between, Changed, Reader};
+use join_eval::{Between, Changed, Changes, Reader};
 use join_types::{Cause, Entry, Join, Pair, Write};
 use key_space::Range;
 use out_of_memory::OutOfMemory;
@@ -272,6 +272,17 @@ impl Reader for Core {
         steps: &mut Steps<L>,
     ) -> Result<Changed, OutOfMemory> {
         self.base.changed(q, p, range, rank, steps)
+    }
+
+    fn changes<L: Ledger>(
+        &mut self,
+        q: u64,
+        p: u64,
+        range: &Range,
+        rank: u8,
+        steps: &mut Steps<L>,
+    ) -> Result<Changes, OutOfMemory> {
+        self.base.changes(q, p, range, rank, steps)
     }
 }
 

@@ -7,12 +7,13 @@ use crate::rank::Rank;
 use crate::rank_reader::RankReader;
 use crate::room::Room;
 use base_shards::Naming;
-use join_eval::Changed;
+use join_eval::{Changed, Changes};
 use join_types::Pair;
 use key_space::Range;
 use out_of_memory::OutOfMemory;
 use pq_io::Gate;
 use rank_layers::above::{changed_above, pairs_above};
+use rank_layers::valuing::changes_above;
 use shared_reader::Stacked;
 use std::marker::PhantomData;
 use std::sync::Wait;
@@ -57,6 +58,18 @@ impl Rank for Lowest {
         steps: &mut Steps<L>,
     ) -> Result<Changed, OutOfMemory> {
         lowest.changed(q, p, range, rank, steps)
+    }
+
+    fn changes<N: Naming, W: Wait, G: Gate, S: Stacked<N>, L: Ledger>(
+        _room: &Room<'_, N, W, G>,
+        lowest: &mut S,
+        q: u64,
+        p: u64,
+        range: &Range,
+        rank: u8,
+        steps: &mut Steps<L>,
+    ) -> Result<Changes, OutOfMemory> {
+        lowest.changes(q, p, range, rank, steps)
     }
 }
 
@@ -107,6 +120,26 @@ impl<T: Rank> Rank for Layer<T> {
             rank: PhantomData,
         };
         changed_above(room, rank - 1, q, p, range, &mut reader, steps)
+    }
+
+    fn changes<N: Naming, W: Wait, G: Gate, S: Stacked<N>, L: Ledger>(
+        room: &Room<'_, N, W, G>,
+        lowest: &mut S,
+        q: u64,
+        p: u64,
+        range: &Range,
+        rank: u8,
+        steps: &mut Steps<L>,
+    ) -> Result<Changes, OutOfMemory> {
+        if rank <= T::top_rank() {
+            return T::changes(room, lowest, q, p, range, rank, steps);
+        }
+        let mut reader: RankReader<'_, '_, N, W, G, S, T> = RankReader {
+            room,
+            lowest,
+            rank: PhantomData,
+        };
+        changes_above(room, rank - 1, q, p, range, &mut reader, steps)
     }
 }
 

@@ -5,7 +5,7 @@ ghost use Rattle.std.proofs.Common.{◌∙◌};
 use crate::rank::Rank;
 use crate::room::Room;
 use base_shards::Naming;
-use join_eval::{Between, Changed, Reader};
+use join_eval::{Between, Changed, Changes, Reader};
 use join_types::{Join, Pair};
 use key_space::Range;
 use out_of_memory::OutOfMemory;
@@ -70,6 +70,17 @@ impl<'s, 'a, N: Naming, W: Wait, G: Gate, S: Stacked<N>, T: Rank> Reader
         steps: &mut Steps<L>,
     ) -> Result<Changed, OutOfMemory> {
         T::changed(self.room, self.lowest, q, p, range, rank, steps)
+    }
+
+    fn changes<L: Ledger>(
+        &mut self,
+        q: u64,
+        p: u64,
+        range: &Range,
+        rank: u8,
+        steps: &mut Steps<L>,
+    ) -> Result<Changes, OutOfMemory> {
+        T::changes(self.room, self.lowest, q, p, range, rank, steps)
     }
 }
 

@@ -1,20 +1,21 @@
 -- What changed in a table, as it is kept at hand.
 use Rattle.std.specs.Prelude.{◌≡◌, ℕ, List, Option, IfSome}
-use Rattle.semantics.specs.Texts.{Text, Range}
+use Rattle.semantics.specs.Texts.{Range}
 use Rattle.semantics.specs.Histories.{History}
-use Rattle.growing_history.specs.Changes.{changed_keys}
+use Rattle.state_changes.specs.StateChanges.{Change}
+use Rattle.base_versions.specs.Valued.{base_changes}
 use Rattle.layering.specs.Parts.{IsWithin}
 
--- keys that the entries after the first q put or remove, up to the p-th, in a table
+-- keys that the entries after the first q put or remove, up to the p-th, in a table, with what stands there
 pub record KnownView : Type 0 where
   pub q : ℕ
   pub p : ℕ
   pub table : Range
-  pub keys : List Text
+  pub changes : List Change
 
 -- they are those of a history
 abbrev pub IsKnownIn : KnownView → History → Type 0
-IsKnownIn known h = known.keys ≡ changed_keys known.q known.p known.table h
+IsKnownIn known h = known.changes ≡ base_changes known.q known.p known.table h
 
 -- and so are those that are known, if any are
 abbrev pub AreKnownIn : Option KnownView → History → Type 0

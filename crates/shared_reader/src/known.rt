@@ -1,14 +1,14 @@
 // The changes of a table that are kept at hand, so that who asks for many of its ranges is not answered one by one.
 ghost use Rattle.std.specs.Prelude.{◌≡◌, IfOk, IfSome, true};
 ghost use Rattle.semantics.specs.Histories.{History};
-ghost use Rattle.growing_history.specs.Changes.{changed_keys};
+ghost use Rattle.base_versions.specs.Valued.{base_changes};
 ghost use Rattle.shared_reader.specs.Known.{AreKnownIn, Covers, IsKnownIn};
 
 use crate::followed::is_within;
-use join_rows::copy_keys;
-use key_space::{Key, Range};
+use change_lists::Change;
+use key_space::Range;
 use out_of_memory::OutOfMemory;
-use source_changes::keys_in;
+use source_changes::changes_in;
 use std::alloc::Global;
 use std::marker::Model;
 
@@ -18,14 +18,14 @@ const FIRST: usize = 4;
 /// So many changes of a table are kept for each of these questions, at most.
 const EACH: usize = 4;
 
-/// The keys that the entries after the first q put or remove, up to the p-th, in a table: in order, each once. Their texts are
-/// shared.
+/// The keys that the entries after the first q put or remove, up to the p-th, in a table, with what stands there then: in order,
+/// each once. Their texts are shared.
 #[derive(Drop)]
 pub struct KnownChanges {
     q: u64,
     p: u64,
     table: Range,
-    keys: Vec<Key>,
+    changes: Vec<Change>,
 }
 
 impl Model for KnownChanges {
@@ -33,7 +33,18 @@ impl Model for KnownChanges {
 
     ghost Value = { KnownView };
 
-    ghost view = { λ k. record { q = k.q; p = k.p; table = k.table; keys = k.keys.items } };
+    ghost view = { λ k. record { q = k.q; p = k.p; table = k.table; changes = k.changes.items } };
+}
+
+/// A copy of the changes. Linear in them.
+fn copy_changes(alloc: Global, changes: &[Change]) -> Result<Vec<Change>, OutOfMemory>
+    ensures { IfOk result (λ copies. copies.items ≡ changes.now) }
+{
+    let mut copies = Vec::with_capacity(alloc, changes.len())?;
+    for change in changes {
+        copies.push(change.copy()?)?;
+    }
+    Ok(copies)
 }
 
 impl KnownChanges {
@@ -44,47 +55,53 @@ impl KnownChanges {
         q == self.q && p == self.p && is_within(range, &self.table)
     }
 
-    /// The keys of the range, where it is of these entries and the range lies in the table.
-    fn keys_of(&self, alloc: Global, q: u64, p: u64, range: &Range) -> Option<Vec<Key>>
+    /// The changes in the range, where it is of these entries and the range lies in the table.
+    fn within(&self, alloc: Global, q: u64, p: u64, range: &Range) -> Option<Vec<Change>>
         requires { (h : History) × IsKnownIn self.now h }
-        ensures { (h : History) → IsKnownIn self.now h → IfSome result (λ keys. keys.items ≡ changed_keys q p range.now h) }
+        ensures { (h : History) → IsKnownIn self.now h → IfSome result (λ found. found.items ≡ base_changes q p range.now h) }
     {
         if !self.covers(q, p, range) {
             return None;
         }
-        let part = keys_in(self.keys.as_slice(), range);
-        match copy_keys(alloc, part) {
-            Ok(keys) => Some(keys),
+        let part = changes_in(self.changes.as_slice(), range);
+        match copy_changes(alloc, part) {
+            Ok(found) => Some(found),
             Err(_) => None,
         }
     }
 }
 
-/// Gives the keys of the range that the entries after the first q put or remove, up to the p-th, where they are among those that
-/// are known. It takes two binary searches, and to copy the keys, which share their long texts. None also where no memory is found.
-pub fn known_keys(
+/// Gives the keys of the range that the entries after the first q put or remove, up to the p-th, with what stands there then, where
+/// they are among those that are known. It takes two binary searches, and to copy what it gives, which shares its long texts. None
+/// also where no memory is found.
+pub fn known_changes(
     alloc: Global,
     known: &Option<KnownChanges>,
     q: u64,
     p: u64,
     range: &Range,
-) -> Option<Vec<Key>>
+) -> Option<Vec<Change>>
     requires { (h : History) × AreKnownIn known.now h }
-    ensures { (h : History) → AreKnownIn known.now h → IfSome result (λ keys. keys.items ≡ changed_keys q p range.now h) }
+    ensures { (h : History) → AreKnownIn known.now h → IfSome result (λ found. found.items ≡ base_changes q p range.now h) }
 {
     match known {
         None => None,
-        Some(changes) => changes.keys_of(alloc, q, p, range),
+        Some(changes) => changes.within(alloc, q, p, range),
     }
 }
 
 /// Keeps what was found of a table, if anything was.
-fn kept(q: u64, p: u64, table: Range, found: Option<Vec<Key>>) -> Option<KnownChanges>
-    ensures { (h : History) → IfSome found (λ keys. keys.items ≡ changed_keys q p table h) → AreKnownIn result h }
+fn kept(q: u64, p: u64, table: Range, found: Option<Vec<Change>>) -> Option<KnownChanges>
+    ensures { (h : History) → IfSome found (λ changes. changes.items ≡ base_changes q p table h) → AreKnownIn result h }
 {
     match found {
         None => None,
-        Some(keys) => Some(KnownChanges { q, p, table, keys }),
+        Some(changes) => Some(KnownChanges {
+            q,
+            p,
+            table,
+            changes,
+        }),
     }
 }
 
@@ -93,9 +110,9 @@ pub fn known_of(
     q: u64,
     p: u64,
     table: Range,
-    found: Result<Option<Vec<Key>>, OutOfMemory>,
+    found: Result<Option<Vec<Change>>, OutOfMemory>,
 ) -> Option<KnownChanges>
-    ensures { (h : History) → IfOk found (λ some. IfSome some (λ keys. keys.items ≡ changed_keys q p table h)) → AreKnownIn result h }
+    ensures { (h : History) → IfOk found (λ some. IfSome some (λ changes. changes.items ≡ base_changes q p table h)) → AreKnownIn result h }
 {
     match found {
         Ok(few) => kept(q, p, table, few),

@@ -2,7 +2,7 @@
 ghost use Rattle.std.specs.Prelude.{◌≡◌, ◌+◌, ◌≤◌, true, IfOk, Some, length};
 ghost use Rattle.std.proofs.Common.{rules};
 ghost use Rattle.semantics.specs.Joins.{Join as PlainJoin, push};
-ghost use Rattle.growing_history.specs.Changes.{changed_keys};
+ghost use Rattle.base_versions.specs.Valued.{base_changes};
 ghost use Rattle.write_history.specs.Marks.{reach};
 ghost use Rattle.base_reader.specs.Reaching.{IsJoinIn};
 ghost use Rattle.base_shards.specs.Reading.{ReadsOn};
@@ -10,21 +10,23 @@ ghost use Rattle.base_shards.proofs.ReadingLemmas.{reads_on-refl, reads_on-trans
 ghost use Rattle.shared_reader.specs.Readable.{IsReadable};
 
 use crate::followed::Followed;
-use crate::known::{KnownChanges, known_keys, known_of, most_known, table_to_look_at};
+use crate::known::{KnownChanges, known_changes, known_of, most_known, table_to_look_at};
 use crate::noted::Noted;
 use crate::stacked::{Stacked, Use};
 use base_reader::BaseSource;
-use base_reader::lowest::{lowest_between, lowest_changed, lowest_pairs, lowest_reached};
+use base_reader::lowest::{
+    lowest_between, lowest_changed, lowest_changes, lowest_pairs, lowest_reached,
+};
 use base_reader::reaching::join_of;
 use base_shards::{BaseShards, Naming};
-use join_eval::{Between, Changed, Reader};
+use change_lists::Change;
+use join_eval::{Between, Changed, Changes, Reader};
 use join_set::JoinSet;
 use join_types::{Join, Kind, Pair};
-use key_space::{Key, Range};
+use key_space::Range;
 use out_of_memory::OutOfMemory;
 use std::alloc::Global;
 use std::marker::Model;
-use std::slice;
 use std::sync::Wait;
 use std::sync::ledger::Ledger;
 use steps::Steps;
@@ -157,27 +159,26 @@ impl<'a, N: Naming, W: Wait> SharedReader<'a, N, W> {
             .follow(self.rt, &mut self.pass, id, fresh.as_slice())
     }
 
-    /// The keys of the range that are put or removed after the first q entries, up to the p-th, from the part that the range's
-    /// table is in. What was known is let go.
+    /// The keys of the range that are put or removed after the first q entries, up to the p-th, with what stands there then, from
+    /// the part that the range's table is in. What was known is let go.
     fn ask_changes<L: Ledger>(
         &mut self,
         q: u64,
         p: u64,
         range: &Range,
         steps: &mut Steps<L>,
-    ) -> Result<Vec<Key>, OutOfMemory>
+    ) -> Result<Vec<Change>, OutOfMemory>
         requires order { q ≤ p }
         requires within { p ≤ length self.old.view }
         requires above { reach self.old.mark ≤ q }
         ensures reads_on { ReadsOn self.old self.new }
-        ensures exact { IfOk result (λ keys. keys.items ≡ changed_keys q p range.now self.old.view) }
+        ensures exact { IfOk result (λ found. found.items ≡ base_changes q p range.now self.old.view) }
         ensures counted { steps.old ≤ steps.new }
-        ensures cost { IfOk result (λ keys. steps.new ≡ steps.old + 1 + length keys.items) }
+        ensures cost { IfOk result (λ found. steps.new ≡ steps.old + 1 + length found.items) }
     {
         self.known = None;
-        let ranges = slice::from_ref(range);
         self.shards
-            .changed(self.rt, &mut self.pass, q, p, ranges, steps)
+            .changes(self.rt, &mut self.pass, q, p, range, steps)
     }
 
     /// Looks at the changes of a table, and knows them from then on where they are no more than so many. What was known is let go.
@@ -190,7 +191,7 @@ impl<'a, N: Naming, W: Wait> SharedReader<'a, N, W> {
         self.known = None;
         let found = self
             .shards
-            .few_changed(self.rt, &mut self.pass, q, p, &table, most);
+            .few_changes(self.rt, &mut self.pass, q, p, &table, most);
         self.known = known_of(q, p, table, found);
     }
 
@@ -243,12 +244,12 @@ impl<'a, N: Naming, W: Wait> BaseSource for SharedReader<'a, N, W> {
         p: u64,
         range: &Range,
         steps: &mut Steps<L>,
-    ) -> Result<Vec<Key>, OutOfMemory> {
+    ) -> Result<Vec<Change>, OutOfMemory> {
         self.noted.note(range);
-        if let Some(keys) = known_keys(self.alloc, &self.known, q, p, range) {
+        if let Some(found) = known_changes(self.alloc, &self.known, q, p, range) {
             self.questions = 0;
-            steps.count_call(keys.len());
-            return Ok(keys);
+            steps.count_call(found.len());
+            return Ok(found);
         }
         let asked = self.ask_changes(q, p, range, steps);
         self.look_further(q, p, range);
@@ -308,6 +309,17 @@ impl<'a, N: Naming, W: Wait> Reader for SharedReader<'a, N, W> {
         steps: &mut Steps<L>,
     ) -> Result<Changed, OutOfMemory> {
         lowest_changed(self, q, p, range, rank, steps)
+    }
+
+    fn changes<L: Ledger>(
+        &mut self,
+        q: u64,
+        p: u64,
+        range: &Range,
+        rank: u8,
+        steps: &mut Steps<L>,
+    ) -> Result<Changes, OutOfMemory> {
+        lowest_changes(self, q, p, range, rank, steps)
     }
 }
 

@@ -5,7 +5,7 @@ use Rattle.std.specs.Borrow.{Bor}
 use Rattle.std.specs.List.Sorted.{IsStrictlySortedBy}
 use Rattle.std.proofs.lemmas.List.Sums.{sum_by_more}
 use Rattle.std.proofs.lemmas.List.Kept.{IsStrictlySortedBy-filter}
-use Rattle.semantics.specs.Texts.{Text, Range, text_cmp, within}
+use Rattle.semantics.specs.Texts.{Text, Table, Range, text_cmp, value_at, within}
 use Rattle.semantics.specs.Histories.{History, IsPrefix}
 use Rattle.semantics.proofs.MemberLemmas.{Has, has_from_contains, contains_from_has, has_append_left, has_append_right, has_append_cases, has_filter, has_filtered, has_flat_map, has_flat_mapped, any_from_has}
 use Rattle.growing_history.specs.Changes.{changed_keys, Same, IsBareThroughout}
@@ -14,12 +14,12 @@ use Rattle.growing_history.proofs.ElementLemmas.{all_from_has, has_of_all}
 use Rattle.growing_history.proofs.EnteredLemmas.{all_more}
 use Rattle.growing_history.proofs.ChangeLemmas.{changed_keys_ascend, changed_keys_are_written}
 use Rattle.growing_history.proofs.SortedLemmas.{same_sorted}
-use Rattle.key_space.specs.declared.key.Key.{Key}
+use Rattle.state_changes.specs.StateChanges.{Change}
 use Rattle.range_evaluation.specs.Trees.{Need}
 use Rattle.kept_ranges.specs.SoundLaws.{AreReportedBetween}
-use Rattle.join_eval.specs.declared.reading.Changed.{Changed}
-use Rattle.join_eval.specs.declared.reading.Changed.TheVariants.{Keys, All}
-use Rattle.join_eval.specs.Answers.{ListsChanges, AnswersChanges, ListsExactly}
+use Rattle.join_eval.specs.declared.reading.Changes.{Changes}
+use Rattle.join_eval.specs.declared.reading.Changes.TheVariants.{Listed, Unlisted}
+use Rattle.join_eval.specs.Answers.{ListsChanges, HaveValues, TellsChanges, TellsExactly, change_keys}
 use Rattle.source_changes.specs.Asking.{LieInRanges, AreBareThroughout, IsQuiet, AreListed, ListsWritten, changed_count, asking_steps}
 use Rattle.source_changes.proofs.LongerLemmas.{same_before, changed_longer, bare_longer, quiet_before, quiet_longer}
 
@@ -62,19 +62,19 @@ pub bare_read : (h here : History) (q p : ℕ) (needs : List Need) (i : ℕ) (ne
 bare_read h here q p needs i need range prefix within less is same all =
     subst (IsBareThroughout here q p) (sym same) (bare_longer h here q p need.range prefix within (has_of_all (λ n. IsBareThroughout h q p n.range) needs need all (has_read needs i need less is)))
 
--- an answer that lists keys is not that any key may have changed
-pub lists_no_all : {P : Type 0} (keys : List Text) (answer : Changed) → answer ≡ All → ListsExactly keys answer → P
-lists_no_all keys answer is lists = absurd (subst (ListsExactly keys) is lists)
+-- an answer that lists changes is not that any key may have changed
+pub lists_no_all : {P : Type 0} (keys : List Text) (answer : Changes) → answer ≡ Unlisted → TellsExactly keys answer → P
+lists_no_all keys answer is lists = absurd (subst (TellsExactly keys) is lists)
 
--- an answer of these keys lists what changes in the range
-pub lists_keys : (here : History) (q p rank : ℕ) (need : Need) (range : Range) (answer : Changed) (keys : Vec Key Global) → answer ≡ Keys keys → range ≡ need.range → AnswersChanges here q p rank range answer → ListsChanges here q p rank need.range keys.items
-lists_keys here q p rank need range answer keys is same answers = subst (λ r. ListsChanges here q p rank r keys.items) same (subst (AnswersChanges here q p rank range) is answers)
+-- the keys of an answer of these changes are what changes in the range
+pub lists_keys : (here : History) (q p rank : ℕ) (need : Need) (range : Range) (answer : Changes) (changes : Vec Change Global) → answer ≡ Listed changes → range ≡ need.range → TellsChanges here q p rank range answer → ListsChanges here q p rank need.range (change_keys changes.items)
+lists_keys here q p rank need range answer changes is same answers = subst (λ r. ListsChanges here q p rank r (change_keys changes.items)) same (subst (TellsChanges here q p rank range) is answers)
 
--- and is exactly the changed keys where those are listed
-pub lists_changed : (h here : History) (q p : ℕ) (need : Need) (range : Range) (answer : Changed) (keys : Vec Key Global) → IsPrefix h here → p ≤ length h → q ≤ p → answer ≡ Keys keys → range ≡ need.range → ListsExactly (changed_keys q p range here) answer →
-    keys.items ≡ changed_keys q p need.range h
-lists_changed h here q p need range answer keys prefix within order is same lists =
-    subst (ListsExactly (changed_keys q p range here)) is lists ∙ ap (λ r. changed_keys q p r here) same ∙ changed_longer h here q p need.range prefix within order
+-- and are exactly the changed keys where those are listed
+pub lists_changed : (h here : History) (q p : ℕ) (need : Need) (range : Range) (answer : Changes) (changes : Vec Change Global) → IsPrefix h here → p ≤ length h → q ≤ p → answer ≡ Listed changes → range ≡ need.range → TellsExactly (changed_keys q p range here) answer →
+    change_keys changes.items ≡ changed_keys q p need.range h
+lists_changed h here q p need range answer changes prefix within order is same lists =
+    subst (TellsExactly (changed_keys q p range here)) is lists ∙ ap (λ r. changed_keys q p r here) same ∙ changed_longer h here q p need.range prefix within order
 
 -- the steps of one answer over a bare range
 pub steps_changed : (h here : History) (q p : ℕ) (need : Need) (range : Range) (old new : ℕ) → IsPrefix h here → p ≤ length h → q ≤ p → range ≡ need.range → new ≡ old + 1 + length (changed_keys q p range here) → new ≡ old + (1 + changed_count q p h need)
@@ -106,12 +106,12 @@ quiet_on h here q p rank None prefix within order known = tt
 quiet_on h here q p rank (Some r) prefix within order known = quiet_longer h here q p rank r.now prefix within order known
 
 -- after an answer it is so still, or of the range that was answered
-pub quiet_next : (h here : History) (q p rank : ℕ) (old new : Option (Bor Range)) (range : Range) (keys lent : List Text) → IsPrefix h here → p ≤ length h → q ≤ p → ListsChanges here q p rank range keys → (IsBareThroughout here q p range → keys ≡ changed_keys q p range here) →
-    lent ≡ keys → (option_copied new ≡ option_copied old) ⊎ ((lent ≡ []) × (option_copied new ≡ Some range)) → IfSome old (λ r. IsQuiet h q p rank r.now) → IfSome new (λ r. IsQuiet h q p rank r.now)
-quiet_next h here q p rank old new range keys lent prefix within order lists exact are next known =
+pub quiet_next : (h here : History) (q p rank : ℕ) (old new : Option (Bor Range)) (range : Range) (changes lent : List Change) → IsPrefix h here → p ≤ length h → q ≤ p → ListsChanges here q p rank range (change_keys changes) → (IsBareThroughout here q p range → change_keys changes ≡ changed_keys q p range here) →
+    lent ≡ changes → (option_copied new ≡ option_copied old) ⊎ ((lent ≡ []) × (option_copied new ≡ Some range)) → IfSome old (λ r. IsQuiet h q p rank r.now) → IfSome new (λ r. IsQuiet h q p rank r.now)
+quiet_next h here q p rank old new range changes lent prefix within order lists exact are next known =
     from_copied new (⊎_elim
     (λ e. subst (λ o. IfSome o (IsQuiet h q p rank)) (sym e) (to_copied old known))
-    (λ w. subst (λ o. IfSome o (IsQuiet h q p rank)) (sym w.1) (quiet_before h here q p rank range prefix within order (quiet_by here q p rank range keys (sym are ∙ w.0) lists exact)))
+    (λ w. subst (λ o. IfSome o (IsQuiet h q p rank)) (sym w.1) (quiet_before h here q p rank range prefix within order (quiet_by here q p rank range (change_keys changes) (ap change_keys (sym are ∙ w.0)) lists exact)))
     next)
   where
     to_copied : (o : Option (Bor Range)) → IfSome o (λ r. IsQuiet h q p rank r.now) → IfSome (option_copied o) (IsQuiet h q p rank)
@@ -132,6 +132,11 @@ inside_merged needs told keys same all = all_from_has (λ key. list_any (λ n. w
 -- and tell as much
 pub complete_merged : (h : History) (q p rank : ℕ) (needs : List Need) (told keys : List Text) → ((key : Text) → Contains keys key ↔ Contains told key) → AreReportedBetween h q p rank needs told → AreReportedBetween h q p rank needs keys
 complete_merged h q p rank needs told keys same all = reported_more h q p rank needs told keys (λ key h. has_from_contains keys key ((same key).1 (contains_from_has told key h))) all
+
+-- and changes that are among some with the values of a table have these too
+pub values_merged : (table : Table) (told changes : List Change) → AllByRecursion (Contains told) changes → HaveValues table told → HaveValues table changes
+values_merged table told changes among values = all_from_has (λ (c : Change). c.value ≡ value_at c.key table) changes (λ c h.
+    has_of_all (λ (d : Change). d.value ≡ value_at d.key table) told c values (has_from_contains told c (has_of_all (Contains told) changes c among h)))
 
 -- where the changed keys of each need's range are told and no others, those in a need's range are its changed keys
 listed_one : (h : History) (q p : ℕ) (needs : List Need) (keys : List Text) (need : Need) → Has needs need → IsStrictlySortedBy text_cmp keys → ((key : Text) → Contains keys key ↔ Contains (flat_map (λ n. changed_keys q p n.range h) needs) key) → ListsWritten q p h keys need

@@ -1,21 +1,15 @@
--- How many touches and applications there are, and what an advance costs.
-use Rattle.std.proofs.Common.{◌≡◌, ℕ, ◌+◌, ◌*◌, ◌≤◌, Bool, true, false, cond, not, List, [], ◌∷◌, length, take, filter, filter_map, Option, Some, None, sym, ap, subst, arith, length-append}
-use Rattle.std.specs.List.{sum_by, cons_option, list_all}
+-- How many touches and applications there are.
+use Rattle.std.proofs.Common.{◌≡◌, ℕ, ◌+◌, ◌≤◌, Bool, true, false, cond, not, List, [], ◌∷◌, length, filter, filter_map, Option, Some, None, ap, arith, length-append}
+use Rattle.std.specs.List.{sum_by, cons_option}
 use Rattle.std.proofs.lemmas.List.Sums.{sum_by-cons}
-use Rattle.semantics.specs.Texts.{Text, Range, is_range, within}
+use Rattle.semantics.specs.Texts.{Text, Range}
 use Rattle.semantics.specs.Patterns.{Slots}
 use Rattle.semantics.specs.Joins.{is_check, Source, Join}
-use Rattle.semantics.specs.Histories.{History, joins_of}
-use Rattle.semantics.proofs.MemberLemmas.{has_filter}
-use Rattle.key_ranges.specs.Ranges.{just}
-use Rattle.key_ranges.proofs.RangeLemmas.{within_table}
-use Rattle.growing_history.specs.Changes.{has_table, IsBareAt, IsBareThroughout}
-use Rattle.growing_history.proofs.ElementLemmas.{all_from_has, has_of_all}
+use Rattle.semantics.specs.Histories.{History}
 use Rattle.range_evaluation.specs.Trees.{Need}
 use Rattle.kept_ranges.specs.Rules.{source_of, reported_in, touch_of, touches_by, touches, output_of, application_at, applications_by, applications}
-use Rattle.kept_ranges.proofs.ApplyLemmas.{application_from}
 use Rattle.source_changes.specs.Asking.{ListsWritten, changed_count}
-use Rattle.source_changes.specs.Laws.{is_check_source, is_value_source, FewTouches, FewApplications, AdvanceIsCheap, AppliedAreBare}
+use Rattle.source_changes.specs.Laws.{is_check_source, is_value_source, FewTouches, FewApplications}
 
 -- what is given or not adds one element at most
 few_more : {A B : Type 0} (o : Option B) (ys : List B) (xs : List A) → length ys ≤ length xs → length (cons_option o ys) ≤ length xs + 1
@@ -73,40 +67,3 @@ few_applications j range pending h q p reported (need ∷ needs) listed =
     let e = length-append (applications_by j range pending reported need (source_of j need)) (applications j range pending reported needs) in
     let parts = sum_taken (changed_count q p h) (λ (n : Need). is_value_source (source_of j n)) need needs in
     omega arith
-
--- ---- an advance
-
--- the applications through one need that may be left
-left_of_one : (j : Join) (range : Range) (pending : List Slots) (h : History) (q p : ℕ) (reported : List Text) (need : Need) (needs : List Need) (b : Bool) → ListsWritten q p h reported need →
-    length (applications j range pending reported (cond b (need ∷ needs) needs)) ≤ changed_count q p h need + length (applications j range pending reported needs)
-left_of_one j range pending h q p reported need needs false listed = omega arith
-left_of_one j range pending h q p reported need needs true listed =
-    let one = applications_of_one j range pending h q p reported need (source_of j need) listed in
-    let e = length-append (applications_by j range pending reported need (source_of j need)) (applications j range pending reported needs) in
-    let whole : cond (is_value_source (source_of j need)) (changed_count q p h need) 0 ≤ changed_count q p h need = at_most (is_value_source (source_of j need)) (changed_count q p h need) in
-    omega arith
-  where
-    at_most : (b : Bool) (n : ℕ) → cond b n 0 ≤ n
-    at_most true n = omega arith
-    at_most false n = omega arith
-
-pub advance_is_cheap : AdvanceIsCheap
-advance_is_cheap j range pending h q p reported [] test listed = omega arith
-advance_is_cheap j range pending h q p reported (need ∷ needs) test listed =
-    let one = left_of_one j range pending h q p reported need (filter test needs) (test need) listed.0 in
-    let others = advance_is_cheap j range pending h q p reported needs test listed.1 in
-    let asked = sum_by-cons (λ (n : Need). 1 + changed_count q p h n) need needs in
-    let whole = sum_by-cons (λ (n : Need). 1 + 3 * changed_count q p h n) need needs in
-    omega arith
-
--- ---- source keys
-
--- a key of a bare range has a bare range of its own
-bare_key : (h : History) (p : ℕ) (range : Range) (key : Text) → is_range range.low range.high ≡ true → IsBareAt h p range → within range key ≡ true → IsBareAt h p (just key)
-bare_key h p range key ok bare inside = subst (λ (name : Text). list_all (λ s. not (has_table s.join.output name)) (joins_of (take p h)) ≡ true) (sym (within_table range key ok inside)) bare
-
-pub applied_are_bare : AppliedAreBare
-applied_are_bare j range pending h q p reported needs test order ranges bare = all_from_has (λ a. IsBareAt h p (just a.source)) (applications j range pending reported (filter test needs)) (λ a has.
-    let is = application_from j range pending reported (filter test needs) a has in
-    let there = (has_filter test needs is.need is.has).1 in
-    bare_key h p is.need.range a.source (has_of_all (λ n. is_range n.range.low n.range.high ≡ true) needs is.need ranges there) (has_of_all (λ n. IsBareThroughout h q p n.range) needs is.need bare there p order (omega arith)) is.holds)

@@ -1,6 +1,7 @@
 mod OrderLemmas
+mod ChangeOrderLemmas
 mod ListLemmas
-mod ApplyingLemmas
+pub mod ApplyingLemmas
 pub mod LongerLemmas
 mod AskingLemmas
 pub mod SettingLemmas

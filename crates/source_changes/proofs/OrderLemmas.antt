@@ -1,10 +1,10 @@
--- Keys in ascending order: those in a range, and those of a list put in order.
-use Rattle.std.proofs.Common.{◌≡◌, ◌↔◌, ℕ, zero, suc, ◌+◌, ◌<◌, ◌≤◌, ◌&&◌, Bool, true, false, not, cond, List, [], ◌∷◌, ◌++◌, length, take, drop, get_or, filter, Contains, is_lt, refl, sym, ap, ◌∙◌, subst, ⊎_elim, arith, append-nil, length-drop}
+-- Changes whose keys ascend: those in a range; and keys put in order.
+use Rattle.std.proofs.Common.{◌≡◌, ◌↔◌, ℕ, zero, suc, ◌+◌, ◌<◌, ◌≤◌, ◌&&◌, Bool, true, false, not, cond, List, [], ◌∷◌, ◌++◌, length, take, drop, get_or, filter, Contains, Less, is_lt, refl, sym, ap, ◌∙◌, subst, ⊎_elim, arith, append-nil, length-drop}
 use Rattle.std.specs.List.{AllByRecursion, AllWithin, dedup}
 use Rattle.std.specs.List.Sorted.{IsStrictlySortedBy, IsSorted, IsPermutation, IsPartitionedBy, IsPartitionPoint}
 use Rattle.std.specs.Cmp.{IsEquivalence}
 use Rattle.std.proofs.lemmas.Bool.{cases_lt}
-use Rattle.std.proofs.lemmas.List.{take-append-drop, get_or-take, get_or-drop, length-take-le}
+use Rattle.std.proofs.lemmas.List.{take-append-drop, get_or-take, get_or-drop, get_or-map, length-map, length-take-le}
 use Rattle.std.proofs.lemmas.List.Elements.{filter-append, recursion_from_All}
 use Rattle.std.proofs.lemmas.List.Kept.{IsStrictlySortedBy-dedup, Contains-dedup, Contains-from_dedup}
 use Rattle.std.proofs.lemmas.List.Sorted.{Contains-permutation, IsPermutation-sym}
@@ -13,6 +13,8 @@ use Rattle.semantics.specs.Texts.{Text, Range, text_cmp, same, within}
 use Rattle.semantics.proofs.PieceLemmas.{equal_by_same}
 use Rattle.semantics.proofs.TableLemmas.{text_total, same_is_tie}
 use Rattle.growing_history.proofs.ElementLemmas.{all_then}
+use Rattle.state_changes.specs.StateChanges.{Change}
+use Rattle.join_eval.specs.Answers.{change_keys}
 use Rattle.key_ranges.specs.Ranges.{is_below}
 use Rattle.key_ranges.proofs.OrderLemmas.{up_to-not_below, up_to_from_below, up_to_below}
 
@@ -57,13 +59,25 @@ filter_same : {A : Type 0} (p q : A → Bool) (xs : List A) → AllByRecursion (
 filter_same p q [] h = refl
 filter_same p q (x ∷ xs) h = ap (λ b. cond b (x ∷ filter p xs) (filter p xs)) h.0 ∙ ap (λ ys. cond (q x) (x ∷ ys) ys) (filter_same p q xs h.1)
 
--- ---- ascending keys
+-- ---- changes whose keys ascend
+
+-- a key before another is less
+less_at : (changes : List Change) (i j : ℕ) (d : Change) → IsStrictlySortedBy text_cmp (change_keys changes) → i < j → j < length changes → text_cmp (get_or changes i d).key (get_or changes j d).key ≡ Less
+less_at changes i j d sorted before less =
+    let key = λ (c : Change). c.key in
+    let long : j < length (change_keys changes) = omega (arith, less, length-map changes key) in
+    let one : get_or (change_keys changes) i d.key ≡ (get_or changes i d).key = get_or-map key changes i d d.key (omega (arith, before, less)) in
+    let other : get_or (change_keys changes) j d.key ≡ (get_or changes j d).key = get_or-map key changes j d d.key less in
+    sym (λ t. text_cmp (one t) (other t)) ∙ Less-from_sorted text_cmp (change_keys changes) i j d.key sorted before long
 
 -- the keys below a bound come first
-pub parted_below : (bound : Text) (keys : List Text) → IsStrictlySortedBy text_cmp keys → IsPartitionedBy (λ key. is_below key bound) keys
-parted_below bound keys sorted i j d up less h = ⊎_elim
-    (λ (before : i < j). up_to_below (get_or keys i d) (get_or keys j d) bound (up_to_from_below (get_or keys i d) (get_or keys j d) (ap is_lt (Less-from_sorted text_cmp keys i j d sorted before less))) h)
-    (λ (behind : j ≤ i). let e : j ≡ i = omega arith in subst (λ k. is_below (get_or keys k d) bound ≡ true) e h)
+pub parted_below : (bound : Text) (changes : List Change) → IsStrictlySortedBy text_cmp (change_keys changes) → IsPartitionedBy (λ change. is_below change.key bound) changes
+parted_below bound changes sorted i j d up less h =
+    let one : Text = (get_or changes i d).key in
+    let other : Text = (get_or changes j d).key in
+    ⊎_elim
+    (λ (before : i < j). up_to_below one other bound (up_to_from_below one other (ap is_lt (less_at changes i j d sorted before less))) h)
+    (λ (behind : j ≤ i). let e : j ≡ i = omega arith in subst (λ k. is_below (get_or changes k d).key bound ≡ true) e h)
     (cases_lt i j)
 
 -- a key that is below the first bound lies outside
@@ -74,24 +88,35 @@ below_outside range key h = ap (λ b. b && is_below key range.high) (up_to-not_b
 reached_within : (range : Range) (key : Text) → is_below key range.low ≡ false → within range key ≡ is_below key range.high
 reached_within range key h = ap (λ b. b && is_below key range.high) (up_to-not_below range.low key ∙ ap not h)
 
--- the keys of a range are those that are not below its first bound, up to where they are below its last one
-pub keys_between : (range : Range) (keys : List Text) (i n : ℕ) → i ≤ length keys → n ≤ length (drop i keys) → IsPartitionPoint (λ key. is_below key range.low ≡ true) (λ key. is_below key range.low ≡ false) keys i →
-    IsPartitionPoint (λ key. is_below key range.high ≡ true) (λ key. is_below key range.high ≡ false) (drop i keys) n → take n (drop i keys) ≡ filter (within range) keys
-keys_between range keys i n short fewer low high =
-    let outside = all_then (λ key. is_below key range.low ≡ true) (λ key. within range key ≡ false) (take i keys) (below_outside range) (front_of (λ key. is_below key range.low ≡ true) keys i short low.0) in
-    let reached = all_then (λ key. is_below key range.low ≡ false) (λ key. within range key ≡ is_below key range.high) (drop i keys) (reached_within range) (back_of (λ key. is_below key range.low ≡ false) keys i low.1) in
-    let inside = front_of (λ key. is_below key range.high ≡ true) (drop i keys) n fewer high.0 in
-    let behind = back_of (λ key. is_below key range.high ≡ false) (drop i keys) n high.1 in
-    sym (filter_back (within range) keys i outside
-    ∙ filter_same (within range) (λ key. is_below key range.high) (drop i keys) reached
-    ∙ filter_front (λ key. is_below key range.high) (drop i keys) n inside behind)
+-- the changes whose keys lie in a range are those whose keys are not below its first bound, up to where they are below its last one
+pub changes_between : (range : Range) (changes : List Change) (i n : ℕ) → i ≤ length changes → n ≤ length (drop i changes) → IsPartitionPoint (λ change. is_below change.key range.low ≡ true) (λ change. is_below change.key range.low ≡ false) changes i →
+    IsPartitionPoint (λ change. is_below change.key range.high ≡ true) (λ change. is_below change.key range.high ≡ false) (drop i changes) n → take n (drop i changes) ≡ filter (λ change. within range change.key) changes
+changes_between range changes i n short fewer low high =
+    let inside_range = λ (c : Change). within range c.key in
+    let up_to_last = λ (c : Change). is_below c.key range.high in
+    let outside = all_then (λ (c : Change). is_below c.key range.low ≡ true) (λ c. within range c.key ≡ false) (take i changes) (λ c. below_outside range c.key) (front_of (λ c. is_below c.key range.low ≡ true) changes i short low.0) in
+    let reached = all_then (λ (c : Change). is_below c.key range.low ≡ false) (λ c. within range c.key ≡ is_below c.key range.high) (drop i changes) (λ c. reached_within range c.key) (back_of (λ c. is_below c.key range.low ≡ false) changes i low.1) in
+    let inside = front_of (λ (c : Change). is_below c.key range.high ≡ true) (drop i changes) n fewer high.0 in
+    let behind = back_of (λ (c : Change). is_below c.key range.high ≡ false) (drop i changes) n high.1 in
+    sym (filter_back inside_range changes i outside
+    ∙ filter_same inside_range up_to_last (drop i changes) reached
+    ∙ filter_front up_to_last (drop i changes) n inside behind)
 
--- the rest of ascending keys ascends
-pub sorted_drop : (i : ℕ) (keys : List Text) → IsStrictlySortedBy text_cmp keys → IsStrictlySortedBy text_cmp (drop i keys)
+-- the keys of the rest of them ascend
+pub sorted_drop : (i : ℕ) (changes : List Change) → IsStrictlySortedBy text_cmp (change_keys changes) → IsStrictlySortedBy text_cmp (change_keys (drop i changes))
 unfolding IsStrictlySortedBy
-sorted_drop zero keys h = h
+sorted_drop zero changes h = h
 sorted_drop (suc i) [] h = tt
-sorted_drop (suc i) (key ∷ keys) h = sorted_drop i keys h.1
+sorted_drop (suc i) (change ∷ changes) h = sorted_drop i changes h.1
+
+within_by : (b : Bool) (c : Change) (cs : List Change) (ks : List Text) → change_keys cs ≡ ks → change_keys (cond b (c ∷ cs) cs) ≡ cond b (c.key ∷ ks) ks
+within_by true c cs ks is = ap (λ rest. c.key ∷ rest) is
+within_by false c cs ks is = is
+
+-- the keys of those whose keys lie in a range are the keys that lie in it
+pub keys_within : (range : Range) (changes : List Change) → change_keys (filter (λ change. within range change.key) changes) ≡ filter (within range) (change_keys changes)
+keys_within range [] = refl
+keys_within range (c ∷ cs) = within_by (within range c.key) c (filter (λ change. within range change.key) cs) (filter (within range) (change_keys cs)) (keys_within range cs)
 
 -- ---- keys put in order
 

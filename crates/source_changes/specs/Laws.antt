@@ -1,5 +1,5 @@
 -- Laws on needs through which changed keys are applied, and on how many touches and applications there are.
-use Rattle.std.specs.Prelude.{◌≡◌, ℕ, ◌+◌, ◌*◌, ◌≤◌, List, length, filter, Bool, true, false, not, Option, Some, None}
+use Rattle.std.specs.Prelude.{◌≡◌, ℕ, ◌≤◌, List, length, filter, Bool, true, false, not, Option, Some, None}
 use Rattle.std.specs.List.{sum_by, AllByRecursion}
 use Rattle.semantics.specs.Texts.{Text, Range, Table}
 use Rattle.semantics.specs.Patterns.{Slots}
@@ -10,8 +10,7 @@ use Rattle.range_evaluation.specs.Trees.{Need}
 use Rattle.kept_ranges.specs.Kept.{CameBy}
 use Rattle.kept_ranges.specs.Rules.{source_of, touches, applications}
 use Rattle.source_changes.specs.Filling.{CanFill}
-use Rattle.source_changes.specs.Asking.{HaveRanges, AreBareThroughout, AreListed, changed_count, asking_steps}
-use Rattle.source_changes.specs.Setting.{AreBareAt}
+use Rattle.source_changes.specs.Asking.{AreListed, changed_count}
 
 -- ---- filling
 
@@ -56,13 +55,3 @@ FewTouches = (j : Join) (h : History) (q p : ℕ) (reported : List Text) (needs 
 abbrev pub FewApplications : Type 0
 FewApplications = (j : Join) (range : Range) (pending : List Slots) (h : History) (q p : ℕ) (reported : List Text) (needs : List Need) → AreListed q p h needs reported →
     length (applications j range pending reported needs) ≤ changed_in q p h (value_needs j needs)
-
--- asking for each need, and two steps for each application through those that are left by any test, take at most one step for each need and three for each changed key of its range
-abbrev pub AdvanceIsCheap : Type 0
-AdvanceIsCheap = (j : Join) (range : Range) (pending : List Slots) (h : History) (q p : ℕ) (reported : List Text) (needs : List Need) (test : Need → Bool) → AreListed q p h needs reported →
-    asking_steps q p h needs + 2 * length (applications j range pending reported (filter test needs)) ≤ sum_by (λ need. 1 + 3 * changed_count q p h need) needs
-
--- where the ranges of needs are bare from q to p, so is at p that of each source key that is applied through them, or through those that are left by any test
-abbrev pub AppliedAreBare : Type 0
-AppliedAreBare = (j : Join) (range : Range) (pending : List Slots) (h : History) (q p : ℕ) (reported : List Text) (needs : List Need) (test : Need → Bool) → q ≤ p → HaveRanges needs → AreBareThroughout h q p needs →
-    AreBareAt h p (applications j range pending reported (filter test needs))

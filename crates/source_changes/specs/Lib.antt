@@ -2,3 +2,4 @@ pub mod Filling
 pub mod Asking
 pub mod Setting
 pub mod Laws
+pub mod Valued

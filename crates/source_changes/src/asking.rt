@@ -1,19 +1,21 @@
 // What a reader says of the ranges of needs.
-ghost use Rattle.std.specs.Prelude.{◌≡◌, ◌+◌, ◌≤◌, ◌⊎◌, [], length, flat_map, option_copied, true, Any, IfOk, IfSome, IfNone, Some};
+ghost use Rattle.std.specs.Prelude.{◌≡◌, ◌+◌, ◌≤◌, ◌⊎◌, [], length, take, flat_map, option_copied, true, Any, IfOk, IfSome, IfNone, Some};
 ghost use Rattle.std.specs.Option.{IsSomeAnd};
 ghost use Rattle.std.specs.List.Sorted.{IsStrictlySortedBy};
 ghost use Rattle.semantics.specs.Texts.{text_cmp};
+ghost use Rattle.semantics.specs.States.{below};
 ghost use Rattle.growing_history.specs.Changes.{changed_keys, IsBareThroughout};
 ghost use Rattle.kept_ranges.specs.SoundLaws.{AreReportedBetween};
-ghost use Rattle.join_eval.specs.Answers.{AnswersChanges, CostsOne, ListsExactly, MayNotBeKnown};
+ghost use Rattle.join_eval.specs.Answers.{HaveValues, MayNotBeKnown, TellsAtCost, TellsChanges, TellsExactly, TellsValues, change_keys};
 ghost use Rattle.join_eval.specs.Moves.{Moves};
 ghost use Rattle.source_changes.specs.Asking.{HaveRanges, IsQuiet, AreBareThroughout, LieInRanges, AreListed, asking_steps};
 
-use crate::merging::merged;
-use join_eval::{Changed, Reader};
+use crate::merging::merged_changes;
+use change_lists::Change;
+use join_eval::{Changes, Reader};
 use join_rows::{Need, are_same_ranges};
+use key_space::Range;
 use key_space::range::look_at;
-use key_space::{Key, Range};
 use out_of_memory::OutOfMemory;
 use std::alloc::Global;
 use std::sync::ledger::Ledger;
@@ -38,7 +40,8 @@ fn is_quiet(quiet: Option<&Range>, range: &Range) -> bool
     }
 }
 
-/// Asks what changed in the range, and takes one step and no more where it is the quiet one, in which nothing did.
+/// Asks what changed in the range and what stands there, and takes one step and no more where it is the quiet one, in which nothing
+/// did.
 fn ask<R: Reader, L: Ledger>(
     alloc: Global,
     quiet: Option<&Range>,
@@ -48,32 +51,41 @@ fn ask<R: Reader, L: Ledger>(
     p: u64,
     reader: &mut R,
     steps: &mut Steps<L>,
-) -> Result<Changed, OutOfMemory>
+) -> Result<Changes, OutOfMemory>
     requires order { q ≤ p }
     requires within { p ≤ length (R.list reader.old) }
     requires above { R.floor reader.old ≤ q }
     requires ranked { rank ≤ R.top }
     requires quiet { IfSome (option_copied quiet) (IsQuiet (R.list reader.old) q p rank) }
-    ensures exact { IfOk result (AnswersChanges (R.list reader.old) q p rank range.now) }
-    ensures bare { IsBareThroughout (R.list reader.old) q p range.now → IfOk result (ListsExactly (changed_keys q p range.now (R.list reader.old))) }
+    ensures exact { IfOk result (TellsChanges (R.list reader.old) q p rank range.now) }
+    ensures values { IfOk result (TellsValues (below (take p (R.list reader.old)) rank)) }
+    ensures bare { IsBareThroughout (R.list reader.old) q p range.now → IfOk result (TellsExactly (changed_keys q p range.now (R.list reader.old))) }
     ensures bare_cost { IsBareThroughout (R.list reader.old) q p range.now → IfOk result (λ _. steps.new ≡ steps.old + 1 + length (changed_keys q p range.now (R.list reader.old))) }
     ensures moves { Moves R.list R.floor R.went reader.old reader.new }
     ensures counted { steps.old ≤ steps.new }
-    ensures cost { IfOk result (CostsOne steps.old steps.new) }
+    ensures cost { IfOk result (TellsAtCost steps.old steps.new) }
 {
     if is_quiet(quiet, range) {
         steps.count_call(0);
-        return Ok(Changed::Keys(Vec::new(alloc)));
+        return Ok(Changes::Listed(Vec::new(alloc)));
     }
-    reader.changed(q, p, range, rank, steps)
+    reader.changes(q, p, range, rank, steps)
 }
 
-/// The range that is known to be quiet after an answer: the one that was asked for, where no key is listed, and otherwise the one
-/// before.
-fn quiet_after<'a>(quiet: Option<&'a Range>, range: &'a Range, keys: &[Key]) -> Option<&'a Range>
-    ensures { (option_copied result ≡ option_copied quiet.entry) ⊎ ((keys.now ≡ []) × (option_copied result ≡ Some range.now)) }
+/// The range that is known to be quiet after an answer: the one that was asked for, where no change is listed, and otherwise the
+/// one before.
+fn quiet_after<'a>(
+    quiet: Option<&'a Range>,
+    range: &'a Range,
+    changes: &[Change],
+) -> Option<&'a Range>
+    ensures { (option_copied result ≡ option_copied quiet.entry) ⊎ ((changes.now ≡ []) × (option_copied result ≡ Some range.now)) }
 {
-    if keys.is_empty() { Some(range) } else { quiet }
+    if changes.is_empty() {
+        Some(range)
+    } else {
+        quiet
+    }
 }
 
 /// Asks for each need what changed in its range, and puts the answers one after another; none where some answer is that it
@@ -86,15 +98,16 @@ fn gather_answers<R: Reader, L: Ledger>(
     p: u64,
     reader: &mut R,
     steps: &mut Steps<L>,
-) -> Result<Option<Vec<Key>>, OutOfMemory>
+) -> Result<Option<Vec<Change>>, OutOfMemory>
     requires order { q ≤ p }
     requires within { p ≤ length (R.list reader.old) }
     requires above { R.floor reader.old ≤ q }
     requires ranked { rank ≤ R.top }
-    ensures inside { IfOk result (λ found. IfSome found (λ keys. LieInRanges needs.now keys.items)) }
-    ensures complete { IfOk result (λ found. IfSome found (λ keys. AreReportedBetween (R.list reader.old) q p rank needs.now keys.items)) }
+    ensures inside { IfOk result (λ found. IfSome found (λ changes. LieInRanges needs.now (change_keys changes.items))) }
+    ensures complete { IfOk result (λ found. IfSome found (λ changes. AreReportedBetween (R.list reader.old) q p rank needs.now (change_keys changes.items))) }
+    ensures values { IfOk result (λ found. IfSome found (λ changes. HaveValues (below (take p (R.list reader.old)) rank) changes.items)) }
     ensures unknown { IfOk result (λ found. IfNone found (Any (λ need. MayNotBeKnown (R.list reader.old) q p rank need.range) needs.now)) }
-    ensures bare { AreBareThroughout (R.list reader.old) q p needs.now → IfOk result (λ found. IsSomeAnd found (λ keys. keys.items ≡ flat_map (λ need. changed_keys q p need.range (R.list reader.old)) needs.now)) }
+    ensures bare { AreBareThroughout (R.list reader.old) q p needs.now → IfOk result (λ found. IsSomeAnd found (λ changes. change_keys changes.items ≡ flat_map (λ need. changed_keys q p need.range (R.list reader.old)) needs.now)) }
     ensures bare_cost { AreBareThroughout (R.list reader.old) q p needs.now → IfOk result (λ _. steps.new ≡ steps.old + asking_steps q p (R.list reader.old) needs.now) }
     ensures moves { Moves R.list R.floor R.went reader.old reader.new }
     ensures counted { steps.old ≤ steps.new }
@@ -104,21 +117,22 @@ fn gather_answers<R: Reader, L: Ledger>(
     let mut quiet = None;
     for need in needs {
         match ask(alloc, quiet, &need.range, rank, q, p, reader, steps)? {
-            Changed::Keys(mut keys) => {
-                quiet = quiet_after(quiet, &need.range, keys.as_slice());
-                answers.append(&mut keys)?;
+            Changes::Listed(mut changes) => {
+                quiet = quiet_after(quiet, &need.range, changes.as_slice());
+                answers.append(&mut changes)?;
             }
-            Changed::All => return Ok(None),
+            Changes::Unlisted => return Ok(None),
         }
     }
     Ok(Some(answers))
 }
 
-/// Asks the reader for what changed in the range of each need from q to p: the keys of all answers, ascending, each once,
-/// or none where some answer is that it is not known. That comes only where the range of some need is not bare at some
-/// position from q to p, and either a join is declared or dropped between, or the range meets the output of a join below the
-/// rank. At a key of a need's range that is not among the keys the same stands at all positions from q to p. Where the ranges
-/// of all needs are bare from q to p, the keys are those in them that the entries between put or remove.
+/// Asks the reader for what changed in the range of each need from q to p: the keys of all answers, ascending, each once, each
+/// with what stands there at p below the rank, or none; or none of it where some answer is that it is not known. That comes only
+/// where the range of some need is not bare at some position from q to p, and either a join is declared or dropped between, or
+/// the range meets the output of a join below the rank. At a key of a need's range that is not among the keys the same stands at
+/// all positions from q to p. Where the ranges of all needs are bare from q to p, the keys are those in them that the entries
+/// between put or remove.
 ///
 /// It asks once for each need, but not again for the last range in which nothing changed: needs that follow one another are often
 /// of one range. It sorts what is answered. The steps are those of the reader, and one for each need for which it does not ask:
@@ -134,16 +148,17 @@ pub fn ask_needs<R: Reader, L: Ledger>(
     p: u64,
     reader: &mut R,
     steps: &mut Steps<L>,
-) -> Result<Option<Vec<Key>>, OutOfMemory>
+) -> Result<Option<Vec<Change>>, OutOfMemory>
     requires order { q ≤ p }
     requires within { p ≤ length (R.list reader.old) }
     requires above { R.floor reader.old ≤ q }
     requires ranked { rank ≤ R.top }
-    ensures ascending { IfOk result (λ found. IfSome found (λ keys. IsStrictlySortedBy text_cmp keys.items)) }
-    ensures inside { IfOk result (λ found. IfSome found (λ keys. LieInRanges needs.now keys.items)) }
-    ensures complete { IfOk result (λ found. IfSome found (λ keys. AreReportedBetween (R.list reader.old) q p rank needs.now keys.items)) }
+    ensures ascending { IfOk result (λ found. IfSome found (λ changes. IsStrictlySortedBy text_cmp (change_keys changes.items))) }
+    ensures inside { IfOk result (λ found. IfSome found (λ changes. LieInRanges needs.now (change_keys changes.items))) }
+    ensures complete { IfOk result (λ found. IfSome found (λ changes. AreReportedBetween (R.list reader.old) q p rank needs.now (change_keys changes.items))) }
+    ensures values { IfOk result (λ found. IfSome found (λ changes. HaveValues (below (take p (R.list reader.old)) rank) changes.items)) }
     ensures unknown { IfOk result (λ found. IfNone found (Any (λ need. MayNotBeKnown (R.list reader.old) q p rank need.range) needs.now)) }
-    ensures bare { AreBareThroughout (R.list reader.old) q p needs.now → IfOk result (λ found. IsSomeAnd found (λ keys. AreListed q p (R.list reader.old) needs.now keys.items)) }
+    ensures bare { AreBareThroughout (R.list reader.old) q p needs.now → IfOk result (λ found. IsSomeAnd found (λ changes. AreListed q p (R.list reader.old) needs.now (change_keys changes.items))) }
     ensures bare_cost { AreBareThroughout (R.list reader.old) q p needs.now → IfOk result (λ _. steps.new ≡ steps.old + asking_steps q p (R.list reader.old) needs.now) }
     ensures ranges { HaveRanges needs.now }
     ensures moves { Moves R.list R.floor R.went reader.old reader.new }
@@ -154,6 +169,6 @@ pub fn ask_needs<R: Reader, L: Ledger>(
     let Some(answers) = gather_answers(alloc, needs, rank, q, p, reader, steps)? else {
         return Ok(None);
     };
-    let keys = merged(answers)?;
-    Ok(Some(keys))
+    let changes = merged_changes(answers)?;
+    Ok(Some(changes))
 }

@@ -1,5 +1,5 @@
-// Laws on needs through which changed keys are applied, and on what an advance costs.
-ghost use Rattle.source_changes.specs.Laws.{NeedCanFill, NeedsCanFill, FewTouches, FewApplications, AdvanceIsCheap, AppliedAreBare};
+// Laws on needs through which changed keys are applied, and on how many touches and applications there are.
+ghost use Rattle.source_changes.specs.Laws.{NeedCanFill, NeedsCanFill, FewTouches, FewApplications};
 
 /// Through a need that came by a path of a join that keeps the rules, a changed key of the value source can fill its output
 /// key.
@@ -20,15 +20,4 @@ pub fn few_touches()
 /// There are at most as many applications as changed keys in the ranges of value needs.
 pub fn few_applications()
     ensures { FewApplications }
-{}
-
-/// To ask for each need, and two steps for each application, take at most one step for each need and three for each
-/// changed key of its range.
-pub fn advance_is_cheap()
-    ensures { AdvanceIsCheap }
-{}
-
-/// Where the ranges of needs are bare, so is that of each source key that is applied through them.
-pub fn applied_are_bare()
-    ensures { AppliedAreBare }
 {}

@@ -4,7 +4,9 @@ ghost use Rattle.std.specs.List.Sorted.{IsStrictlySortedBy};
 ghost use Rattle.semantics.specs.Texts.{text_cmp, within};
 ghost use Rattle.key_ranges.specs.Ranges.{is_below};
 ghost use Rattle.kept_ranges.specs.Rules.{source_of, touch_of, touches_by, touches};
+ghost use Rattle.join_eval.specs.Answers.{change_keys};
 
+use change_lists::Change;
 use join_rows::Need;
 use join_types::{Join, JoinSource};
 use key_pattern::SlotTexts;
@@ -44,14 +46,15 @@ fn is_below(key: &Key, bound: &str) -> bool
     key.text() < bound
 }
 
-/// Those of the keys that lie in the range, which are lent. It takes two binary searches.
-pub fn keys_in<'a>(reported: &'a [Key], range: &Range) -> &'a [Key]
-    requires { IsStrictlySortedBy text_cmp reported.now }
-    ensures { result.now ≡ filter (within range.now) reported.now }
+/// Lends those of the changes whose keys lie in the range. It takes two binary searches.
+pub fn changes_in<'a>(reported: &'a [Change], range: &Range) -> &'a [Change]
+    requires { IsStrictlySortedBy text_cmp (change_keys reported.now) }
+    ensures exact { result.now ≡ filter (λ change. within range.now change.key) reported.now }
+    ensures keys { change_keys result.now ≡ filter (within range.now) (change_keys reported.now) }
 {
-    let first = reported.partition_point(|key| is_below(key, range.lo()));
+    let first = reported.partition_point(|change| is_below(&change.key, range.lo()));
     let reached = &reported[first..];
-    let count = reached.partition_point(|key| is_below(key, range.hi()));
+    let count = reached.partition_point(|change| is_below(&change.key, range.hi()));
     &reached[..count]
 }
 
@@ -73,19 +76,19 @@ fn touch_of(
     Ok(Some(Touch { key, slots }))
 }
 
-/// Adds what the keys touch through a need of the source, in order.
+/// Adds what the keys of the changes touch through a need of the source, in order.
 fn touch_keys(
     alloc: Global,
     join: &Join,
     need: &Need,
     source: &JoinSource,
-    keys: &[Key],
+    changes: &[Change],
     list: &mut Vec<Touch>,
 ) -> Result<(), OutOfMemory>
-    ensures { OnOk result (list.new.items ≡ list.old.items ++ filter_map (touch_of join.now need.now source.now) keys.now) }
+    ensures { OnOk result (list.new.items ≡ list.old.items ++ filter_map (touch_of join.now need.now source.now) (change_keys changes.now)) }
 {
-    for key in keys {
-        if let Some(touch) = touch_of(alloc, join, need, source, key)? {
+    for change in changes {
+        if let Some(touch) = touch_of(alloc, join, need, source, &change.key)? {
             list.push(touch)?;
         }
     }
@@ -96,33 +99,33 @@ fn touch_keys(
 fn touch_through(
     alloc: Global,
     join: &Join,
-    reported: &[Key],
+    reported: &[Change],
     need: &Need,
     list: &mut Vec<Touch>,
 ) -> Result<(), OutOfMemory>
-    requires { IsStrictlySortedBy text_cmp reported.now }
-    ensures { OnOk result (list.new.items ≡ list.old.items ++ touches_by join.now reported.now need.now (source_of join.now need.now)) }
+    requires { IsStrictlySortedBy text_cmp (change_keys reported.now) }
+    ensures { OnOk result (list.new.items ≡ list.old.items ++ touches_by join.now (change_keys reported.now) need.now (source_of join.now need.now)) }
 {
     match source_of(join, need) {
         Some(source) if source.op.is_check() => {
-            let keys = keys_in(reported, &need.range);
-            touch_keys(alloc, join, need, source, keys, list)
+            let part = changes_in(reported, &need.range);
+            touch_keys(alloc, join, need, source, part, list)
         }
         _ => Ok(()),
     }
 }
 
-/// What the reported keys, ascending, each once, touch through the needs of check sources: need by need, and for each of
-/// them in the order of the keys. It takes two binary searches for each need of a check, and is linear in the texts of the
-/// keys that lie in its range.
+/// What the keys of the reported changes, ascending, each once, touch through the needs of check sources: need by need, and for
+/// each of them in the order of the keys. It takes two binary searches for each need of a check, and is linear in the texts of
+/// the keys that lie in its range.
 pub fn touches(
     alloc: Global,
     join: &Join,
-    reported: &[Key],
+    reported: &[Change],
     needs: &[Need],
 ) -> Result<Vec<Touch>, OutOfMemory>
-    requires ascending { IsStrictlySortedBy text_cmp reported.now }
-    ensures { IfOk result (λ list. list.items ≡ touches join.now reported.now needs.now) }
+    requires ascending { IsStrictlySortedBy text_cmp (change_keys reported.now) }
+    ensures { IfOk result (λ list. list.items ≡ touches join.now (change_keys reported.now) needs.now) }
 {
     let mut list = Vec::new(alloc);
     for need in needs {

@@ -1,5 +1,7 @@
-use Rattle.std.proofs.Common.{◌≡◌, length, sym, ap, ◌∙◌, arith}
+use Rattle.std.proofs.Common.{◌≡◌, length, take, sym, ap, ◌∙◌, subst, arith}
+use Rattle.semantics.specs.States.{below}
 use Rattle.growing_history.specs.Changes.{changed_keys}
+use Rattle.join_eval.specs.Answers.{HaveValues, change_keys}
 use Rattle.join_eval.proofs.MovesLemmas.{moves_refl}
 use Rattle.source_changes.proofs.AskingLemmas.{quiet_answer, quiet_found}
 use Rattle.source_changes.proofs.asking.ask.Goals as goal
@@ -7,13 +9,16 @@ use Rattle.source_changes.proofs.asking.ask.Goals as goal
 pub returns-then-is_quiet-clause-exact : goal.returns-then-is_quiet-clause-exact
 returns-then-is_quiet-clause-exact g c =
     let h = g.R.Reader.list c.args.reader.now in
-    quiet_answer h c.args.q c.args.p c.args.rank c.args.range.now c.new.result.items c.new.ensures.items
+    quiet_answer h c.args.q c.args.p c.args.rank c.args.range.now (change_keys c.new.result.items) (ap change_keys c.new.ensures.items)
     (quiet_found h c.args.q c.args.p c.args.rank _ c.args.range.now (c.is_quiet.ensures c.if-is_quiet.true) c.requires.quiet)
+
+pub returns-then-is_quiet-clause-values : goal.returns-then-is_quiet-clause-values
+returns-then-is_quiet-clause-values g c = subst (HaveValues (below (take c.args.p (g.R.Reader.list c.args.reader.now)) c.args.rank)) (sym c.new.ensures.items) tt
 
 pub returns-then-is_quiet-clause-bare : goal.returns-then-is_quiet-clause-bare
 returns-then-is_quiet-clause-bare g c = λ bare.
     let h = g.R.Reader.list c.args.reader.now in
-    c.new.ensures.items ∙ sym ((quiet_found h c.args.q c.args.p c.args.rank _ c.args.range.now (c.is_quiet.ensures c.if-is_quiet.true) c.requires.quiet).unwritten bare)
+    ap change_keys c.new.ensures.items ∙ sym ((quiet_found h c.args.q c.args.p c.args.rank _ c.args.range.now (c.is_quiet.ensures c.if-is_quiet.true) c.requires.quiet).unwritten bare)
 
 pub returns-then-is_quiet-clause-bare_cost : goal.returns-then-is_quiet-clause-bare_cost
 returns-then-is_quiet-clause-bare_cost g c = λ bare.
@@ -27,8 +32,8 @@ returns-then-is_quiet-clause-moves g c = moves_refl g.R.Reader.list g.R.Reader.f
 
 pub returns-clause-moves : goal.returns-clause-moves
 returns-clause-moves g c = record {
-  kept = c.changed.ensures.kept;
-  entered = λ _. c.changed.ensures.entered;
-  same_floor = c.changed.ensures.same_floor;
-  on = c.changed.ensures.on;
+  kept = c.changes.ensures.kept;
+  entered = λ _. c.changes.ensures.entered;
+  same_floor = c.changes.ensures.same_floor;
+  on = c.changes.ensures.on;
 }

@@ -9,7 +9,7 @@ use Rattle.base_reader.proofs.reader.BaseReaderBaseSource.base_changes.Goals as 
 pub returns-clause-exact : goal.returns-clause-exact
 returns-clause-exact g c =
     let stands = stands_for_all c.args.self.now c.as_slice.result.now c.catch_up.new.base (c.as_slice.ensures.value ∙ c.self.view_is) c.in_ok-catch_up.ensures.caught c.in_ok-catch_up.ensures.versions in
-    IfOk-weaker c.changed.result _ _ (λ keys exact. exact 0 c.args.self.now stands (omega arith)) c.changed.ensures.exact
+    IfOk-weaker c.changes.result _ _ (λ found exact. exact 0 c.args.self.now stands (omega arith)) c.changes.ensures.exact
 
 pub returns-in_err-catch_up-clause-moves : goal.returns-in_err-catch_up-clause-moves
 returns-in_err-catch_up-clause-moves g c = moves_same (λ (h : History). h) (λ h. 0) c.args.self.now c.self.inside.entries.items c.self.view_is

@@ -2,12 +2,12 @@ use Rattle.std.proofs.Common.{◌≡◌, ◌+◌, ◌≤◌, List, length, take,
 use Rattle.std.specs.Option.{IsSomeAnd}
 use Rattle.std.proofs.lemmas.Option.{same_Some}
 use Rattle.std.proofs.lemmas.Result.{err_from_is_err_and}
-use Rattle.semantics.specs.Texts.{Text}
 use Rattle.semantics.specs.Histories.{History, joins_of}
 use Rattle.semantics.specs.States.{below}
 use Rattle.growing_history.specs.Entered.{HasRank}
 use Rattle.growing_history.proofs.PrefixLemmas.{prefix_trans, take_prefix}
-use Rattle.key_space.specs.declared.key.Key.{Key}
+use Rattle.state_changes.specs.StateChanges.{Change}
+use Rattle.join_eval.specs.Answers.{HaveValues, change_keys}
 use Rattle.join_eval.specs.Bounds.{Allows, Exceeds, most_of}
 use Rattle.join_eval.specs.Moves.{Moves}
 use Rattle.join_eval.proofs.CollectingLemmas.{on_too_wide_always, on_too_wide_weaker}
@@ -25,7 +25,7 @@ use Rattle.range_state.proofs.CountedLemmas.{counts_filled, counts_asked}
 use Rattle.range_state.proofs.HeldLemmas.{advanced_few, filled_few}
 use Rattle.range_state.proofs.LittleLemmas.{few_kept, little_held, little_same}
 use Rattle.range_state.proofs.SoundLemmas.{of_subject, subject_stands}
-use Rattle.range_state.proofs.GoneOnLemmas.{held_sound, reported_held, made_sound, reached_sound, refilled_sound, unchecked_pending}
+use Rattle.range_state.proofs.GoneOnLemmas.{can_advance, made_sound, reached_sound, refilled_sound, unchecked_pending}
 use Rattle.range_state.proofs.state.RangeState.advance.Goals as goal
 use Rattle.range_state.proofs.state.RangeState.advance.Goals.{in-None+in_ok-advanced-in-None, in-Some-asked+in_ok-advanced-in-Some-asked}
 
@@ -51,7 +51,7 @@ returns-in_err-advanced-in-None-clause-known g c = λ q stands bare.
     let h = g.R.Reader.list c.args.reader.now in
     let needs = c.needs-needs.result.now in
     let view : range_kept s c.in-Some.held ≡ c.args.self.now = sym (ap (view_of s) c.in-Some.is) ∙ c.self.view_is in
-    absurd (subst (λ (o : Option (Vec Key Global)). IsSomeAnd o (λ keys. AreListed c.in-Some.held.position c.args.p h needs keys.items)) c.in-None.is
+    absurd (subst (λ (o : Option (Vec Change Global)). IsSomeAnd o (λ changes. AreListed c.in-Some.held.position c.args.p h needs (change_keys changes.items))) c.in-None.is
     (c.in_ok-asked.ensures.bare (bare_held s c.in-Some.held c.args.self.now h q c.args.p needs view stands c.needs-needs.ensures bare)))
 
 pub returns-in_err-advanced-in-None-clause-gone : goal.returns-in_err-advanced-in-None-clause-gone
@@ -70,23 +70,20 @@ fill_at-requires-clause-stands g c =
 pub advance_held-requires-clause-is_range : goal.advance_held-requires-clause-is_range
 advance_held-requires-clause-is_range g c = c.look.ensures
 
-pub advance_held-requires-clause-sound : goal.advance_held-requires-clause-sound
-advance_held-requires-clause-sound g c =
-    let s = c.self.inside.subject in
-    let view : range_kept s c.in-Some.held ≡ c.args.self.now = sym (ap (view_of s) c.in-Some.is) ∙ c.self.view_is in
-    let same : c.in-Some-replace.held ≡ c.in-Some.held = same_Some _ _ (sym c.in-Some-replace.is ∙ c.replace.ensures.value ∙ c.in-Some.is) in
-    held_sound s c.in-Some.held c.in-Some-replace.held c.args.self.now (g.R.Reader.list c.args.reader.now) (g.R.Reader.list c.ask_needs.new.reader) view same c.ask_needs.ensures.moves.kept c.requires.sound
-
-pub advance_held-requires-clause-reported : goal.advance_held-requires-clause-reported
-advance_held-requires-clause-reported g c =
+pub advance_held-requires-clause-known : goal.advance_held-requires-clause-known
+advance_held-requires-clause-known g c =
     let s = c.self.inside.subject in
     let h = g.R.Reader.list c.args.reader.now in
+    let here = g.R.Reader.list c.ask_needs.new.reader in
     let view : range_kept s c.in-Some.held ≡ c.args.self.now = sym (ap (view_of s) c.in-Some.is) ∙ c.self.view_is in
     let same : c.in-Some-replace.held ≡ c.in-Some.held = same_Some _ _ (sym c.in-Some-replace.is ∙ c.replace.ensures.value ∙ c.in-Some.is) in
-    let told : AreReportedBetween h c.in-Some.held.position c.args.p s.rank c.needs-needs.result.now c.in-Some-asked.reported.items =
-    subst (λ (o : Option (Vec Key Global)). IfSome o (λ keys. AreReportedBetween h c.in-Some.held.position c.args.p s.rank c.needs-needs.result.now keys.items)) c.in-Some-asked.is c.in_ok-asked.ensures.complete in
-    reported_held s c.in-Some.held c.in-Some-replace.held c.args.self.now h (g.R.Reader.list c.ask_needs.new.reader) c.args.p (g.R.Reader.floor c.args.reader.now) c.needs-needs.result.now c.in-Some-asked.reported.items c.as_slice.result.now view same c.requires.order
-    c.needs-needs.ensures c.as_slice.ensures.value c.ask_needs.ensures.moves.kept c.requires.within told
+    let stands : HasRank (joins_of (take c.args.p h)) s.join s.rank = subject_stands _ s c.self.inside.held c.args.self.now c.self.view_is c.requires.stands in (
+      here,
+      can_advance s c.in-Some.held c.in-Some-replace.held c.args.self.now h here c.args.p (g.R.Reader.floor c.args.reader.now) c.needs-needs.result.now c.in-Some-asked.reported.items c.as_slice.result.now view same c.requires.order
+          c.needs-needs.ensures c.as_slice.ensures.value c.ask_needs.ensures.moves.kept c.requires.within (c.ask_needs.ensures.moves.entered c.requires.entered) stands c.requires.sound
+          (subst (λ (o : Option (Vec Change Global)). IfSome o (λ changes. AreReportedBetween h c.in-Some.held.position c.args.p s.rank c.needs-needs.result.now (change_keys changes.items))) c.in-Some-asked.is c.in_ok-asked.ensures.complete)
+          (subst (λ (o : Option (Vec Change Global)). IfSome o (λ changes. HaveValues (below (take c.args.p h) s.rank) changes.items)) c.in-Some-asked.is c.in_ok-asked.ensures.values),
+    )
 
 pub invariant_of-self-2 : goal.invariant_of-self-2
 invariant_of-self-2 g c =
@@ -103,12 +100,18 @@ returns-clause-sound g c =
     let here = g.R.Reader.list c.ask_needs.new.reader in
     let stands : HasRank (joins_of (take c.args.p h)) s.join s.rank = subject_stands _ s c.self.inside.held c.args.self.now c.self.view_is c.requires.stands in
     let first = c.ask_needs.ensures.moves.kept in
+    let view : range_kept s c.in-Some.held ≡ c.args.self.now = sym (ap (view_of s) c.in-Some.is) ∙ c.self.view_is in
+    let same : c.in-Some-replace.held ≡ c.in-Some.held = same_Some _ _ (sym c.in-Some-replace.is ∙ c.replace.ensures.value ∙ c.in-Some.is) in
     elim c.match-asked.branch [
       | in-None+in_ok-advanced-in-None w ↦ subst (λ (r : g.row.R.Denot). IsSoundAt (range_kept s c.match-asked.advanced) (g.R.Reader.list r) c.match-asked.advanced.position) (sym w.reader-is)
           (made_sound s c.match-asked.advanced _ (g.R.Reader.list w.fill_at.new.reader) w.advanced-is
           (refilled_sound s h here (g.R.Reader.list w.fill_at.new.reader) c.args.p _ first (prefix_trans h here (g.R.Reader.list w.fill_at.new.reader) first w.fill_at.ensures.moves.kept) c.look.ensures c.requires.entered c.requires.within stands w.in_ok-advanced-in-None.ensures.filled))
       | in-Some-asked+in_ok-advanced-in-Some-asked w ↦ subst (λ (r : g.row.R.Denot). IsSoundAt (range_kept s c.match-asked.advanced) (g.R.Reader.list r) c.match-asked.advanced.position) (sym w.reader-is)
-          (reached_sound s c.match-asked.advanced _ (g.R.Reader.list w.advance_held.new.reader) c.args.p w.advanced-is w.in_ok-advanced-in-Some-asked.ensures.advanced.position w.in_ok-advanced-in-Some-asked.ensures.sound)
+          (reached_sound s c.match-asked.advanced _ here c.args.p w.advanced-is w.in_ok-advanced-in-Some-asked.ensures.advanced.position (w.in_ok-advanced-in-Some-asked.ensures.sound here
+          (can_advance s c.in-Some.held c.in-Some-replace.held c.args.self.now h here c.args.p (g.R.Reader.floor c.args.reader.now) c.needs-needs.result.now w.in-Some-asked.reported.items w.as_slice.result.now view same c.requires.order
+          c.needs-needs.ensures w.as_slice.ensures.value c.ask_needs.ensures.moves.kept c.requires.within (c.ask_needs.ensures.moves.entered c.requires.entered) stands c.requires.sound
+          (subst (λ (o : Option (Vec Change Global)). IfSome o (λ changes. AreReportedBetween h c.in-Some.held.position c.args.p s.rank c.needs-needs.result.now (change_keys changes.items))) w.in-Some-asked.is c.in_ok-asked.ensures.complete)
+          (subst (λ (o : Option (Vec Change Global)). IfSome o (λ changes. HaveValues (below (take c.args.p h) s.rank) changes.items)) w.in-Some-asked.is c.in_ok-asked.ensures.values))))
     ]
 
 pub returns-in_err-asked-clause-sound : goal.returns-in_err-asked-clause-sound
@@ -133,7 +136,7 @@ returns-clause-moves g c =
     let total = λ (r : g.row.R.Denot). λ (m : Moves g.R.Reader.list g.R.Reader.floor g.R.Reader.went c.ask_needs.new.reader r). moves_trans g.R.Reader.list g.R.Reader.floor g.R.Reader.went c.args.reader.now c.ask_needs.new.reader r (g.met.R.Reader.went_trans c.args.reader.now c.ask_needs.new.reader r) c.ask_needs.ensures.moves m in
     elim c.match-asked.branch [
       | in-None+in_ok-advanced-in-None w ↦ subst (λ (r : g.row.R.Denot). Moves g.R.Reader.list g.R.Reader.floor g.R.Reader.went c.args.reader.now r) (sym w.reader-is) (total w.fill_at.new.reader w.fill_at.ensures.moves)
-      | in-Some-asked+in_ok-advanced-in-Some-asked w ↦ subst (λ (r : g.row.R.Denot). Moves g.R.Reader.list g.R.Reader.floor g.R.Reader.went c.args.reader.now r) (sym w.reader-is) (total w.advance_held.new.reader w.advance_held.ensures.moves)
+      | in-Some-asked+in_ok-advanced-in-Some-asked w ↦ subst (λ (r : g.row.R.Denot). Moves g.R.Reader.list g.R.Reader.floor g.R.Reader.went c.args.reader.now r) (sym w.reader-is) c.ask_needs.ensures.moves
     ]
 
 pub returns-clause-cost : goal.returns-clause-cost
@@ -146,16 +149,12 @@ returns-clause-cost g c =
     let same : c.in-Some-replace.held ≡ c.in-Some.held = same_Some _ _ (sym c.in-Some-replace.is ∙ c.replace.ensures.value ∙ c.in-Some.is) in
     elim c.match-asked.branch [
       | in-None+in_ok-advanced-in-None w ↦ λ q stands bare.
-          absurd (subst (λ (o : Option (Vec Key Global)). IsSomeAnd o (λ keys. AreListed c.in-Some.held.position c.args.p h needs keys.items)) w.in-None.is
+          absurd (subst (λ (o : Option (Vec Change Global)). IsSomeAnd o (λ changes. AreListed c.in-Some.held.position c.args.p h needs (change_keys changes.items))) w.in-None.is
           (c.in_ok-asked.ensures.bare (bare_held s c.in-Some.held c.args.self.now h q c.args.p needs view stands c.needs-needs.ensures bare)))
       | in-Some-asked+in_ok-advanced-in-Some-asked w ↦ λ q stands bare.
           let throughout : AreBareThroughout h c.in-Some.held.position c.args.p needs = bare_held s c.in-Some.held c.args.self.now h q c.args.p needs view stands c.needs-needs.ensures bare in
-          let listed : AreListed c.in-Some.held.position c.args.p h needs w.in-Some-asked.reported.items =
-          subst (λ (o : Option (Vec Key Global)). IsSomeAnd o (λ keys. AreListed c.in-Some.held.position c.args.p h needs keys.items)) w.in-Some-asked.is (c.in_ok-asked.ensures.bare throughout) in
           subst (λ n. n ≤ c.args.steps.now + advance_steps h q c.args.p c.args.self.now.kept.needs) (sym w.steps-is)
-          (cost_held c.advance_is_cheap.ensures c.applied_are_bare.ensures s c.in-Some.held c.in-Some-replace.held w.in_ok-advanced-in-Some-asked.advanced c.args.self.now h here q c.args.p (g.R.Reader.floor c.args.reader.now) needs w.in-Some-asked.reported.items w.as_slice.result.now
-          c.args.steps.now c.ask_needs.new.steps w.advance_held.new.steps view same stands c.requires.order c.needs-needs.ensures w.as_slice.ensures.value c.ask_needs.ensures.moves.kept c.requires.within c.in_ok-asked.ensures.ranges throughout (c.in_ok-asked.ensures.bare_cost throughout) listed
-          w.in_ok-advanced-in-Some-asked.ensures.advanced w.in_ok-advanced-in-Some-asked.ensures.cost)
+          (cost_held s c.in-Some.held c.args.self.now h q c.args.p needs c.args.steps.now c.ask_needs.new.steps view stands c.needs-needs.ensures (c.in_ok-asked.ensures.bare_cost throughout))
     ]
 
 pub returns-then-held-p-clause-few : goal.returns-then-held-p-clause-few
@@ -178,7 +177,7 @@ returns-clause-few g c =
           (filled_few most s (below (take c.args.p here) s.rank) c.args.p w.in_ok-advanced-in-None.advanced w.in_ok-advanced-in-None.ensures.filled w.in_ok-advanced-in-None.ensures.few)
       | in-Some-asked+in_ok-advanced-in-Some-asked w ↦ λ few.
           subst (λ (a : Holding). Allows most (length a.rows.needs)) (sym w.advanced-is)
-          (advanced_few most s c.in-Some.held c.in-Some-replace.held w.in_ok-advanced-in-Some-asked.advanced c.args.self.now c.args.p w.as_slice.result.now view same w.in_ok-advanced-in-Some-asked.ensures.advanced few)
+          (advanced_few most s c.in-Some.held c.in-Some-replace.held w.in_ok-advanced-in-Some-asked.advanced c.args.self.now c.args.p (change_keys w.as_slice.result.now) view same w.in_ok-advanced-in-Some-asked.ensures.advanced few)
     ]
 
 pub returns-then-held-p-clause-little : goal.returns-then-held-p-clause-little
@@ -198,14 +197,14 @@ returns-clause-little g c =
     let same : c.in-Some-replace.held ≡ c.in-Some.held = same_Some _ _ (sym c.in-Some-replace.is ∙ c.replace.ensures.value ∙ c.in-Some.is) in
     elim c.match-asked.branch [
       | in-None+in_ok-advanced-in-None w ↦ λ q stands bare.
-          absurd (subst (λ (o : Option (Vec Key Global)). IsSomeAnd o (λ keys. AreListed c.in-Some.held.position c.args.p h needs keys.items)) w.in-None.is
+          absurd (subst (λ (o : Option (Vec Change Global)). IsSomeAnd o (λ changes. AreListed c.in-Some.held.position c.args.p h needs (change_keys changes.items))) w.in-None.is
           (c.in_ok-asked.ensures.bare (bare_held s c.in-Some.held c.args.self.now h q c.args.p needs view stands c.needs-needs.ensures bare)))
       | in-Some-asked+in_ok-advanced-in-Some-asked w ↦ λ q stands bare.
-          let listed : AreListed c.in-Some.held.position c.args.p h needs w.in-Some-asked.reported.items =
-          subst (λ (o : Option (Vec Key Global)). IsSomeAnd o (λ keys. AreListed c.in-Some.held.position c.args.p h needs keys.items)) w.in-Some-asked.is
+          let listed : AreListed c.in-Some.held.position c.args.p h needs (change_keys w.in-Some-asked.reported.items) =
+          subst (λ (o : Option (Vec Change Global)). IsSomeAnd o (λ changes. AreListed c.in-Some.held.position c.args.p h needs (change_keys changes.items))) w.in-Some-asked.is
           (c.in_ok-asked.ensures.bare (bare_held s c.in-Some.held c.args.self.now h q c.args.p needs view stands c.needs-needs.ensures bare)) in
-          little_held c.few_touches.ensures c.few_applications.ensures s c.in-Some.held c.in-Some-replace.held w.in_ok-advanced-in-Some-asked.advanced c.match-asked.advanced c.args.self.now h q c.args.p needs w.in-Some-asked.reported.items w.as_slice.result.now
-          view same stands c.needs-needs.ensures w.as_slice.ensures.value listed w.in_ok-advanced-in-Some-asked.ensures.advanced w.advanced-is
+          little_held c.few_touches.ensures c.few_applications.ensures s c.in-Some.held c.in-Some-replace.held w.in_ok-advanced-in-Some-asked.advanced c.match-asked.advanced c.args.self.now h q c.args.p needs (change_keys w.in-Some-asked.reported.items) (change_keys w.as_slice.result.now)
+          view same stands c.needs-needs.ensures (ap change_keys w.as_slice.ensures.value) listed w.in_ok-advanced-in-Some-asked.ensures.advanced w.advanced-is
     ]
 
 pub returns-then-held-p-clause-least : goal.returns-then-held-p-clause-least
@@ -230,8 +229,8 @@ returns-clause-least g c =
           counts_filled s c.self.inside.held _ c.match-asked.advanced v h here c.args.p old mid w.fill_at.new.steps _ c.self.view_is w.advanced-is w.steps-is c.ask_needs.ensures.moves.kept c.requires.within
           w.in_ok-advanced-in-None.ensures.filled c.in_ok-asked.ensures.counted w.in_ok-advanced-in-None.ensures.least
       | in-Some-asked+in_ok-advanced-in-Some-asked w ↦ λ q stands less.
-          let asked : old + length needs ≤ mid = subst (λ (o : Option (Vec Key Global)). IfSome o (λ keys. old + length needs ≤ mid)) w.in-Some-asked.is c.in_ok-asked.ensures.least in
-          counts_asked s c.in-Some.held v (range_kept s c.match-asked.advanced) (below (take c.args.p h) v.rank) c.args.p needs old mid w.advance_held.new.steps _ view c.needs-needs.ensures w.steps-is asked w.in_ok-advanced-in-Some-asked.ensures.counted
+          let asked : old + length needs ≤ mid = subst (λ (o : Option (Vec Change Global)). IfSome o (λ _. old + length needs ≤ mid)) w.in-Some-asked.is c.in_ok-asked.ensures.least in
+          counts_asked s c.in-Some.held v (range_kept s c.match-asked.advanced) (below (take c.args.p h) v.rank) c.args.p needs old mid mid _ view c.needs-needs.ensures w.steps-is asked (omega arith)
     ]
 
 pub returns-then-held-p-clause-few_notes : goal.returns-then-held-p-clause-few_notes

@@ -1,5 +1,5 @@
 use Rattle.std.proofs.Common.{◌≡◌, ◌≤◌, IfOk, IfSome, length, ap, ◌∙◌, refl, sym, subst}
-use Rattle.growing_history.specs.Changes.{changed_keys}
+use Rattle.base_versions.specs.Valued.{base_changes}
 use Rattle.growing_history.specs.Entered.{HasEntered}
 use Rattle.write_history.specs.Marks.{reach}
 use Rattle.write_history.specs.Passes.{PassView}
@@ -7,16 +7,16 @@ use Rattle.base_shards.proofs.ReadingLemmas.{reads_on-trans, sees_still}
 use Rattle.shared_reader.proofs.GivenLemmas.{reads_moves, stays_moves}
 use Rattle.shared_reader.proofs.reader.SharedReaderBaseSource.base_changes.Goals as goal
 
-pub known_keys-requires : goal.known_keys-requires
-known_keys-requires g c = (c.self.inside.pass.view, c.self.invariant.2)
+pub known_changes-requires : goal.known_changes-requires
+known_changes-requires g c = (c.self.inside.pass.view, c.self.invariant.2)
 
 -- from what is known
 
 pub returns-in-Some-clause-exact : goal.returns-in-Some-clause-exact
 returns-in-Some-clause-exact g c =
-    let known = c.known_keys.ensures c.self.inside.pass.view c.self.invariant.2 in
-    subst (λ o. IfSome o (λ keys. keys.items ≡ changed_keys c.args.q c.args.p c.args.range.now c.self.inside.pass.view)) c.in-Some.is known
-    ∙ ap (λ (v : PassView). changed_keys c.args.q c.args.p c.args.range.now v.view) c.self.view_is
+    let known = c.known_changes.ensures c.self.inside.pass.view c.self.invariant.2 in
+    subst (λ o. IfSome o (λ found. found.items ≡ base_changes c.args.q c.args.p c.args.range.now c.self.inside.pass.view)) c.in-Some.is known
+    ∙ ap (λ (v : PassView). base_changes c.args.q c.args.p c.args.range.now v.view) c.self.view_is
 
 pub returns-in-Some-clause-entered : goal.returns-in-Some-clause-entered
 returns-in-Some-clause-entered g c = subst (λ (v : PassView). HasEntered v.view) c.self.view_is c.self.invariant.0.recorded.entered
@@ -43,7 +43,7 @@ look_further-requires-clause-above g c = subst (λ m. reach m ≤ c.args.q) (sym
 
 pub returns-clause-exact : goal.returns-clause-exact
 returns-clause-exact g c =
-    subst (λ (v : PassView). IfOk c.ask_changes-asked.result (λ keys. keys.items ≡ changed_keys c.args.q c.args.p c.args.range.now v.view)) c.self.view_is c.ask_changes-asked.ensures.exact
+    subst (λ (v : PassView). IfOk c.ask_changes-asked.result (λ found. found.items ≡ base_changes c.args.q c.args.p c.args.range.now v.view)) c.self.view_is c.ask_changes-asked.ensures.exact
 
 pub returns-clause-entered : goal.returns-clause-entered
 returns-clause-entered g c = subst (λ (v : PassView). HasEntered v.view) c.self.view_is c.self.invariant.0.recorded.entered

@@ -16,7 +16,7 @@ pub struct Answered {
 impl Answered {
     /// How many entries the reply names.
     pub fn position<R: Abort>(&self, rt: &R) -> u64 {
-        match self.reply {
+        match &self.reply {
             Reply::Done(position)
             | Reply::Found(position, _)
             | Reply::Absent(position)
@@ -24,7 +24,8 @@ impl Answered {
             | Reply::Refused(position, _)
             | Reply::Gone(position)
             | Reply::Ahead(position)
-            | Reply::Changes(_, position, _) => position,
+            | Reply::Changes(_, position, _) => *position,
+            Reply::Written(scan) => scan.position(),
             _ => panic!(rt; "a reply that names no position"),
         }
     }

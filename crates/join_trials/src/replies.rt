@@ -6,11 +6,14 @@ ghost use Rattle.std.specs.Prelude.{◌≢◌};
 
 use crate::answer::Answer;
 use crate::words::{read_cause, read_changes, read_pairs};
+use join_types::Pair;
 use key_space::Value;
+use out_of_memory::OutOfMemory;
 use request_codec::{
-    LONG_LINE, LineFault, Reply, cause_name, long_line, memory_line, number_value, text_value,
-    write, write_ok, write_row,
+    LONG_LINE, LineFault, PairsWriter, Reply, WrittenPairs, cause_name, long_line, memory_line,
+    number_value, text_value, write, write_ok, write_row,
 };
+use row_sink::RowSink;
 use std::alloc::{AllocError, Global};
 use test_rows::Fields;
 
@@ -65,6 +68,24 @@ fn tell_pairs(alloc: Global, fields: &mut Fields<'_>, answer: &mut Answer) -> Op
     tell_line(alloc, &Reply::Pairs(position, pairs), answer)
 }
 
+/// The line of the answer to a scan with these pairs, written pair by pair.
+fn written(alloc: Global, position: u64, pairs: &[Pair]) -> Result<WrittenPairs, OutOfMemory> {
+    let mut writer = PairsWriter::begin(alloc, position)?;
+    for pair in pairs {
+        writer.push(pair.key.text(), pair.value.text())?;
+    }
+    writer.end(position)
+}
+
+/// Tells the line of pairs that is written pair by pair, and the number of entries that the reply names.
+fn tell_written(alloc: Global, fields: &mut Fields<'_>, answer: &mut Answer) -> Option<()> {
+    let position = fields.number();
+    let pairs = read_pairs(alloc, fields.next())?;
+    let scan = written(alloc, position, pairs.as_slice()).ok()?;
+    answer.show(&scan.position());
+    tell_line(alloc, &Reply::Written(scan), answer)
+}
+
 /// Tells the line of changes.
 fn tell_changes(alloc: Global, fields: &mut Fields<'_>, answer: &mut Answer) -> Option<()> {
     let from = fields.number();
@@ -115,6 +136,7 @@ pub fn run(alloc: Global, kind: &str, fields: &mut Fields<'_>, answer: &mut Answ
         "found" => tell_found(alloc, fields, answer),
         "absent" => tell_line(alloc, &Reply::Absent(fields.number()), answer),
         "pairs" => tell_pairs(alloc, fields, answer),
+        "written" => tell_written(alloc, fields, answer),
         "gone" => tell_line(alloc, &Reply::Gone(fields.number()), answer),
         "ahead" => tell_line(alloc, &Reply::Ahead(fields.number()), answer),
         "changes" => tell_changes(alloc, fields, answer),

@@ -1,5 +1,5 @@
 // Rows in packed leaves.
-ghost use Rattle.std.specs.Prelude.{◌≡◌, ◌≤◌, ◌++◌, [], length, take, drop, not, is_some, IfOk, OnOk, OnErr, IsTrue};
+ghost use Rattle.std.specs.Prelude.{◌≡◌, ◌+◌, ◌≤◌, ◌++◌, [], length, take, drop, not, is_some, IfOk, OnOk, OnErr, IsTrue};
 ghost use Rattle.std.specs.FinMap.Entries.{is_sorted};
 ghost use Rattle.semantics.specs.Texts.{text_cmp, with_pair, without_key, pairs_where, pairs_within};
 ghost use Rattle.semantics.specs.Patterns.{bind};
@@ -11,10 +11,12 @@ ghost use Rattle.packed_rows.specs.Leaves.{all_rows, AreLeaves};
 use crate::dropping::drop_between;
 use crate::leaf::{Leaf, Span};
 use crate::leaves::{leaf_of, put_counted, remove_counted};
+use crate::refusing::refusal;
 use join_types::Pair;
 use key_pattern::{Pattern, Slots};
 use key_space::{Key, Range, Value};
 use out_of_memory::OutOfMemory;
+use row_sink::RowSink;
 use std::alloc::Global;
 use std::marker::Model;
 
@@ -94,6 +96,29 @@ fn copy_span(
     Ok(())
 }
 
+/// Hands the rows of a leaf that lie in the range to the sink, in order, and says how many there are. It takes two searches in the
+/// leaf, and what the sink takes for each row.
+fn hand_span<K: RowSink>(leaf: &Leaf, range: &Range, sink: &mut K) -> Result<usize, OutOfMemory>
+    ensures rows { OnOk result (K.got sink.old sink.new (pairs_within range.now leaf.now)) }
+    ensures number { IfOk result (λ count. count ≡ length (pairs_within range.now leaf.now)) }
+{
+    let span = leaf.span(range);
+    for place in span.from..span.to {
+        sink.push(leaf.key(place), leaf.value(place))?;
+    }
+    Ok(span.to.saturating_sub(span.from))
+}
+
+/// The sum of two numbers of rows. Rows of which there are 2^64 or more have no memory. It takes constant time.
+fn sum_of(alloc: Global, count: usize, more: usize) -> Result<usize, OutOfMemory>
+    ensures { IfOk result (λ sum. sum ≡ count + more) }
+{
+    match count.checked_add(more) {
+        Some(sum) => Ok(sum),
+        None => Err(refusal(alloc)),
+    }
+}
+
 impl PackedRows {
     /// No pairs; they grow by this allocator. Nothing is allocated yet.
     pub fn new(alloc: Global) -> PackedRows
@@ -168,6 +193,21 @@ impl PackedRows {
             copy_span(self.alloc, leaf, range, &mut pairs)?;
         }
         Ok(pairs)
+    }
+
+    /// Hands the pairs whose keys lie in the range to the sink, in order, and says how many there are. It takes the search for the
+    /// range, and what the sink takes for each pair. No text is copied here.
+    pub fn hand_within<K: RowSink>(&self, range: &Range, sink: &mut K) -> Result<usize, OutOfMemory>
+        ensures rows { OnOk result (K.got sink.old sink.new (pairs_within range.now self.now)) }
+        ensures number { IfOk result (λ count. count ≡ length (pairs_within range.now self.now)) }
+    {
+        let mut count = 0;
+        let leaves = self.leaves_within(range);
+        for leaf in leaves {
+            let more = hand_span(leaf, range, sink)?;
+            count = sum_of(self.alloc, count, more)?;
+        }
+        Ok(count)
     }
 
     /// Leaves out the pairs whose keys fit the pattern under the slots. It takes the search for the range that holds every such key,

@@ -114,7 +114,7 @@ pub fn reach<E: Copy, R: Reader, L: Ledger>(
 
 /// Brings it to where p entries stand, and mends it where something pending meets the range. The gate is passed before it is
 /// filled, and before it is mended.
-fn make_ready<E: Copy, R: Reader, G: Gate, L: Ledger>(
+pub(crate) fn make_ready<E: Copy, R: Reader, G: Gate, L: Ledger>(
     state: &mut RangeState,
     p: u64,
     range: &Range,

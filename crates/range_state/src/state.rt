@@ -32,6 +32,7 @@ use join_rows::Rows;
 use join_types::{Join, Pair};
 use key_space::{Key, Range};
 use out_of_memory::OutOfMemory;
+use row_sink::RowSink;
 use source_changes::ask_needs;
 use source_changes::laws::{few_applications, few_touches};
 use std::alloc::Global;
@@ -368,6 +369,32 @@ impl RangeState {
         let pairs = held.rows.within(range)?;
         steps.count_call(pairs.len());
         Ok(pairs)
+    }
+
+    /// Hands its rows in a range to the sink, in the order of their keys, as `read` gives them. It takes the search for the range,
+    /// and what the sink takes for each row. No text is copied here.
+    ///
+    /// It takes one step, and one for each row that it hands out.
+    pub fn hand<K: RowSink, L: Ledger>(
+        &self,
+        range: &Range,
+        sink: &mut K,
+        steps: &mut Steps<L>,
+    ) -> Result<(), OutOfMemory>
+        requires stands { IsSome self.now.position }
+        requires clear { pending_meets self.now range.now ≡ false }
+        ensures rows { OnOk result (K.got sink.old sink.new (pairs_within range.now self.now.kept.rows)) }
+        ensures output { (h : History) (q : ℕ) → HasEntered h → StandsAt q self.now → IsSound self.now h →
+            pairs_within range.now self.now.kept.rows ≡ pairs_within range.now (pairs_within self.now.range (out self.now.join (below (take q h) self.now.rank))) }
+        ensures counted { steps.old ≤ steps.new }
+        ensures cost { OnOk result (steps.new ≡ steps.old + 1 + length (pairs_within range.now self.now.kept.rows)) }
+    {
+        let Some(held) = &self.held else {
+            unreachable!()
+        };
+        let count = held.rows.hand_within(range, sink)?;
+        steps.count_call(count);
+        Ok(())
     }
 
     /// What changed in a range of its output since a position, at or before the one where it stands: `All` exactly where

@@ -19,7 +19,7 @@ items_tokens-items_of [] = refl
 items_tokens-items_of (item ∷ items) = ap (λ rest. item_tokens item ++ rest) (items_tokens-items_of items) ∙ sym (append_assoc (item_tokens item) (tokens_of_items items) (end_array ∷ []))
 
 -- the tokens of an array are those of its items between two brackets
-tokens_of_items-list_of : (items : List Data) → tokens_of_items (list_of items ∷ []) ≡ begin_array ∷ (tokens_of_items items ++ end_array ∷ [])
+pub tokens_of_items-list_of : (items : List Data) → tokens_of_items (list_of items ∷ []) ≡ begin_array ∷ (tokens_of_items items ++ end_array ∷ [])
 tokens_of_items-list_of items = append-nil (item_tokens (list_of items)) ∙ ap (λ rest. begin_array ∷ rest) (items_tokens-items_of items)
 
 -- the tokens of an opening bracket, of items, and of a closing bracket, one behind another

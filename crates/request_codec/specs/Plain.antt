@@ -11,7 +11,7 @@ use Rattle.request_codec.specs.declared.request.Request.TheVariants.{Put, Remove
 use Rattle.request_codec.specs.declared.request.LineFault.{LineFault}
 use Rattle.request_codec.specs.declared.request.LineFault.TheVariants.{Json, Form, Key, Value, Range, Syntax, OutOfMemory}
 use Rattle.request_codec.specs.declared.reply.Reply.{Reply}
-use Rattle.request_codec.specs.declared.reply.Reply.TheVariants.{Done, Found, Absent, Pairs, Refused, Gone, Ahead, Changes, Unread, Long, Memory, Bye}
+use Rattle.request_codec.specs.declared.reply.Reply.TheVariants.{Done, Found, Absent, Pairs, Written, Refused, Gone, Ahead, Changes, Unread, Long, Memory, Bye}
 
 -- a request as a write, a read, a question about an earlier position, or the end of the session
 abbrev pub plain_request : Request → plain.Request
@@ -63,6 +63,7 @@ plain_reply (Done position) = replies.done position
 plain_reply (Found position value) = replies.answered (answers.found position value)
 plain_reply (Absent position) = replies.answered (answers.absent position)
 plain_reply (Pairs position pairs) = replies.answered (answers.pairs position pairs.items)
+plain_reply (Written scan) = replies.answered (answers.pairs scan.position scan.pairs)
 plain_reply (Refused position cause) = replies.refused position (plain_cause cause)
 plain_reply (Gone position) = replies.gone position
 plain_reply (Ahead position) = replies.ahead position
@@ -71,3 +72,19 @@ plain_reply (Unread fault) = unread_or_memory (plain_fault fault)
 plain_reply Long = replies.long
 plain_reply (Memory _) = replies.memory
 plain_reply Bye = replies.bye
+
+-- the reply's line is not there yet
+abbrev pub IsUnwritten : Reply → Type 0
+IsUnwritten (Done position) = Unit {0}
+IsUnwritten (Found position value) = Unit {0}
+IsUnwritten (Absent position) = Unit {0}
+IsUnwritten (Pairs position pairs) = Unit {0}
+IsUnwritten (Written scan) = ⊥
+IsUnwritten (Refused position cause) = Unit {0}
+IsUnwritten (Gone position) = Unit {0}
+IsUnwritten (Ahead position) = Unit {0}
+IsUnwritten (Changes from position changes) = Unit {0}
+IsUnwritten (Unread fault) = Unit {0}
+IsUnwritten Long = Unit {0}
+IsUnwritten (Memory memory) = Unit {0}
+IsUnwritten Bye = Unit {0}

@@ -2,7 +2,8 @@
 //
 // The layers above cut bytes into lines with `Lines`, or a text that is there whole with `split_first_line`, read each with
 // `read`, and write each reply with `write` and other rows with `write_row`; contracts speak of requests and replies by the
-// definitions of `protocol`.
+// definitions of `protocol`. The answer to a scan may be written while its pairs are handed out one by one, with `PairsWriter`, and
+// is a reply whose line is there already.
 #![tactic(auto)]
 
 pub mod fixed;
@@ -14,6 +15,7 @@ pub mod reply;
 pub mod request;
 pub mod rows;
 pub mod writing;
+pub mod written;
 
 pub use fixed::{LONG_LINE, OkLine, long_line, memory_line, write_ok};
 pub use items::{position_of, text_of};
@@ -23,3 +25,4 @@ pub use reply::Reply;
 pub use request::{LineFault, Request};
 pub use rows::{number_value, text_value, write_row};
 pub use writing::{cause_name, write};
+pub use written::{PairsWriter, WrittenPairs};

@@ -1,5 +1,6 @@
 // Replies.
 use crate::request::LineFault;
+use crate::written::WrittenPairs;
 use change_lists::Change;
 use join_types::{Cause, Pair};
 use key_space::Value;
@@ -16,6 +17,8 @@ pub enum Reply {
     Absent(u64),
     /// The pairs in the range after so many entries, in key order.
     Pairs(u64, Vec<Pair>),
+    /// The pairs in the range after so many entries, in key order, as the line of the reply already.
+    Written(WrittenPairs),
     /// The write has this verdict after so many entries.
     Refused(u64, Cause),
     /// The position that was asked for lies too far back: so many entries there are.

@@ -5,7 +5,7 @@ ghost use Rattle.protocol.specs.Rows.{whole_number, list_of};
 ghost use Rattle.protocol.specs.JoinsFile.{cause_name};
 ghost use Rattle.protocol.specs.Replies.{pair_item, value_items, change_item, changed_items, error_items, cause_items, reply_items, reply_text};
 ghost use Rattle.join_types.specs.Causes.{plain_cause};
-ghost use Rattle.request_codec.specs.Plain.{plain_reply};
+ghost use Rattle.request_codec.specs.Plain.{IsUnwritten, plain_reply};
 ghost use Rattle.request_codec.specs.Tokens.{Appends};
 
 use crate::lines::LINE_END;
@@ -62,14 +62,21 @@ fn reply_room(reply: &Reply) -> usize {
     texts.saturating_add(FRAME_ROOM)
 }
 
+/// Writes a key and its value as an array of both. Linear in both.
+pub(crate) fn write_texts(writer: &mut Writer, key: &str, value: &str) -> Result<(), AllocError>
+    ensures { OnOk result (Appends writer.old writer.new (pair_item (key.now, value.now) ∷ [])) }
+{
+    writer.begin_array()?;
+    writer.string(key)?;
+    writer.string(value)?;
+    writer.end_array()
+}
+
 /// Writes a pair as an array of its key and its value. Linear in both.
 fn write_pair(writer: &mut Writer, pair: &Pair) -> Result<(), AllocError>
     ensures { OnOk result (Appends writer.old writer.new (pair_item pair.now ∷ [])) }
 {
-    writer.begin_array()?;
-    writer.string(pair.key.text())?;
-    writer.string(pair.value.text())?;
-    writer.end_array()
+    write_texts(writer, pair.key.text(), pair.value.text())
 }
 
 /// Writes pairs as an array of arrays. Linear in their texts.
@@ -126,7 +133,7 @@ fn write_numbers(writer: &mut Writer, numbers: &[u64]) -> Result<(), AllocError>
 }
 
 /// Writes a word and a number. Linear in the word.
-fn write_numbered(writer: &mut Writer, word: &str, number: u64) -> Result<(), AllocError>
+pub(crate) fn write_numbered(writer: &mut Writer, word: &str, number: u64) -> Result<(), AllocError>
     ensures { OnOk result (Appends writer.old writer.new (string word.now ∷ whole_number number ∷ [])) }
 {
     writer.string(word)?;
@@ -211,7 +218,8 @@ fn write_fault(writer: &mut Writer, fault: &LineFault) -> Result<(), AllocError>
 
 /// Writes the items of the array that a reply is. Linear in them.
 fn write_items(writer: &mut Writer, reply: &Reply) -> Result<(), AllocError>
-    requires { reply.now ≢ Reply.Unread (LineFault.OutOfMemory tt) }
+    requires has_text { reply.now ≢ Reply.Unread (LineFault.OutOfMemory tt) }
+    requires unwritten { IsUnwritten reply.now }
     ensures { OnOk result (Appends writer.old writer.new (reply_items (plain_reply reply.now))) }
 {
     match reply {
@@ -225,6 +233,7 @@ fn write_items(writer: &mut Writer, reply: &Reply) -> Result<(), AllocError>
             write_numbered(writer, "pairs", *position)?;
             write_pairs(writer, pairs.as_slice())
         }
+        Reply::Written(_) => unreachable!(),
         Reply::Refused(position, cause) => write_cause(writer, *position, cause),
         Reply::Gone(position) => write_refusal(writer, "gone", *position),
         Reply::Ahead(position) => write_refusal(writer, "ahead", *position),
@@ -240,7 +249,8 @@ fn write_items(writer: &mut Writer, reply: &Reply) -> Result<(), AllocError>
 
 /// Writes the array that a reply is. Linear in its text.
 fn write_reply(writer: &mut Writer, reply: &Reply) -> Result<(), AllocError>
-    requires { reply.now ≢ Reply.Unread (LineFault.OutOfMemory tt) }
+    requires has_text { reply.now ≢ Reply.Unread (LineFault.OutOfMemory tt) }
+    requires unwritten { IsUnwritten reply.now }
     ensures { OnOk result (Appends writer.old writer.new (list_of (reply_items (plain_reply reply.now)) ∷ [])) }
 {
     writer.begin_array()?;
@@ -248,13 +258,10 @@ fn write_reply(writer: &mut Writer, reply: &Reply) -> Result<(), AllocError>
     writer.end_array()
 }
 
-/// The line of a reply: the compact text of its array (RFC 8259), and the byte 10. Linear in it: each text is copied
-/// once, into the line.
-///
-/// `Unread` of `OutOfMemory` has no line of its own: what is answered for such a line is `Memory`. `OutOfMemory` comes
-/// only where none is found for the line.
-pub fn write(alloc: Global, reply: &Reply) -> Result<Vec<u8>, OutOfMemory>
-    requires { reply.now ≢ Reply.Unread (LineFault.OutOfMemory tt) }
+/// The line of a reply that is not there yet. Linear in it: each text is copied once, into the line.
+fn write_line(alloc: Global, reply: &Reply) -> Result<Vec<u8>, OutOfMemory>
+    requires has_text { reply.now ≢ Reply.Unread (LineFault.OutOfMemory tt) }
+    requires unwritten { IsUnwritten reply.now }
     ensures { IfOk result (λ line. line.items ≡ reply_text (plain_reply reply.now)) }
 {
     let mut writer = Writer::new(Vec::with_capacity(alloc, reply_room(reply))?);
@@ -262,4 +269,28 @@ pub fn write(alloc: Global, reply: &Reply) -> Result<Vec<u8>, OutOfMemory>
     let mut line = writer.into_inner();
     line.push(LINE_END)?;
     Ok(line)
+}
+
+/// A copy of bytes. Linear in them.
+fn copy_of(alloc: Global, bytes: &[u8]) -> Result<Vec<u8>, OutOfMemory>
+    ensures { IfOk result (λ copy. copy.items ≡ bytes.now) }
+{
+    let mut copy = Vec::with_capacity(alloc, bytes.len())?;
+    copy.extend_from_slice(bytes)?;
+    Ok(copy)
+}
+
+/// The line of a reply: the compact text of its array (RFC 8259), and the byte 10. Linear in it: each text is copied
+/// once, into the line, and where the line is there already, it is copied.
+///
+/// `Unread` of `OutOfMemory` has no line of its own: what is answered for such a line is `Memory`. `OutOfMemory` comes
+/// only where none is found for the line.
+pub fn write(alloc: Global, reply: &Reply) -> Result<Vec<u8>, OutOfMemory>
+    requires { reply.now ≢ Reply.Unread (LineFault.OutOfMemory tt) }
+    ensures { IfOk result (λ line. line.items ≡ reply_text (plain_reply reply.now)) }
+{
+    match reply {
+        Reply::Written(scan) => copy_of(alloc, scan.line()),
+        reply => write_line(alloc, reply),
+    }
 }

@@ -17,7 +17,7 @@ use Rattle.growing_history.proofs.ElementLemmas.{all_left, all_right}
 use Rattle.growing_history.proofs.PrefixLemmas.{by_first}
 use Rattle.request_codec.specs.Plain.{plain_reply}
 use Rattle.request_codec.specs.declared.reply.Reply.{Reply}
-use Rattle.request_codec.specs.declared.reply.Reply.TheVariants.{Done, Found, Absent, Pairs, Refused, Gone, Ahead, Changes, Unread, Long, Memory, Bye}
+use Rattle.request_codec.specs.declared.reply.Reply.TheVariants.{Done, Found, Absent, Pairs, Written, Refused, Gone, Ahead, Changes, Unread, Long, Memory, Bye}
 use Rattle.request_codec.specs.declared.request.LineFault.{LineFault}
 use Rattle.request_codec.specs.declared.request.LineFault.TheVariants.{Json, Form, Key, Value, Range, Syntax, OutOfMemory}
 use Rattle.write_history.specs.Entries.{written_by}
@@ -47,6 +47,7 @@ no_other_reply (Done n) says not_done not_memory not_unread = not_done n refl
 no_other_reply (Found n value) says not_done not_memory not_unread = says
 no_other_reply (Absent n) says not_done not_memory not_unread = says
 no_other_reply (Pairs n pairs) says not_done not_memory not_unread = says
+no_other_reply (Written scan) says not_done not_memory not_unread = says
 no_other_reply (Refused n cause) says not_done not_memory not_unread = says
 no_other_reply (Gone n) says not_done not_memory not_unread = says
 no_other_reply (Ahead n) says not_done not_memory not_unread = says

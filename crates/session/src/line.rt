@@ -78,7 +78,7 @@ fn send_text<S: Service, L: Link>(
     }
 }
 
-/// Writes the line of a reply, or that of `Memory` where no memory is found for it. The lines of `Done`, `Memory` and
+/// Writes the line of a reply, or that of `Memory` where no memory is found for it. The lines of `Done`, `Written`, `Memory` and
 /// `Bye` take none. Before that of `Memory` is written the service makes room: who was answered so may ask again at once.
 /// `Quit`: it was `Bye`. `WriteFault`: a write failed.
 fn send_reply<S: Service, L: Link>(
@@ -113,6 +113,7 @@ fn send_reply<S: Service, L: Link>(
             LineFault::OutOfMemory(memory) => send(link, memory_line(memory)),
             _ => send_text(alloc, service, link, reply),
         },
+        Reply::Written(scan) => send(link, scan.line()),
         reply => send_text(alloc, service, link, reply),
     }
 }

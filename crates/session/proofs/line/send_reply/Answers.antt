@@ -1,6 +1,7 @@
 -- What was sent is the reply, or `memory`.
 use Rattle.std.proofs.Common.{refl, inl, arith}
-use Rattle.protocol.specs.Replies.{done, memory, bye}
+use Rattle.semantics.specs.Answers.{pairs}
+use Rattle.protocol.specs.Replies.{answered, done, memory, bye}
 use Rattle.session.proofs.SendLemmas.{has_text, sends_text, sends_part}
 use Rattle.session.proofs.line.send_reply.Goals as goal
 use Rattle.session.proofs.SendLemmas.{memory_unread}
@@ -25,6 +26,14 @@ returns-in-Memory-clause-sent g c = (
   rw c.in-Memory.is refl,
   sends_text _ c.send-in-Memory.result _ _ _ memory c.memory_line.ensures refl c.send-in-Memory.ensures.whole c.send-in-Memory.ensures.part,
 )
+
+pub returns-in-Written-clause-sent : goal.returns-in-Written-clause-sent
+returns-in-Written-clause-sent g c =
+    let reply = answered (pairs c.in-Written.scan.position c.in-Written.scan.pairs) in (
+      reply,
+      rw c.in-Written.is (inl refl),
+      sends_text _ c.send-in-Written.result _ _ _ reply c.line.ensures refl c.send-in-Written.ensures.whole c.send-in-Written.ensures.part,
+    )
 
 pub returns-in-OutOfMemory-clause-sent : goal.returns-in-OutOfMemory-clause-sent
 returns-in-OutOfMemory-clause-sent g c = (

@@ -1,10 +1,10 @@
 -- The joins of a set by their positions and numbers, and those that a range reaches.
-use Rattle.std.specs.Prelude.{◌≡◌, ◌&&◌, ◌==◌, ℕ, ◌≤◌, List, length, slice_get, slice_index, take, Bool, true, false, Option, Some, None, option_map}
+use Rattle.std.specs.Prelude.{◌≡◌, ◌&&◌, ◌==◌, ℕ, ◌<◌, ◌≤◌, List, length, not, slice_get, slice_index, take, Bool, true, false, Option, Some, None, option_map}
 use Rattle.semantics.specs.Texts.{Text, Range}
 use Rattle.semantics.specs.Joins.{Join}
 use Rattle.semantics.specs.Histories.{History, DeclaredJoin}
 use Rattle.semantics.specs.States.{ranks_of}
-use Rattle.layering.specs.Reached.{reaches}
+use Rattle.layering.specs.Reached.{reaches, ReachesOne}
 use Rattle.cell_slots.specs.Slots.{StandsNot}
 use Rattle.join_set.specs.Sets.{Joins, AreJoins}
 use Rattle.join_eval.specs.declared.between.Between.{Between}
@@ -17,6 +17,21 @@ use Rattle.join_eval.specs.Answers.{ListsExactly, TellsBetween}
 abbrev pub IsReachedAt : List DeclaredJoin → ℕ → ℕ → Range → Bool → Type 0
 IsReachedAt joins i rank range answer =
     (s : DeclaredJoin) → slice_get joins i ≡ Some s → answer ≡ ((slice_index (ranks_of joins) i == rank) && reaches range s)
+
+-- whether the join with a number is another than the one with a number, and a range reaches its output
+abbrev pub IsReachedBeside : List DeclaredJoin → ℕ → ℕ → Range → Bool → Type 0
+IsReachedBeside joins k i range answer = (s : DeclaredJoin) → slice_get joins k ≡ Some s → answer ≡ (not (k == i) && reaches range s)
+
+-- of the joins with the first numbers the range reaches the output of none, but perhaps of the one with a number
+abbrev pub AreUnreachedBut : List DeclaredJoin → Range → ℕ → ℕ → Type 0
+AreUnreachedBut joins range i upto = (k : ℕ) (s : DeclaredJoin) → k < upto → slice_get joins k ≡ Some s → (k ≡ i → ⊥) → reaches range s ≡ false
+
+-- of all joins a range reaches the output of the one alone that was declared at a position and has a rank, or of none
+pub record IsOnlyReached (joins : List DeclaredJoin) (range : Range) (at rank : ℕ) : Type 0 where
+  pub place : ℕ
+  pub join : Join
+  pub one : ReachesOne range joins place (record { position = at; join = join })
+  pub ranked : slice_index (ranks_of joins) place ≡ rank
 
 -- the join with a number was declared at a position, or none that was stands among the joins
 abbrev pub IsNumberIn : List DeclaredJoin → ℕ → Option ℕ → Type 0

@@ -1,8 +1,8 @@
 // The joins of a set by their positions and ranks, and those whose outputs a range reaches.
-ghost use Rattle.std.specs.Prelude.{◌≡◌, ◌<◌, ◌≤◌, IfOk, IfSome, length, map, option_copied};
+ghost use Rattle.std.specs.Prelude.{◌≡◌, ◌<◌, ◌≤◌, IfOk, IfSome, false, length, map, option_copied};
 ghost use Rattle.layering.specs.Reached.{reached};
 ghost use Rattle.cell_slots.specs.Slots.{IsRankIn};
-ghost use Rattle.base_reader.specs.Reaching.{IsJoinIn, IsNumberIn, IsReachedAt, SaysBetween};
+ghost use Rattle.base_reader.specs.Reaching.{AreUnreachedBut, IsJoinIn, IsNumberIn, IsOnlyReached, IsReachedAt, IsReachedBeside, SaysBetween};
 
 use join_eval::Between;
 use join_set::JoinSet;
@@ -40,6 +40,56 @@ pub fn reached_in(
         }
     }
     Ok(ats)
+}
+
+/// Whether the join with a number is not the one with another, and the range reaches its output. Linear in the bounds.
+fn is_reached_beside(joins: &JoinSet, k: usize, i: usize, range: &Range) -> bool
+    requires { k < length joins.now.standing }
+    ensures { IsReachedBeside joins.now.standing k i range.now result }
+{
+    if k == i {
+        return false;
+    }
+    let join = joins.join(k);
+    join.output.bind_range(range).is_some()
+}
+
+/// Finds the number of the first join whose output the range reaches. Linear in the joins, and in the bounds for each.
+fn first_reached(joins: &JoinSet, range: &Range) -> Option<usize>
+    ensures { IfSome result (λ i. i < length joins.now.standing) }
+{
+    for i in 0..joins.len() {
+        if joins.join(i).output.bind_range(range).is_some() {
+            return Some(i);
+        }
+    }
+    None
+}
+
+/// Whether the range reaches the output of a join beside the one with a number. Linear in the joins, and in the bounds for each.
+fn reaches_beside(joins: &JoinSet, i: usize, range: &Range) -> bool
+    ensures { result ≡ false → AreUnreachedBut joins.now.standing range.now i (length joins.now.standing) }
+{
+    for k in 0..joins.len() {
+        if is_reached_beside(joins, k, i, range) {
+            return true;
+        }
+    }
+    false
+}
+
+/// Finds the one join whose output the range reaches: the position of its declaration, and its rank. None where the range reaches
+/// none, or several. Linear in the joins, and in the bounds for each.
+pub fn only_reached(joins: &JoinSet, range: &Range) -> Option<(u64, u8)>
+    ensures only { IfSome result (λ one. IsOnlyReached joins.now.standing range.now one.0 one.1) }
+    ensures shallow { IfSome result (λ one. one.1 ≤ 7) }
+{
+    let i = first_reached(joins, range)?;
+    let others = reaches_beside(joins, i, range);
+    if others {
+        return None;
+    }
+    Some((joins.at(i), joins.rank(i)))
 }
 
 /// Finds the number of the join that was declared at a position; none exactly where it does not stand among the joins. Linear in

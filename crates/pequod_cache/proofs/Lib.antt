@@ -5,3 +5,4 @@ pub mod SeatLemmas
 pub mod EarlierLemmas
 pub mod AddingLemmas
 pub mod MeetLemmas
+pub mod ScanningLemmas

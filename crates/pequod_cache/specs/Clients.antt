@@ -9,7 +9,8 @@ use Rattle.write_history.specs.Marks.{before}
 use Rattle.write_history.specs.Passes.{HistoryId, PassView, new_pass}
 use Rattle.write_history.specs.declared.known.Mark.TheVariants.{Free}
 use Rattle.protocol.specs.Requests.{Earlier}
-use Rattle.protocol.specs.Replies.{Reply}
+use Rattle.semantics.specs.Answers.{pairs}
+use Rattle.protocol.specs.Replies.{Reply, answered}
 use Rattle.protocol.specs.Earlier.{earlier_reply}
 
 -- the pass that a client has, while it lends it to none
@@ -44,6 +45,13 @@ pub record IsFound (before after : PassView) (range : Range) (position : ℕ) (p
   pub goes_on : IsPrefix seen after.view
   pub at : position ≡ length seen
   pub is : pairs ≡ pairs_within range (state seen)
+
+-- a scan was answered after all entries that the client had seen, and others that it saw then
+pub record IsScanned (before after : PassView) (range : Range) (reply : Reply) : Type 0 where
+  pub seen : History
+  pub begins : IsPrefix before.view seen
+  pub goes_on : IsPrefix seen after.view
+  pub is : reply ≡ answered (pairs (length seen) (pairs_within range (state seen)))
 
 -- a question about an earlier position was answered after all entries that the client had seen, and others that it saw then
 pub record IsReplied (before after : PassView) (e : Earlier) (reply : Reply) : Type 0 where

@@ -4,3 +4,4 @@ pub mod Sitting
 pub mod Alone
 pub mod Adding
 pub mod Meeting
+pub mod Scanning

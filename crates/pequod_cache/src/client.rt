@@ -9,7 +9,7 @@ ghost use Rattle.request_codec.specs.Plain.{plain_reply, plain_request};
 ghost use Rattle.write_history.specs.Entries.{IsRecorded};
 ghost use Rattle.write_history.specs.Passes.{GoesOn, own};
 ghost use Rattle.write_history.specs.declared.known.Mark.TheVariants.{Free};
-ghost use Rattle.pequod_cache.specs.Clients.{IsFound, IsReplied};
+ghost use Rattle.pequod_cache.specs.Clients.{IsFound, IsReplied, IsScanned};
 ghost use Rattle.pequod_cache.specs.Questions.{asked};
 
 use crate::cache::Cache;
@@ -260,13 +260,55 @@ impl<'g, N: Naming, G: Gate> Client<'g, N, G> {
         }
     }
 
-    /// The pairs of the range in the state after all entries that the history has now: `Pairs` with their number, or `Memory`.
+    /// Scans the range: it looks, brings its joins there, is pinned there while it reads, and lets go of the pin. The counter is
+    /// one that nobody looks at.
+    fn scan_counted<L: Ledger, R: Wait>(
+        &mut self,
+        rt: &R,
+        range: &Range,
+        blank: Blank,
+    ) -> Result<Reply, OutOfMemory>
+        requires name { blank.name ≡ L.name }
+        requires parts { blank.parts ≡ L.parts }
+        requires some { 0 < blank.parts }
+        ensures scanned { IfOk result (λ reply. IsScanned self.old self.new range.now (plain_reply reply)) }
+        ensures goes_on { GoesOn self.old self.new }
+        ensures own { own self.new ≡ own self.old }
+    {
+        let Some(mut pass) = self.pass.take() else {
+            unreachable!()
+        };
+        let seen = self.cache.look(rt, &mut pass, &mut self.joins);
+        let position = match seen {
+            Err(memory) => {
+                self.pass = Some(pass);
+                return Err(memory);
+            }
+            Ok(position) => position,
+        };
+        let mut steps: Steps<L> = Steps::open(blank);
+        let alloc = self.alloc;
+        let joins = &self.joins;
+        let cache = &self.cache;
+        let told = cache.scan(
+            rt, alloc, pass, joins, position, range, self.gate, &mut steps,
+        );
+        let ToldBack { pass, reply } = told;
+        let mut pass = pass;
+        self.cache.history.unpin(rt, &mut pass);
+        self.pass = Some(pass);
+        reply
+    }
+
+    /// The pairs of the range in the state after all entries that the history has now: `Pairs` or `Written` with their number, or
+    /// `Memory`. It is `Written` where what is kept of one join's output has them all: then no pair is copied but into the reply's
+    /// line. It waits and costs as `read` does besides.
     pub fn scan<R: Wait>(&mut self, rt: &R, range: &Range) -> Reply
         ensures told { Told self.old.view self.new.view self.old.number (read (scan range.now) ∷ []) (plain_reply result ∷ []) }
         ensures goes_on { GoesOn self.old self.new }
     {
-        match self.read(rt, range) {
-            Ok(Found { position, pairs }) => Reply::Pairs(position, pairs),
+        match self.scan_counted::<Brand, R>(rt, range, Blank::new(1)) {
+            Ok(reply) => reply,
             Err(memory) => Reply::Memory(memory),
         }
     }

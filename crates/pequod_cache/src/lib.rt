@@ -14,6 +14,7 @@ pub mod cache;
 pub mod client;
 mod earlier;
 pub mod meeting;
+mod scanning;
 pub mod seats;
 pub mod service;
 pub mod updater;

@@ -11,5 +11,5 @@ pub mod stack;
 pub mod turning;
 
 pub use changing::Feed;
-pub use range_cells::{RangeCells, Reading};
+pub use range_cells::{RangeCells, Reading, Scanned};
 pub use turning::{Turn, Turned};

@@ -1,5 +1,5 @@
 // The cells and base pairs that threads share, as one.
-ghost use Rattle.std.specs.Prelude.{◌≡◌, ◌≤◌, All, length, take, IfOk};
+ghost use Rattle.std.specs.Prelude.{◌≡◌, ◌≤◌, All, length, take, IfOk, MatchOption};
 ghost use Rattle.std.specs.Arc.{arc_value};
 ghost use Rattle.semantics.specs.Texts.{pairs_within};
 ghost use Rattle.join_set.specs.Sets.{AreJoins};
@@ -11,6 +11,7 @@ ghost use Rattle.range_cells.specs.Asked.{pairs_asked};
 
 use crate::asked::read_asked;
 use crate::stack::Stack;
+use base_reader::reaching::only_reached;
 use base_shards::{BaseShards, Naming};
 use join_eval::Changed;
 use join_set::JoinSet;
@@ -18,6 +19,7 @@ use join_types::Pair;
 use key_space::Range;
 use out_of_memory::OutOfMemory;
 use pq_io::Gate;
+use row_sink::RowSink;
 use shared_cells::SharedCells;
 use shared_layers::Room;
 use shared_reader::SharedReader;
@@ -34,6 +36,15 @@ pub struct Reading {
     pub pass: Pass,
     /// The pairs, in key order, or that no memory was found.
     pub found: Result<Vec<Pair>, OutOfMemory>,
+}
+
+/// What a scan gives back: the pass that it was given, and what it found.
+#[derive(Drop)]
+pub struct Scanned {
+    /// The pass. It is the same, has written nothing, and may have seen more.
+    pub pass: Pass,
+    /// The pairs, in key order, none where the sink was handed them, or that no memory was found.
+    pub found: Result<Option<Vec<Pair>>, OutOfMemory>,
 }
 
 /// Reads the state of a history at any position that a pinned pass has seen, up to 65,536 entries before its pin, and keeps ranges
@@ -113,6 +124,39 @@ impl<N: Naming> RangeCells<N> {
     {
         let all = Changed::All;
         self.read_asked(rt, pass, joins, p, range, &all, gate, steps)
+    }
+
+    /// Reads as `read` does, but hands the pairs to the sink, in key order, where one cell has them all: none of them is copied
+    /// then. Where others have some of them they are given, and what the sink has then is not said.
+    pub fn scan<W: Wait, G: Gate, K: RowSink, L: Ledger>(
+        &self,
+        rt: &W,
+        pass: Pass,
+        joins: &JoinSet,
+        p: u64,
+        range: &Range,
+        gate: &G,
+        sink: &mut K,
+        steps: &mut Steps<L>,
+    ) -> Scanned
+        requires same_history { pass.history ≡ N.history }
+        requires recorded { IsRecorded pass.writers pass.view }
+        requires within { p ≤ length pass.view }
+        requires pinned { ReachesBack pass p }
+        requires joins { AreJoins (reach pass.mark) joins.now (take p pass.view) }
+        ensures exact { IfOk result.found (λ found. MatchOption found (K.got sink.old sink.new (pairs_within range.now (state (take p pass.view))))
+            (λ pairs. pairs.items ≡ pairs_within range.now (state (take p pass.view)))) }
+        ensures reads_on { ReadsOn pass result.pass }
+        ensures counted { steps.old ≤ steps.new }
+    {
+        self.cells.follow(rt, &self.shards, joins);
+        let only = only_reached(joins, range);
+        let common = self.room(rt, gate);
+        let mut stack = self.stack(&common, joins, p, pass);
+        let found = stack.scan(p, range, only, sink, steps);
+        let (pass, used) = stack.into_parts();
+        self.cells.settle(rt, &self.shards, used.as_slice());
+        Scanned { pass, found }
     }
 
     /// What all layers of readers have in common that wait with this one and pass this gate.

@@ -1,6 +1,8 @@
 // The reader of all ranks, where threads share the history.
-ghost use Rattle.std.specs.Prelude.{◌≡◌, ◌≤◌, length, take, IfErr, IfOk, IfSome};
+ghost use Rattle.std.specs.Prelude.{◌≡◌, ◌≤◌, length, take, IfErr, IfOk, IfSome, MatchOption};
+ghost use Rattle.std.specs.Bool.{OnTrue};
 ghost use Rattle.semantics.specs.Texts.{pairs_within};
+ghost use Rattle.semantics.specs.Histories.{joins_of};
 ghost use Rattle.semantics.specs.States.{state};
 ghost use Rattle.write_history.specs.Marks.{reach};
 ghost use Rattle.base_shards.specs.Reading.{ReadsOn};
@@ -8,6 +10,7 @@ ghost use Rattle.join_eval.specs.Answers.{AnswersChanges};
 ghost use Rattle.join_eval.specs.Bounds.{OnTooWide};
 ghost use Rattle.join_eval.specs.Moves.{Moves};
 ghost use Rattle.cell_slots.specs.Slots.{IsRankAt};
+ghost use Rattle.base_reader.specs.Reaching.{IsOnlyReached};
 ghost use Rattle.shared_cells.specs.Advancing.{AdvancesCell};
 ghost use Rattle.shared_cells.specs.Cells.{IsWideCell};
 ghost use Rattle.range_cells.specs.Turns.{AdvancesLittle};
@@ -18,8 +21,9 @@ use join_types::Pair;
 use key_space::Range;
 use out_of_memory::OutOfMemory;
 use pq_io::Gate;
+use row_sink::RowSink;
 use shared_cells::Cell;
-use shared_layers::{AllRanks, Rank, RankReader, Room};
+use shared_layers::{AllRanks, Rank, RankReader, Room, hand_range};
 use shared_reader::{SharedReader, Stacked, Use};
 use std::marker::{Model, PhantomData};
 use std::sync::Wait;
@@ -106,6 +110,85 @@ impl<'a, N: Naming, W: Wait, G: Gate> Stack<'a, N, W, G> {
         ensures counted { steps.old ≤ steps.new }
     {
         AllRanks::pairs(self.room, &mut self.lowest, p, range, 8, steps)
+    }
+
+    /// Hands the pairs of a range in the state after the first p entries that the pass has seen to the sink, in key order, and says
+    /// whether it did, as `hand_range` does: only where one join's output is reached, which is named, and one cell has it.
+    fn hand<K: RowSink, L: Ledger>(
+        &mut self,
+        p: u64,
+        range: &Range,
+        at: u64,
+        rank: u8,
+        sink: &mut K,
+        steps: &mut Steps<L>,
+    ) -> Result<bool, OutOfMemory>
+        requires within { p ≤ length self.old.view }
+        requires above { reach self.old.mark ≤ p }
+        requires only { IsOnlyReached (joins_of (take p self.old.view)) range.now at rank }
+        requires shallow { rank ≤ 7 }
+        ensures handed { IfOk result (λ gave. OnTrue gave (K.got sink.old sink.new (pairs_within range.now (state (take p self.old.view))))) }
+        ensures reads_on { ReadsOn self.old self.new }
+        ensures counted { steps.old ≤ steps.new }
+    {
+        let mut reader: RankReader<'_, 'a, N, W, G, SharedReader<'a, N, W>, AllRanks> = RankReader {
+            room: self.room,
+            lowest: &mut self.lowest,
+            rank: PhantomData,
+        };
+        hand_range(self.room, p, range, at, rank, &mut reader, sink, steps)
+    }
+
+    /// Hands the pairs of a range out as `hand` does, where one join's output alone is reached.
+    fn try_hand<K: RowSink, L: Ledger>(
+        &mut self,
+        p: u64,
+        range: &Range,
+        only: Option<(u64, u8)>,
+        sink: &mut K,
+        steps: &mut Steps<L>,
+    ) -> Result<bool, OutOfMemory>
+        requires within { p ≤ length self.old.view }
+        requires above { reach self.old.mark ≤ p }
+        requires only { IfSome only (λ one. IsOnlyReached (joins_of (take p self.old.view)) range.now one.0 one.1) }
+        requires shallow { IfSome only (λ one. one.1 ≤ 7) }
+        ensures handed { IfOk result (λ gave. OnTrue gave (K.got sink.old sink.new (pairs_within range.now (state (take p self.old.view))))) }
+        ensures reads_on { ReadsOn self.old self.new }
+        ensures counted { steps.old ≤ steps.new }
+    {
+        match only {
+            None => Ok(false),
+            Some((at, rank)) => self.hand(p, range, at, rank, sink, steps),
+        }
+    }
+
+    /// Hands the pairs of a range in the state after the first p entries that the pass has seen to the sink, in key order, or gives
+    /// them: where one cell has them all they are handed out, and none is copied. What the sink has then is not said where they are
+    /// given. The join whose output alone the range reaches is named by the position of its declaration, with its rank, if there is
+    /// one.
+    pub fn scan<K: RowSink, L: Ledger>(
+        &mut self,
+        p: u64,
+        range: &Range,
+        only: Option<(u64, u8)>,
+        sink: &mut K,
+        steps: &mut Steps<L>,
+    ) -> Result<Option<Vec<Pair>>, OutOfMemory>
+        requires within { p ≤ length self.old.view }
+        requires above { reach self.old.mark ≤ p }
+        requires only { IfSome only (λ one. IsOnlyReached (joins_of (take p self.old.view)) range.now one.0 one.1) }
+        requires shallow { IfSome only (λ one. one.1 ≤ 7) }
+        ensures exact { IfOk result (λ found. MatchOption found (K.got sink.old sink.new (pairs_within range.now (state (take p self.old.view))))
+            (λ pairs. pairs.items ≡ pairs_within range.now (state (take p self.old.view)))) }
+        ensures reads_on { ReadsOn self.old self.new }
+        ensures counted { steps.old ≤ steps.new }
+    {
+        let handed = self.try_hand(p, range, only, sink, steps)?;
+        if handed {
+            return Ok(None);
+        }
+        let pairs = self.read(p, range, steps)?;
+        Ok(Some(pairs))
     }
 
     /// What may have changed in a range of the state between the first q and the first p entries that the pass has seen: keys of

@@ -3,3 +3,4 @@ pub mod SpotLemmas
 pub mod PartLemmas
 pub mod DirectoryLemmas
 pub mod CellLemmas
+mod HandingLemmas

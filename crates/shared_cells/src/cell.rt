@@ -231,7 +231,7 @@ impl<N: Naming> Cell<N> {
     /// pass and the reader see what either has seen.
     ///
     /// On `OutOfMemory` nothing is kept.
-    fn lend<R: Stacked<N>>(
+    pub(crate) fn lend<R: Stacked<N>>(
         &mut self,
         alloc: Global,
         query: Query,
@@ -267,7 +267,7 @@ impl<N: Naming> Cell<N> {
     }
 
     /// Keeps what was taken out. The pass and the reader see what either has seen.
-    fn give_back<R: Stacked<N>>(&mut self, state: RangeState, reader: &mut R)
+    pub(crate) fn give_back<R: Stacked<N>>(&mut self, state: RangeState, reader: &mut R)
         requires right { IsRightFor (R.list reader.old) self.old.at state }
         requires ranked { state.rank ≡ self.old.rank }
         requires just { state.range ≡ self.old.range }

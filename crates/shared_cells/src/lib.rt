@@ -11,6 +11,7 @@ mod book;
 pub mod cell;
 mod directory;
 mod followed;
+mod handing;
 mod idle;
 mod listing;
 mod listings;

@@ -1,10 +1,12 @@
 // One part of a range, from the cell that has it, which threads share, or with nothing kept.
 ghost use Rattle.std.specs.Prelude.{◌≡◌, ◌+◌, ◌≤◌, length, IfOk, IfSome};
+ghost use Rattle.std.specs.Bool.{OnTrue};
 ghost use Rattle.semantics.specs.Joins.{Join as PlainJoin};
 ghost use Rattle.growing_history.specs.Entered.{HasEntered};
 ghost use Rattle.join_eval.specs.Moves.{Moves};
 ghost use Rattle.cell_slots.specs.Slots.{IsOutput, StandsAs};
 ghost use Rattle.rank_layers.specs.Telling.{TellsJoin};
+ghost use Rattle.shared_cells.specs.Handing.{HandsOut};
 
 use crate::room::Room;
 use base_shards::Naming;
@@ -16,6 +18,7 @@ use pq_io::Gate;
 use range_gaps::output_part;
 use range_serving::serve_alone;
 use rank_layers::Query;
+use row_sink::RowSink;
 use shared_cells::{Cell, Part};
 use shared_reader::{Stacked, Use};
 use std::sync::Wait;
@@ -119,6 +122,75 @@ fn read_cell<N: Naming, W: Wait, G: Gate, R: Stacked<N>, L: Ledger>(
     own.follow(*id, followed_since(since, rows), reader);
     reader.note_use(Use { id: *id, rows });
     found
+}
+
+/// How many rows the cell holds. None where it keeps nothing.
+fn rows_held<N: Naming>(cell: &Cell<N>) -> Option<u64> {
+    let _position = cell.position()?;
+    Some(cell.rows())
+}
+
+/// Takes note that the cell was used, unless it handed nothing out.
+fn note_handed<N: Naming, R: Stacked<N>>(
+    handed: &Result<bool, OutOfMemory>,
+    used: Use,
+    reader: &mut R,
+)
+    ensures { Moves R.list R.floor R.went reader.old reader.new }
+{
+    let is_left = matches!(handed, Ok(false));
+    if is_left {
+        return;
+    }
+    reader.note_use(used);
+}
+
+/// Hands what the join gives in the part to the sink, from the cell that has it, and says whether it did: not where no cell has it
+/// any more, where the cell is for another join or for another rank of it or has not the whole part, where what it keeps stands
+/// past the position, and where it keeps nothing or would have more needs than may be kept. The cell follows the ranges of base
+/// pairs that were read for it, unless it keeps nothing, and where it handed them out the reader takes note that it was used. While
+/// another thread has it, this one sleeps.
+///
+/// While this one has it, the reader below reads for it only where the cell is for the rank that is asked for, and then only ranks
+/// below that one: so only cells of lower ranks are asked for under its lock.
+pub fn hand_part<N: Naming, W: Wait, G: Gate, R: Stacked<N>, K: RowSink, L: Ledger>(
+    room: &Room<'_, N, W, G>,
+    query: Query,
+    part: &Part<N>,
+    reader: &mut R,
+    sink: &mut K,
+    steps: &mut Steps<L>,
+) -> Result<bool, OutOfMemory>
+    requires within { query.p ≤ length (R.list reader.old) }
+    requires above { R.floor reader.old ≤ query.p }
+    requires stands { (j : PlainJoin) × StandsAs (R.list reader.old) query.p query.at query.rank j }
+    requires ranked { query.rank ≤ R.top }
+    ensures handed { IfOk result (λ gave. OnTrue gave (HandsOut K.got (R.list reader.old) query.p query.at query.rank part.now.range sink.old sink.new steps.old steps.new)) }
+    ensures moves { Moves R.list R.floor R.went reader.old reader.new }
+    ensures counted { steps.old ≤ steps.new }
+{
+    let Some((id, cell)) = &part.cell else {
+        return Ok(false);
+    };
+    let mut guard = cell.lock(room.rt);
+    let Some(own) = &mut *guard else {
+        return Ok(false);
+    };
+    let since = reader.start_noting();
+    let handed = own.hand(
+        room.alloc,
+        query,
+        &part.range,
+        room.most,
+        room.gate,
+        reader,
+        sink,
+        steps,
+    );
+    let rows = rows_held(own);
+    own.follow(*id, followed_since(since, rows), reader);
+    note_handed(&handed, Use { id: *id, rows }, reader);
+    handed
 }
 
 /// Reads what the join gives in the part: from the cell that has it, while there is the cell and what it keeps does not stand past

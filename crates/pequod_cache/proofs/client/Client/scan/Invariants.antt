@@ -1,0 +1,4 @@
+use Rattle.pequod_cache.proofs.client.Client.scan.Given as goal
+
+abbrev pub ghosts-scan_counted : goal.ghosts-scan_counted
+ghosts-scan_counted g a = record { name = a.blank.name; parts = a.blank.parts }

@@ -1,0 +1,105 @@
+use Rattle.std.proofs.Common.{◌≡◌, ℕ, ◌≤◌, IfSome, Option, Some, None, sym, ap, ◌∙◌, subst, refl}
+use Rattle.std.specs.Bool.{OnFalse}
+use Rattle.std.proofs.lemmas.Option.{none-some, same_Some}
+use Rattle.join_eval.proofs.MovesLemmas.{moves_trans}
+use Rattle.rank_layers.proofs.PartLemmas.{right_after}
+use Rattle.kept_ranges.specs.Sound.{KeptRange}
+use Rattle.range_state.specs.Ready.{IsReady}
+use Rattle.range_serving.specs.Serving.{StandsFrom, output_within}
+use Rattle.range_serving.proofs.AdvancedLemmas.{on_err_always}
+use Rattle.shared_cells.specs.Cells.{IsHeldOrEmpty, IsHeldOrStandsAt, IsLentFor}
+use Rattle.shared_cells.proofs.CellLemmas.{held_there, lent_within, right_of_lent, rank_of_lent, output_of_lent}
+use Rattle.shared_cells.proofs.HandingLemmas.{few_handed, hands_out}
+use Rattle.shared_cells.proofs.cell.Cell.hand.Goals as goal
+
+pub hand_kept-handed-requires-clause-stands : goal.hand_kept-handed-requires-clause-stands
+hand_kept-handed-requires-clause-stands g c =
+    let lent = subst (λ o. IfSome o (IsLentFor c.lend.new.self c.args.query.at c.args.query.rank c.args.query.p c.args.part.now)) c.in-Some.is c.in_ok-state.ensures.lent in
+    rank_of_lent c.lend.new.self (g.R.Reader.list c.args.reader.now) (g.R.Reader.list c.lend.new.reader) c.args.query.at c.args.query.rank c.args.query.p c.args.part.now c.in-Some.state c.requires.stands.0
+    c.requires.within c.lend.ensures.moves.kept c.lend.ensures.met lent c.requires.stands.1
+
+pub hand_kept-handed-requires-clause-from : goal.hand_kept-handed-requires-clause-from
+hand_kept-handed-requires-clause-from g c = subst (λ o. IfSome o (StandsFrom (g.R.Reader.floor c.lend.new.reader))) c.in-Some.is c.in_ok-state.ensures.from
+
+pub hand_kept-handed-requires-clause-above : goal.hand_kept-handed-requires-clause-above
+hand_kept-handed-requires-clause-above g c = subst (λ (n : ℕ). n ≤ c.args.query.p) (sym c.lend.ensures.moves.same_floor) c.requires.above
+
+pub give_back-requires-clause-right : goal.give_back-requires-clause-right
+give_back-requires-clause-right g c =
+    let list = g.R.Reader.list in
+    let lent = subst (λ o. IfSome o (IsLentFor c.lend.new.self c.args.query.at c.args.query.rank c.args.query.p c.args.part.now)) c.in-Some.is c.in_ok-state.ensures.lent in
+    right_after (list c.lend.new.reader) (list c.hand_kept-handed.new.reader) c.lend.new.self.at c.in-Some.state c.hand_kept-handed.new.state c.hand_kept-handed.ensures.moves.kept
+    (right_of_lent c.lend.new.self (list c.lend.new.reader) c.args.query.at c.args.query.rank c.args.query.p c.args.part.now c.in-Some.state c.lend.ensures.met lent)
+    c.hand_kept-handed.ensures.same c.hand_kept-handed.ensures.sound
+
+pub returns-in_err-handed-clause-moves : goal.returns-in_err-handed-clause-moves
+returns-in_err-handed-clause-moves g c =
+    let list = g.R.Reader.list in let floor = g.R.Reader.floor in let went = g.R.Reader.went in
+    moves_trans list floor went c.args.reader.now c.lend.new.reader c.give_back.new.reader (g.met.R.Reader.went_trans c.args.reader.now c.lend.new.reader c.give_back.new.reader) c.lend.ensures.moves
+    (moves_trans list floor went c.lend.new.reader c.hand_kept-handed.new.reader c.give_back.new.reader (g.met.R.Reader.went_trans c.lend.new.reader c.hand_kept-handed.new.reader c.give_back.new.reader)
+    c.hand_kept-handed.ensures.moves c.give_back.ensures.moves)
+
+pub returns-clause-moves : goal.returns-clause-moves
+returns-clause-moves g c =
+    let list = g.R.Reader.list in let floor = g.R.Reader.floor in let went = g.R.Reader.went in
+    moves_trans list floor went c.args.reader.now c.lend.new.reader c.give_back.new.reader (g.met.R.Reader.went_trans c.args.reader.now c.lend.new.reader c.give_back.new.reader) c.lend.ensures.moves
+    (moves_trans list floor went c.lend.new.reader c.hand_kept-handed.new.reader c.give_back.new.reader (g.met.R.Reader.went_trans c.lend.new.reader c.hand_kept-handed.new.reader c.give_back.new.reader)
+    c.hand_kept-handed.ensures.moves c.give_back.ensures.moves)
+
+pub returns-clause-handed : goal.returns-clause-handed
+returns-clause-handed g c =
+    let list = g.R.Reader.list in
+    let query = c.args.query in
+    let lent = subst (λ o. IfSome o (IsLentFor c.lend.new.self query.at query.rank query.p c.args.part.now)) c.in-Some.is c.in_ok-state.ensures.lent in
+    hands_out g.K.RowSink.got (list c.args.reader.now) query.p query.at query.rank c.args.part.now c.args.sink.now c.hand_kept-handed.new.sink c.args.steps.now c.hand_kept-handed.new.steps c.in_ok-handed.field-0
+    (output_within c.in-Some.state (list c.lend.new.reader) query.p c.args.part.now)
+    (output_of_lent c.lend.new.self (list c.args.reader.now) (list c.lend.new.reader) query.at query.rank query.p c.args.part.now c.in-Some.state (output_within c.in-Some.state (list c.lend.new.reader) query.p c.args.part.now)
+    c.requires.within c.lend.ensures.moves.kept c.lend.ensures.met lent refl) c.in_ok-handed.ensures.output c.in_ok-handed.ensures.cost
+
+-- ---- where it cannot serve
+
+pub returns-in_err-handed-clause-left : goal.returns-in_err-handed-clause-left
+returns-in_err-handed-clause-left g c = λ cannot. absurd (none-some c.in-Some.state (sym (c.in_ok-state.ensures.none cannot) ∙ c.in-Some.is))
+
+pub returns-in_err-handed-clause-idle : goal.returns-in_err-handed-clause-idle
+returns-in_err-handed-clause-idle g c = λ cannot. absurd (none-some c.in-Some.state (sym (c.in_ok-state.ensures.none cannot) ∙ c.in-Some.is))
+
+pub returns-clause-left : goal.returns-clause-left
+returns-clause-left g c = λ cannot. absurd (none-some c.in-Some.state (sym (c.in_ok-state.ensures.none cannot) ∙ c.in-Some.is))
+
+pub returns-clause-idle : goal.returns-clause-idle
+returns-clause-idle g c = λ cannot. absurd (none-some c.in-Some.state (sym (c.in_ok-state.ensures.none cannot) ∙ c.in-Some.is))
+
+-- ---- what is kept
+
+pub returns-in_default-clause-still : goal.returns-in_default-clause-still
+returns-in_default-clause-still g c = λ ready. absurd (none-some ready.state (sym c.in_default.is ∙ c.in_ok-state.ensures.ready ready ∙ ready.holds))
+
+pub returns-clause-still : goal.returns-clause-still
+returns-clause-still g c = λ ready.
+    let p = c.args.query.p in
+    let own : c.in-Some.state ≡ ready.state = same_Some c.in-Some.state ready.state (sym c.in-Some.is ∙ c.in_ok-state.ensures.ready ready ∙ ready.holds) in
+    let there : IsReady p c.args.part.now c.in-Some.state = subst (IsReady p c.args.part.now) (sym own) ready.ready in
+    c.give_back.ensures.held ∙ ap (λ (s : KeptRange). Some s) (c.hand_kept-handed.ensures.still there ∙ own) ∙ sym ready.holds
+
+pub returns-clause-few : goal.returns-clause-few
+returns-clause-few g c = λ few.
+    let whose : IsHeldOrEmpty c.args.self.now.held c.in-Some.state = subst (λ o. IfSome o (IsHeldOrEmpty c.args.self.now.held)) c.in-Some.is c.in_ok-state.ensures.whose in
+    few_handed c.args.most c.in-Some.state c.hand_kept-handed.new.state c.give_back.new.self.held c.in_ok-handed.field-0 c.give_back.ensures.held (lent_within c.args.most c.args.self.now.held c.in-Some.state whose few) c.in_ok-handed.ensures.few
+
+pub returns-in_default-clause-gone : goal.returns-in_default-clause-gone
+returns-in_default-clause-gone g c = λ can. absurd (c.in_ok-state.ensures.served can c.in_default.is)
+
+pub returns-clause-gone : goal.returns-clause-gone
+returns-clause-gone g c = λ can.
+    subst (λ (held : Option KeptRange). OnFalse c.in_ok-handed.field-0 (IfSome held (λ s. s.position ≡ None))) (sym c.give_back.ensures.held) c.in_ok-handed.ensures.gone
+
+pub returns-in_err-state-clause-err : goal.returns-in_err-state-clause-err
+returns-in_err-state-clause-err g c =
+    on_err_always c.from_residual.result (subst (IsHeldOrStandsAt c.args.query.p c.args.self.now.held) (sym c.in_err-state.ensures.err) tt)
+
+pub returns-in_err-handed-clause-err : goal.returns-in_err-handed-clause-err
+returns-in_err-handed-clause-err g c =
+    let whose : IsHeldOrEmpty c.args.self.now.held c.in-Some.state = subst (λ o. IfSome o (IsHeldOrEmpty c.args.self.now.held)) c.in-Some.is c.in_ok-state.ensures.whose in
+    on_err_always c.from_residual-in_err-handed.result
+    (held_there c.args.query.p c.args.self.now.held c.give_back.new.self.held c.in-Some.state c.hand_kept-handed.new.state whose c.give_back.ensures.held c.in_err-handed.ensures.err)

@@ -1,0 +1,69 @@
+// What lies behind the lock of a cell, handed out row by row.
+ghost use Rattle.std.specs.Prelude.{◌≡◌, ◌≤◌, length, IfOk, IfSome, None, OnErr, OnOk};
+ghost use Rattle.std.specs.Bool.{OnFalse, OnTrue};
+ghost use Rattle.semantics.specs.Joins.{Join as PlainJoin};
+ghost use Rattle.join_eval.specs.Moves.{Moves};
+ghost use Rattle.cell_slots.specs.Slots.{StandsAs};
+ghost use Rattle.shared_cells.specs.Cells.{CanServe, HasSamePlace, IsHeldOrStandsAt, IsReadyCell, KeepsWithin};
+ghost use Rattle.shared_cells.specs.Handing.{HandsOut};
+
+use crate::cell::Cell;
+use base_shards::Naming;
+use key_space::Range;
+use out_of_memory::OutOfMemory;
+use pq_io::Gate;
+use range_serving::hand_kept;
+use rank_layers::Query;
+use row_sink::RowSink;
+use shared_reader::Stacked;
+use std::alloc::Global;
+use std::sync::ledger::Ledger;
+use steps::Steps;
+
+impl<N: Naming> Cell<N> {
+    /// Hands what the join gives in a part after p entries to the sink, from what is kept, and says whether it did. What is kept is
+    /// advanced where it stands below p, and mended where something pending meets the part; the gate is passed before a mend, and
+    /// before what is kept is filled again. Nothing is handed out, and what is kept stays, where the cell is for another join or
+    /// for another rank of it or has not the whole part, and where what is kept stands past p. Nor is it where nothing is kept, or
+    /// what is kept stands below the reader's floor or would have more than `most` needs: then nothing is kept.
+    ///
+    /// The cell's pass and the reader see what either has seen. Where the cell can be read over the part at once, what it keeps
+    /// stays as it is. Where it cannot serve the part, it takes no step.
+    ///
+    /// On `OutOfMemory` what is kept is as it was, or stands at p, or nothing is kept.
+    pub fn hand<R: Stacked<N>, G: Gate, K: RowSink, L: Ledger>(
+        &mut self,
+        alloc: Global,
+        query: Query,
+        part: &Range,
+        most: u64,
+        gate: &G,
+        reader: &mut R,
+        sink: &mut K,
+        steps: &mut Steps<L>,
+    ) -> Result<bool, OutOfMemory>
+        requires within { query.p ≤ length (R.list reader.old) }
+        requires above { R.floor reader.old ≤ query.p }
+        requires stands { (j : PlainJoin) × StandsAs (R.list reader.old) query.p query.at query.rank j }
+        requires ranked { query.rank ≤ R.top }
+        ensures handed { IfOk result (λ gave. OnTrue gave (HandsOut K.got (R.list reader.old) query.p query.at query.rank part.now sink.old sink.new steps.old steps.new)) }
+        ensures left { (CanServe self.old query.at query.rank query.p part.now → ⊥) → self.new.held ≡ self.old.held }
+        ensures idle { (CanServe self.old query.at query.rank query.p part.now → ⊥) → steps.new ≡ steps.old }
+        ensures still { IsReadyCell self.old query.at query.rank query.p part.now → OnOk result (self.new.held ≡ self.old.held) }
+        ensures few { KeepsWithin most self.old.held → IfOk result (λ gave. OnTrue gave (KeepsWithin most self.new.held)) }
+        ensures gone { CanServe self.old query.at query.rank query.p part.now → IfOk result (λ gave. OnFalse gave (IfSome self.new.held (λ s. s.position ≡ None))) }
+        ensures err { OnErr result (IsHeldOrStandsAt query.p self.old.held self.new.held) }
+        ensures same_place { HasSamePlace self.old self.new }
+        ensures met { self.new.pass.view ≡ R.list reader.new }
+        ensures moves { Moves R.list R.floor R.went reader.old reader.new }
+        ensures counted { steps.old ≤ steps.new }
+    {
+        let Some(state) = self.lend(alloc, query, part, reader)? else {
+            return Ok(false);
+        };
+        let mut state = state;
+        let handed = hand_kept(&mut state, query.p, part, most, gate, reader, sink, steps);
+        self.give_back(state, reader);
+        Ok(handed?)
+    }
+}

@@ -1,16 +1,19 @@
 -- The joins that a range reaches, found one after another.
 use Rattle.std.proofs.Common.{◌≡◌, ◌&&◌, ℕ, zero, suc, ◌+◌, ◌<◌, ◌≤◌, List, [], ◌∷◌, ◌++◌, Bool, true, false, cond, eqb, filter, map, zip, not, length, take, slice_get, slice_index, Option, Some, option_map, refl, sym, ap, ◌∙◌, arith}
-use Rattle.std.proofs.lemmas.Bool.{false≢true}
+use Rattle.std.specs.Prelude.{nat_le}
+use Rattle.std.specs.List.{list_all}
+use Rattle.std.proofs.lemmas.Bool.{and_parts, false≢true}
 use Rattle.std.proofs.lemmas.List.{take_more, take_all, append-nil}
 use Rattle.std.proofs.lemmas.Option.{none-some, same_Some, slice_get_within, get_or_from_slice_get}
-use Rattle.semantics.specs.Texts.{Table, Range, table_of, pairs_where}
-use Rattle.semantics.specs.Histories.{DeclaredJoin, is_computed}
+use Rattle.semantics.specs.Texts.{Text, Range, table_of}
+use Rattle.semantics.specs.Histories.{DeclaredJoin}
 use Rattle.semantics.specs.States.{ranks_of}
 use Rattle.semantics.proofs.OfRankLemmas.{length-ranks_of}
+use Rattle.growing_history.specs.Changes.{has_table, is_bare}
 use Rattle.layering.specs.Reached.{reached, reaches}
 use Rattle.layering.proofs.ReachLemmas.{reached_are_picked}
 use Rattle.join_eval.specs.declared.between.Between.TheVariants.{Steady, Bare, Other}
-use Rattle.join_set.specs.Sets.{Joins, bare_since}
+use Rattle.join_set.specs.Sets.{Joins, bare_since, last_drop}
 use Rattle.join_set.proofs.BareSinceLemmas.{bare_by_joins}
 use Rattle.base_reader.specs.Reaching.{IsReachedAt, SaysBetween}
 
@@ -112,13 +115,9 @@ other_between joins q range later computed h p floor above order within are = (
   λ bare. false≢true (sym computed ∙ (bare_by_joins floor joins h q p range above order within are).1 bare),
 )
 
--- ---- joins that hide nothing
+-- ---- bare ranges
 
-all_left : (table : Table) → pairs_where (λ key. true) table ≡ table
-all_left [] = refl
-all_left (e ∷ es) = ap (λ t. e ∷ t) (all_left es)
-
--- where no join stands nothing is hidden
-pub none_hidden : (joins : List DeclaredJoin) (table : Table) → length joins ≡ 0 → table ≡ pairs_where (λ key. not (is_computed joins key)) table
-none_hidden [] table none = sym (all_left table)
-none_hidden (s ∷ joins) table none = absurd (omega (arith, none))
+-- no output is in a range's table where none was from some position on
+pub bare_joins : (joins : Joins) (q : ℕ) (range : Range) (table : Text) → table ≡ table_of range.low → bare_since q table joins ≡ true → is_bare range joins.standing ≡ true
+bare_joins joins q range table is bare =
+    ap (λ t. list_all (λ (s : DeclaredJoin). not (has_table s.join.output t)) joins.standing) (sym is) ∙ (and_parts (list_all (λ (s : DeclaredJoin). not (has_table s.join.output table)) joins.standing) (nat_le (last_drop table joins.drops) q) bare).0

@@ -1,10 +1,12 @@
 -- Reading base pairs after some entries.
 use Rattle.std.proofs.Common.{◌≡◌, ◌==◌, ℕ, zero, suc, ◌+◌, ◌-◌, ◌%◌, ◌≤◌, ◌⊎◌, inl, inr, true, false, cond, not, List, [], ◌∷◌, ◌++◌, length, map, take, drop, Contains, None, refl, sym, ap, ◌∙◌, subst, arith, Bool, Result, Ok, Err, OnOk, OnErr}
+use Rattle.std.specs.List.{AllByRecursion}
 use Rattle.std.proofs.lemmas.Bool.{false≢true}
 use Rattle.std.proofs.lemmas.List.{take_all, take-append-drop, length-drop, length-map}
 use Rattle.semantics.specs.Texts.{Text, Table, value_at, is_range, Range, within, pairs_within, pairs_where}
 use Rattle.semantics.specs.Histories.{Entry, History, IsPrefix, joins_of, changed_at, base_of, is_computed}
 use Rattle.semantics.specs.States.{below}
+use Rattle.semantics.specs.StateLaws.{DeclaresJoins}
 use Rattle.semantics.proofs.BaseLemmas.{value_at-visible}
 use Rattle.semantics.proofs.StateLemmas.{below-zero}
 use Rattle.semantics.proofs.MemberLemmas.{contains_from_has}
@@ -14,7 +16,7 @@ use Rattle.growing_history.proofs.ChangeLemmas.{changed_keys_are_written, change
 use Rattle.growing_history.proofs.ElementLemmas.{all_from_has}
 use Rattle.growing_history.proofs.EnteredLemmas.{has_entered_taken, declares_joins}
 use Rattle.growing_history.proofs.PrefixLemmas.{take_prefix}
-use Rattle.growing_history.proofs.UnchangedLemmas.{bare_is_base, base_kept, unchanged_is_same}
+use Rattle.growing_history.proofs.UnchangedLemmas.{bare_at, bare_is_base, base_kept, unchanged_is_same}
 use Rattle.layering.proofs.StandingLemmas.{joins_stay_since}
 use Rattle.layering.proofs.LayerLemmas.{visible_within}
 use Rattle.join_eval.specs.declared.between.Between.{Between}
@@ -23,7 +25,7 @@ use Rattle.join_eval.specs.declared.reading.Changed.{Changed}
 use Rattle.join_eval.specs.declared.reading.Changed.TheVariants.{Keys, All}
 use Rattle.join_eval.specs.Answers.{AnswersChanges, ListsChanges, ListsExactly, MayNotBeKnown, TellsBetween}
 use Rattle.state_changes.specs.StateChanges.{Change, change_to}
-use Rattle.base_reader.specs.Hiding.{without_hidden}
+use Rattle.base_reader.specs.Hiding.{HidesNoPair, HidesNoValue, without_hidden}
 use Rattle.base_reader.specs.Reaching.{AnswersKeys, is_known}
 use Rattle.base_versions.specs.Kept.{Kept, StandsFor, HasEnteredInPart}
 use Rattle.base_versions.specs.Valued.{base_changes}
@@ -58,6 +60,17 @@ pub bare_read : (h : History) (p : ℕ) (range : Range) (found left : Table) →
 bare_read h p range found left entered range_is bare is left_is =
     ap length (left_is ∙ bare_is_base (take p h) 0 range (declares_joins (take p h) (has_entered_taken p h entered)) range_is bare ∙ sym is)
 
+-- joins of a longer list hide no pair of a bare range
+pub no_pair_hidden : (h more : History) (p : ℕ) (range : Range) (found : Table) → p ≤ length h → IsPrefix h more → HasEntered h → is_range range.low range.high ≡ true → found ≡ pairs_within range (base_of (take p h)) →
+    HidesNoPair (joins_of (take p more)) range found
+no_pair_hidden h more p range found inside begins entered range_is is bare =
+    let same : take p h ≡ take p more = sym (take_prefix p h more inside begins) in
+    is
+    ∙ sym (bare_is_base (take p h) 0 range (declares_joins (take p h) (has_entered_taken p h entered)) range_is (ap (λ k. is_bare range (joins_of k)) same ∙ bare))
+    ∙ ap (pairs_within range) (below-zero (take p h))
+    ∙ visible_within (take p h) range
+    ∙ (λ i. pairs_where (λ key. not (is_computed (joins_of (same i)) key)) (sym is i))
+
 -- what is left of pairs is no more
 pub left_fewer : (test : Text → Bool) (table : Table) → length (pairs_where test table) ≤ length table
 left_fewer test [] = omega arith
@@ -82,11 +95,15 @@ visible_same h q p range key order steady inside unlisted x up down =
     ∙ base_kept h q (x - q) key (λ y low high writes. unlisted ((changed_keys_are_written q p range h key).1 (inside, (y, low, omega arith, writes)))))
     ∙ sym (at q (omega arith) order)
 
+-- the changed keys of a range lie in it
+changed_inside : (h : History) (q p : ℕ) (range : Range) → AllByRecursion (λ key. within range key ≡ true) (changed_keys q p range h)
+changed_inside h q p range = all_from_has (λ key. within range key ≡ true) (changed_keys q p range h) (λ key has. ((changed_keys_are_written q p range h key).0 (contains_from_has (changed_keys q p range h) key has)).0)
+
 -- the changed keys list what changed below a rank where the same stands below it at each key that is not among them
 lists : (h : History) (q p rank : ℕ) (range : Range) → ((key : Text) → within range key ≡ true → (Contains (changed_keys q p range h) key → ⊥) → Same h q p rank key) → ListsChanges h q p rank range (changed_keys q p range h)
 lists h q p rank range same = record {
   ascend = changed_keys_ascend q p range h;
-  inside = all_from_has (λ key. within range key ≡ true) (changed_keys q p range h) (λ key has. ((changed_keys_are_written q p range h key).0 (contains_from_has (changed_keys q p range h) key has)).0);
+  inside = changed_inside h q p range;
   complete = same;
 }
 
@@ -136,6 +153,24 @@ changes_seen h more q p rank range found left inside begins none is hidden =
     hidden
     ∙ (λ i. map (without_hidden (joins_of (take_prefix p h more inside begins i))) (is i))
     ∙ hidden_seen h p rank (changed_keys q p range h) none
+
+-- at keys of a bare range the base values are what is seen
+bare_seen : (h : History) (range : Range) (keys : List Text) → DeclaresJoins h → is_range range.low range.high ≡ true → is_bare range (joins_of h) ≡ true → AllByRecursion (λ key. within range key ≡ true) keys →
+    map (change_to (base_of h)) keys ≡ map (without_hidden (joins_of h)) (map (change_to (base_of h)) keys)
+bare_seen h range [] declares range_is bare all = refl
+bare_seen h range (k ∷ ks) declares range_is bare all =
+    let seen : value_at k (base_of h) ≡ cond (not (is_computed (joins_of h) k)) (value_at k (base_of h)) None =
+    sym (bare_at h 0 range k declares range_is bare all.0) ∙ ap (value_at k) (below-zero h) ∙ value_at-visible k h in
+    λ i. record { key = k; value = seen i } ∷ bare_seen h range ks declares range_is bare all.1 i
+
+-- joins of a longer list hide no value at the changed keys of a bare range
+pub no_value_hidden : (h more : History) (q p : ℕ) (range : Range) (found : List Change) → p ≤ length h → IsPrefix h more → HasEntered h → is_range range.low range.high ≡ true → found ≡ base_changes q p range h →
+    HidesNoValue (joins_of (take p more)) range found
+no_value_hidden h more q p range found inside begins entered range_is is bare =
+    let same : take p h ≡ take p more = sym (take_prefix p h more inside begins) in
+    is
+    ∙ bare_seen (take p h) range (changed_keys q p range h) (declares_joins (take p h) (has_entered_taken p h entered)) range_is (ap (λ k. is_bare range (joins_of k)) same ∙ bare) (changed_inside h q p range)
+    ∙ (λ i. map (without_hidden (joins_of (same i))) (sym is i))
 
 -- where it is known which keys changed, no join is declared or dropped between, or the range is bare throughout
 pub known_since : (h : History) (q p : ℕ) (range : Range) (joins : Between) → TellsBetween h q p range joins → is_known joins ≡ true → (changed_at (take p h) ≤ q) ⊎ IsBareThroughout h q p range

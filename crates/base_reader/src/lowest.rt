@@ -8,7 +8,7 @@ ghost use Rattle.growing_history.specs.Entered.{HasEntered};
 ghost use Rattle.layering.specs.Reached.{reached};
 ghost use Rattle.join_eval.specs.Answers.{AnswersChanges, CostsOne, ListsExactly, TellsAtCost, TellsBetween, TellsChanges, TellsExactly, TellsValues};
 ghost use Rattle.join_eval.specs.Moves.{Moves};
-ghost use Rattle.base_reader.specs.Hiding.{without_hidden};
+ghost use Rattle.base_reader.specs.Hiding.{HidesNoPair, HidesNoValue, without_hidden};
 ghost use Rattle.base_reader.specs.Reaching.{AnswersKeys, is_known};
 
 use crate::hiding::{hide_computed, hide_values};
@@ -23,42 +23,46 @@ use out_of_memory::OutOfMemory;
 use std::sync::ledger::Ledger;
 use steps::Steps;
 
-/// Those of the base pairs after the first p entries that no output hides.
+/// Those of the base pairs of a range after the first p entries that no output hides.
 fn visible<S: BaseSource>(
     source: &mut S,
     p: u64,
+    range: &Range,
     pairs: Vec<Pair>,
 ) -> Result<Vec<Pair>, OutOfMemory>
     requires within { p ≤ length (S.list source.old) }
     requires above { S.floor source.old ≤ p }
+    requires bare { HidesNoPair (joins_of (take p (S.list source.old))) range.now pairs.items }
     ensures visible { IfOk result (λ left. left.items ≡ pairs_where (λ key. not (is_computed (joins_of (take p (S.list source.old))) key)) pairs.items) }
     ensures moves { Moves S.list S.floor S.went source.old source.new }
 {
     let alloc = source.alloc();
     if let Some(joins) = source.joins_at_hand(p) {
-        return hide_computed(alloc, joins, pairs);
+        return hide_computed(alloc, joins, range, pairs);
     }
     let joins = source.make_joins(p)?;
-    hide_computed(alloc, &joins, pairs)
+    hide_computed(alloc, &joins, range, pairs)
 }
 
-/// These changes, without the values at keys that an output holds after the first p entries.
+/// These changes of a range, without the values at keys that an output holds after the first p entries.
 fn visible_changes<S: BaseSource>(
     source: &mut S,
     p: u64,
+    range: &Range,
     changes: Vec<Change>,
 ) -> Result<Vec<Change>, OutOfMemory>
     requires within { p ≤ length (S.list source.old) }
     requires above { S.floor source.old ≤ p }
+    requires bare { HidesNoValue (joins_of (take p (S.list source.old))) range.now changes.items }
     ensures visible { IfOk result (λ left. left.items ≡ map (without_hidden (joins_of (take p (S.list source.old)))) changes.items) }
     ensures moves { Moves S.list S.floor S.went source.old source.new }
 {
     let alloc = source.alloc();
     if let Some(joins) = source.joins_at_hand(p) {
-        return hide_values(alloc, joins, changes);
+        return hide_values(alloc, joins, range, changes);
     }
     let joins = source.make_joins(p)?;
-    hide_values(alloc, &joins, changes)
+    hide_values(alloc, &joins, range, changes)
 }
 
 /// Reads what stands in the range after the first p entries below a rank, which is 0: the base pairs that no output hides.
@@ -84,7 +88,7 @@ pub fn lowest_pairs<S: BaseSource, L: Ledger>(
 {
     look_at(range);
     let pairs = source.base_pairs(p, range, steps)?;
-    visible(source, p, pairs)
+    visible(source, p, range, pairs)
 }
 
 /// Says what is so of the joins between the first q and the first p entries, for the range. It compares two numbers where the
@@ -215,6 +219,6 @@ pub fn lowest_changes<S: BaseSource, L: Ledger>(
     if !is_known(joins) {
         return Ok(Changes::Unlisted);
     }
-    let changes = visible_changes(source, p, found)?;
+    let changes = visible_changes(source, p, range, found)?;
     Ok(Changes::Listed(changes))
 }

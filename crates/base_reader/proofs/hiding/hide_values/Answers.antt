@@ -7,3 +7,6 @@ pub loop-change-preserved : goal.loop-change-preserved
 loop-change-preserved c =
     c.in_ok-push.ensures.items ∙ (λ i. c.loop-change.invariant i ++ c.seen.ensures i ∷ [])
     ∙ sym (map-append (without_hidden c.args.joins.now.standing) c.loop-change.yielded (c.in-Some.change ∷ []))
+
+pub returns-then-is_bare : goal.returns-then-is_bare
+returns-then-is_bare c = c.requires (c.is_bare.ensures c.if-is_bare.true)

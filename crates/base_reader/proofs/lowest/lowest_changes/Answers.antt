@@ -4,7 +4,7 @@ use Rattle.growing_history.proofs.PrefixLemmas.{prefix_length, take_prefix}
 use Rattle.join_eval.proofs.BetweenLemmas.{between_over}
 use Rattle.join_eval.proofs.MovesLemmas.{moves_trans}
 use Rattle.join_eval.proofs.ValueLemmas.{keys_of_valued, valued_have_values}
-use Rattle.base_reader.proofs.ReadingLemmas.{base_changes_count, changed_listed, changes_seen, known_since, unknown_since}
+use Rattle.base_reader.proofs.ReadingLemmas.{base_changes_count, changed_listed, changes_seen, known_since, no_value_hidden, unknown_since}
 use Rattle.base_reader.proofs.lowest.lowest_changes.Goals as goal
 
 pub returns-in_err-found-clause-entered : goal.returns-in_err-found-clause-entered
@@ -66,6 +66,13 @@ visible_changes-requires-clause-above g c =
     (g.met.S.BaseSource.went_trans c.args.source.now c.base_changes.new.self c.lowest_between.new.source) c.base_changes.ensures.moves c.lowest_between.ensures.moves in
     let from : g.S.BaseSource.floor c.args.source.now ≤ c.args.p = omega (arith, c.requires.above, c.requires.order) in
     subst (λ n. n ≤ c.args.p) (sym two.same_floor) from
+
+pub visible_changes-requires-clause-bare : goal.visible_changes-requires-clause-bare
+visible_changes-requires-clause-bare g c =
+    let list = g.S.BaseSource.list in
+    let two = moves_trans g.S.BaseSource.list g.S.BaseSource.floor g.S.BaseSource.went c.args.source.now c.base_changes.new.self c.lowest_between.new.source
+    (g.met.S.BaseSource.went_trans c.args.source.now c.base_changes.new.self c.lowest_between.new.source) c.base_changes.ensures.moves c.lowest_between.ensures.moves in
+    no_value_hidden (list c.args.source.now) (list c.lowest_between.new.source) c.args.q c.args.p c.args.range.now c.in_ok-found.found.items c.requires.within two.kept c.base_changes.ensures.entered c.look_at.ensures c.in_ok-found.ensures.exact
 
 pub returns-in_err-changes-clause-moves : goal.returns-in_err-changes-clause-moves
 returns-in_err-changes-clause-moves g c =

@@ -3,7 +3,7 @@ use Rattle.std.proofs.lemmas.Result.{IfOk-weaker}
 use Rattle.semantics.specs.Histories.{joins_of, is_computed}
 use Rattle.growing_history.proofs.PrefixLemmas.{prefix_length}
 use Rattle.join_eval.proofs.MovesLemmas.{moves_trans}
-use Rattle.base_reader.proofs.ReadingLemmas.{bare_read, left_fewer, visible_read}
+use Rattle.base_reader.proofs.ReadingLemmas.{bare_read, left_fewer, no_pair_hidden, visible_read}
 use Rattle.base_reader.proofs.lowest.lowest_pairs.Goals as goal
 
 pub returns-in_err-pairs-clause-entered : goal.returns-in_err-pairs-clause-entered
@@ -14,6 +14,11 @@ visible-requires-clause-above g c = subst (λ n. n ≤ c.args.p) (sym c.base_pai
 
 pub visible-requires-clause-within : goal.visible-requires-clause-within
 visible-requires-clause-within g c = let list = g.S.BaseSource.list in omega (arith, c.requires.within, prefix_length (list c.args.source.now) (list c.base_pairs.new.self) c.base_pairs.ensures.moves.kept)
+
+pub visible-requires-clause-bare : goal.visible-requires-clause-bare
+visible-requires-clause-bare g c =
+    let list = g.S.BaseSource.list in
+    no_pair_hidden (list c.args.source.now) (list c.base_pairs.new.self) c.args.p c.args.range.now c.in_ok-pairs.pairs.items c.requires.within c.base_pairs.ensures.moves.kept c.base_pairs.ensures.entered c.look_at.ensures c.in_ok-pairs.ensures.exact
 
 pub returns-clause-exact : goal.returns-clause-exact
 returns-clause-exact g c =

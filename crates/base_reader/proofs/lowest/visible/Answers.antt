@@ -1,8 +1,15 @@
-use Rattle.std.proofs.Common.{◌≡◌, List, not, IfOk, subst}
+use Rattle.std.proofs.Common.{◌≡◌, List, not, IfOk, sym, subst}
 use Rattle.semantics.specs.Texts.{pairs_where}
 use Rattle.semantics.specs.Histories.{DeclaredJoin, is_computed}
 use Rattle.join_eval.proofs.MovesLemmas.{moves_refl}
+use Rattle.base_reader.specs.Hiding.{HidesNoPair}
 use Rattle.base_reader.proofs.lowest.visible.Goals as goal
+
+pub hide_computed-requires : goal.hide_computed-requires
+hide_computed-requires g c = subst (λ (joins : List DeclaredJoin). HidesNoPair joins c.args.range.now c.args.pairs.items) (sym c.in-Some.ensures.standing) c.requires.bare
+
+pub hide_computed-requires-2 : goal.hide_computed-requires-2
+hide_computed-requires-2 g c = subst (λ (joins : List DeclaredJoin). HidesNoPair joins c.args.range.now c.args.pairs.items) (sym c.in_ok-joins.ensures.joins.standing) c.requires.bare
 
 pub returns-in-Some-clause-visible : goal.returns-in-Some-clause-visible
 returns-in-Some-clause-visible g c =

@@ -1,8 +1,14 @@
-use Rattle.std.proofs.Common.{◌≡◌, List, map, IfOk, subst}
+use Rattle.std.proofs.Common.{◌≡◌, List, map, IfOk, sym, subst}
 use Rattle.semantics.specs.Histories.{DeclaredJoin}
 use Rattle.join_eval.proofs.MovesLemmas.{moves_refl}
-use Rattle.base_reader.specs.Hiding.{without_hidden}
+use Rattle.base_reader.specs.Hiding.{HidesNoValue, without_hidden}
 use Rattle.base_reader.proofs.lowest.visible_changes.Goals as goal
+
+pub hide_values-requires : goal.hide_values-requires
+hide_values-requires g c = subst (λ (joins : List DeclaredJoin). HidesNoValue joins c.args.range.now c.args.changes.items) (sym c.in-Some.ensures.standing) c.requires.bare
+
+pub hide_values-requires-2 : goal.hide_values-requires-2
+hide_values-requires-2 g c = subst (λ (joins : List DeclaredJoin). HidesNoValue joins c.args.range.now c.args.changes.items) (sym c.in_ok-joins.ensures.joins.standing) c.requires.bare
 
 pub returns-in-Some-clause-visible : goal.returns-in-Some-clause-visible
 returns-in-Some-clause-visible g c =

@@ -300,9 +300,12 @@ impl<'g, N: Naming, G: Gate> Client<'g, N, G> {
         reply
     }
 
-    /// The pairs of the range in the state after all entries that the history has now: `Pairs` or `Written` with their number, or
-    /// `Memory`. It is `Written` where what is kept of one join's output has them all: then no pair is copied but into the reply's
-    /// line. It waits and costs as `read` does besides.
+    /// Answers with the pairs of the range in the state after all entries that the history has now: `Pairs` or `Written` with their
+    /// number, or `Memory`. It is `Written` where what is kept of one join's output has them all: then no pair is copied but into
+    /// the reply's line.
+    ///
+    /// It waits as `read` does, and costs what it does, and 4 KiB that it asks for first. Where the range reaches one join's output
+    /// alone and the line is not written, it looks up the range in the base pairs and in the directory of cells once more.
     pub fn scan<R: Wait>(&mut self, rt: &R, range: &Range) -> Reply
         ensures told { Told self.old.view self.new.view self.old.number (read (scan range.now) ∷ []) (plain_reply result ∷ []) }
         ensures goes_on { GoesOn self.old self.new }

@@ -50,7 +50,7 @@ fn scan_reply(
 impl<N: Naming> Cache<N> {
     /// What the pass, which has looked and is pinned there, is answered to a scan. These are the joins after all entries that it
     /// has seen. Where one cell has all pairs of the range, the line of the reply is written from what it keeps, and none of them
-    /// is copied besides.
+    /// is copied besides. It asks for 4 KiB for the line first, which it lets go where pairs are given.
     pub(crate) fn scan<R: Wait, G: Gate, L: Ledger>(
         &self,
         rt: &R,

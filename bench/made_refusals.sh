@@ -14,11 +14,11 @@ export LC_ALL=C
 # made of nothing.
 read -r -d '' wanted << 'END' || true
 crates/base_shards/src/shard.rt 1
+crates/join_rows/src/refusing.rt 1
 crates/load_run/src/acting.rt 1
 crates/load_run/src/declaring.rt 2
 crates/load_run/src/held.rt 1
 crates/out_of_memory/src/lib.rt 5
-crates/packed_rows/src/refusing.rt 1
 crates/request_codec/src/reading.rt 1
 crates/server/src/beside.rt 2
 crates/write_history/src/history.rt 2

@@ -24,7 +24,7 @@ use Rattle.join_eval.specs.declared.between.Between.TheVariants.{Steady, Bare, O
 use Rattle.join_eval.specs.declared.reading.Changed.{Changed}
 use Rattle.join_eval.specs.declared.reading.Changed.TheVariants.{Keys, All}
 use Rattle.join_eval.specs.Answers.{AnswersChanges, ListsChanges, ListsExactly, MayNotBeKnown, TellsBetween}
-use Rattle.state_changes.specs.StateChanges.{Change, change_to}
+use Rattle.growing_history.specs.StateChanges.{Change, change_to}
 use Rattle.base_reader.specs.Hiding.{HidesNoPair, HidesNoValue, without_hidden}
 use Rattle.base_reader.specs.Reaching.{AnswersKeys, is_known}
 use Rattle.base_versions.specs.Kept.{Kept, StandsFor, HasEnteredInPart}

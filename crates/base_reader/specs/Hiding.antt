@@ -3,7 +3,7 @@ use Rattle.std.specs.Prelude.{◌≡◌, List, map, not, if◌then◌else◌, tr
 use Rattle.semantics.specs.Texts.{Range, Table, pairs_where}
 use Rattle.semantics.specs.Histories.{DeclaredJoin, is_computed}
 use Rattle.growing_history.specs.Changes.{is_bare}
-use Rattle.state_changes.specs.StateChanges.{Change}
+use Rattle.growing_history.specs.StateChanges.{Change}
 
 -- a change, without its value where the key fits the output of a join
 abbrev pub without_hidden : List DeclaredJoin → Change → Change

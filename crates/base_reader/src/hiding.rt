@@ -5,9 +5,8 @@ ghost use Rattle.semantics.specs.Histories.{is_computed};
 ghost use Rattle.growing_history.specs.Changes.{is_bare};
 ghost use Rattle.base_reader.specs.Hiding.{HidesNoPair, HidesNoValue, without_hidden};
 
-use change_lists::Change;
 use join_set::JoinSet;
-use join_types::Pair;
+use join_types::{Change, Pair};
 use key_space::Range;
 use out_of_memory::OutOfMemory;
 use std::alloc::Global;

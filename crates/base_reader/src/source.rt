@@ -7,9 +7,8 @@ ghost use Rattle.base_versions.specs.Valued.{base_changes};
 ghost use Rattle.join_set.specs.Sets.{AreJoins};
 ghost use Rattle.join_eval.specs.Moves.{Moves};
 
-use change_lists::Change;
 use join_set::JoinSet;
-use join_types::Pair;
+use join_types::{Change, Pair};
 use key_space::Range;
 use out_of_memory::OutOfMemory;
 use std::alloc::Global;

@@ -5,7 +5,7 @@ use Rattle.semantics.specs.Histories.{History, IsPrefix, base_of}
 use Rattle.growing_history.specs.Changes.{entries_between, in_order, written, changed_keys}
 use Rattle.semantics.specs.Texts.{Range, within}
 use Rattle.growing_history.proofs.PrefixLemmas.{take_prefix}
-use Rattle.state_changes.specs.StateChanges.{change_to}
+use Rattle.growing_history.specs.StateChanges.{change_to}
 use Rattle.base_versions.specs.Valued.{base_changes}
 
 take_nothing : {A : Type 0} (n : ℕ) → take {A = A} n [] ≡ []

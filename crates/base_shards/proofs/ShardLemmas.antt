@@ -7,7 +7,7 @@ use Rattle.semantics.specs.Histories.{History, base_of}
 use Rattle.growing_history.specs.Changes.{changed_keys}
 use Rattle.growing_history.specs.Entered.{HasEntered}
 use Rattle.growing_history.proofs.PrefixLemmas.{take_prefix, prefix_length}
-use Rattle.state_changes.specs.StateChanges.{Change}
+use Rattle.growing_history.specs.StateChanges.{Change}
 use Rattle.base_versions.specs.Kept.{Kept, StandsFor, HasEnteredInPart, has_table, shard_of}
 use Rattle.base_versions.specs.Own.{AreOwn, own_from}
 use Rattle.base_versions.specs.Valued.{base_changes}

@@ -7,7 +7,7 @@ use Rattle.semantics.proofs.MemberLemmas.{Has, contains_from_has, has_mapped}
 use Rattle.growing_history.specs.Changes.{changed_keys}
 use Rattle.growing_history.proofs.ChangeLemmas.{changed_keys_are_written}
 use Rattle.growing_history.proofs.ElementLemmas.{all_from_has, has_of_all}
-use Rattle.state_changes.specs.StateChanges.{Change, change_to}
+use Rattle.growing_history.specs.StateChanges.{Change, change_to}
 use Rattle.base_versions.specs.Kept.{TableKept, Kept, table_in, has_table, StandsFor}
 use Rattle.base_versions.specs.Versions.{versions_at}
 use Rattle.base_versions.specs.Valued.{HasVersion, base_changes}

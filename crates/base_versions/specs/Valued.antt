@@ -3,7 +3,7 @@ use Rattle.std.specs.Prelude.{◌≡◌, ℕ, List, map, take}
 use Rattle.semantics.specs.Texts.{Range}
 use Rattle.semantics.specs.Histories.{History, base_of}
 use Rattle.growing_history.specs.Changes.{changed_keys}
-use Rattle.state_changes.specs.StateChanges.{Change, change_to}
+use Rattle.growing_history.specs.StateChanges.{Change, change_to}
 use Rattle.base_versions.specs.Versions.{Tracks, AscendFrom, value_in, versions_at}
 
 -- the keys of a range that entries q + 1 to p put or remove, ascending, each once, with the value of the base pair after p entries, or none

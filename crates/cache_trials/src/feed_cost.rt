@@ -6,7 +6,7 @@ ghost use Rattle.cache_trials.specs.Seated.{AreSeats};
 use crate::kept::{Kept, joins_near, keep_seats, pin_near, pop_pass, read_at, unpin, write};
 use crate::seated::make_seats;
 use base_shards::Naming;
-use change_lists::Change;
+use join_types::Change;
 use key_space::Range;
 use pequod_cache::Seats;
 use pq_io::OpenGate;

@@ -6,9 +6,8 @@ use crate::asking::{Ask, FIRST_JOINS, answer_afresh, draw_position, line_of, pos
 use crate::clients::services;
 use crate::seated::make_seats;
 use base_shards::Naming;
-use change_lists::Change;
 use join_rows::Table;
-use join_types::Pair;
+use join_types::{Change, Pair};
 use out_of_memory::OutOfMemory;
 use pequod_cache::{ClientService, Seats};
 use plain_history::PlainHistory;

@@ -1,6 +1,15 @@
+pub mod ServingLemmas
+pub mod LongerLemmas
+pub mod UpToLemmas
+pub mod CountingLemmas
+pub mod AdvancedLemmas
+pub mod MergingLemmas
+pub mod TellingLemmas
 pub mod DeclaredLemmas
 pub mod FrameLemmas
 pub mod PlaceLemmas
 pub mod PieceLemmas
 pub mod TurnLemmas
 pub mod SpendingLemmas
+pub mod SlotLemmas
+pub mod FittingLemmas

@@ -13,9 +13,9 @@ use Rattle.layering.specs.Parts.{IsWithin}
 use Rattle.layering.specs.Reached.{reached, ReachesNoneBelow}
 use Rattle.kept_ranges.specs.Sound.{KeptRange}
 use Rattle.range_state.specs.Held.{forgotten}
-use Rattle.range_serving.proofs.AdvancedLemmas.{mended_counted}
-use Rattle.range_serving.proofs.CountingLemmas.{forward_counted}
-use Rattle.range_serving.proofs.LongerLemmas.{advanced_before, bare_all, mended_before}
+use Rattle.cell_slots.proofs.AdvancedLemmas.{mended_counted}
+use Rattle.cell_slots.proofs.CountingLemmas.{forward_counted}
+use Rattle.cell_slots.proofs.LongerLemmas.{advanced_before, bare_all, mended_before}
 use Rattle.cell_slots.specs.declared.slot.Part.{Part}
 use Rattle.cell_slots.specs.declared.slot.Slot.{Slot}
 use Rattle.cell_slots.specs.declared.slot.Slot.TheVariants.{Free, Held}

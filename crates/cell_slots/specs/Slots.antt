@@ -10,7 +10,7 @@ use Rattle.layering.specs.Parts.{IsWithin}
 use Rattle.layering.specs.Reached.{StandsWithRank}
 use Rattle.kept_ranges.specs.Sound.{KeptRange, IsSound}
 use Rattle.range_state.specs.Ready.{IsReady, StandsAt}
-use Rattle.range_serving.specs.Serving.{IsPast, StandsFrom}
+use Rattle.cell_slots.specs.Serving.{IsPast, StandsFrom}
 use Rattle.cell_slots.specs.declared.slot.Slot.{Slot}
 use Rattle.cell_slots.specs.declared.slot.Slot.TheVariants.{Free, Lent, Held}
 use Rattle.cell_slots.specs.Places.{MeetsNoPlace, place_in}

@@ -11,8 +11,8 @@ use Rattle.layering.specs.Parts.{IsWithin}
 use Rattle.kept_ranges.specs.Sound.{KeptRange}
 use Rattle.range_state.specs.Held.{forgotten}
 use Rattle.range_state.specs.Ready.{StandsAt, pending_meets}
-use Rattle.source_changes.specs.Asking.{AreBareThroughout}
-use Rattle.range_serving.specs.Serving.{WasAdvanced, WasMended}
+use Rattle.range_state.specs.Asking.{AreBareThroughout}
+use Rattle.cell_slots.specs.Serving.{WasAdvanced, WasMended}
 use Rattle.cell_slots.specs.declared.slot.Part.{Part}
 use Rattle.cell_slots.specs.declared.slot.Slot.{Slot}
 use Rattle.cell_slots.specs.declared.slot.Slot.TheVariants.{Free, Held}

@@ -8,7 +8,7 @@ ghost use Rattle.layering.specs.Reached.{reached};
 ghost use Rattle.layering.specs.Parts.{IsWithin, JoinTo};
 ghost use Rattle.join_eval.specs.Answers.{TellsBetween};
 ghost use Rattle.kept_ranges.specs.Sound.{KeptRange};
-ghost use Rattle.range_serving.specs.Serving.{IsPast};
+ghost use Rattle.cell_slots.specs.Serving.{IsPast};
 ghost use Rattle.cell_slots.specs.declared.slot.Slot.TheVariants.{Lent, Held};
 ghost use Rattle.cell_slots.specs.Places.{LiesInPlace};
 ghost use Rattle.cell_slots.specs.Slots.{Frame, Holdings, IsDeclared, IsReached, IsReadySlot, IsRightFor, MeetsNone, StandsAs, Takes, place_at, with_slot};

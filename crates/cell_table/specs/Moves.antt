@@ -6,7 +6,7 @@ use Rattle.key_ranges.specs.Ranges.{is_open}
 use Rattle.layering.specs.Parts.{IsWithin}
 use Rattle.kept_ranges.specs.Sound.{KeptRange}
 use Rattle.range_state.specs.Held.{forgotten}
-use Rattle.range_serving.specs.Serving.{IsPast}
+use Rattle.cell_slots.specs.Serving.{IsPast}
 use Rattle.evict_book.specs.Books.{left_of, victims_of, with_use}
 use Rattle.cell_slots.specs.declared.slot.Slot.{Slot}
 use Rattle.cell_slots.specs.declared.slot.Slot.TheVariants.{Free, Lent, Held}

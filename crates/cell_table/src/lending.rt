@@ -5,10 +5,9 @@ ghost use Rattle.kept_ranges.specs.Sound.{KeptRange};
 ghost use Rattle.cell_slots.specs.declared.slot.Slot.TheVariants.{Held};
 ghost use Rattle.cell_table.specs.Moves.{MayLend, anew_for};
 
-use cell_slots::Slot;
+use cell_slots::{Slot, is_past, renew};
 use key_space::Range;
 use out_of_memory::OutOfMemory;
-use range_serving::{is_past, renew};
 use range_state::RangeState;
 use std::alloc::Global;
 

@@ -1,3 +1,11 @@
+pub mod TableKeys
+pub mod FitLemmas
+pub mod KeyOrderLemmas
+pub mod AdmissibleSets
+pub mod ReadingLemmas
+pub mod FixedPointLemmas
+pub mod KindLemmas
+pub mod IntegerLemmas
 pub mod ElementLemmas
 pub mod PartLemmas
 pub mod PrefixLemmas
@@ -9,3 +17,4 @@ pub mod TableNameLemmas
 pub mod UnchangedLemmas
 pub mod BareLemmas
 pub mod SortedLemmas
+pub mod ListLemmas

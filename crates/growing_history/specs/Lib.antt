@@ -1,3 +1,13 @@
+pub mod PatternLaws
+pub mod OutputLaws
+pub mod StateLaws
+pub mod KindLaws
+pub mod AdmissibleLaws
+pub mod ReadingLaws
+pub mod FixedPointLaws
+pub mod IntegerLaws
 pub mod Entered
 pub mod Changes
 pub mod ChangeLaws
+pub mod StateChanges
+pub mod ListLaws

@@ -2,8 +2,7 @@
 ghost use Rattle.std.specs.Prelude.{◌≡◌, ◌<◌, ◌≤◌, IfOk};
 
 use base_versions::{BaseVersions, shard_of};
-use change_lists::Change;
-use join_types::{Entry, Write};
+use join_types::{Change, Entry, Write};
 use key_space::{Key, Range, Value};
 use std::alloc::Global;
 use std::marker::Brand;

@@ -1,3 +1,12 @@
+mod AllLemmas
+mod ResultLemmas
+mod OrderedLemmas
+mod FoundLemmas
+mod LaidLemmas
+mod LeafLemmas
+mod WithinLemmas
+mod DropLemmas
+mod MergeLemmas
 pub mod PlacedLemmas
 pub mod FittingLemmas
 pub mod NeedLemmas

@@ -6,14 +6,13 @@ ghost use Rattle.std.specs.Prelude.{◌≢◌};
 
 use crate::answer::Answer;
 use crate::words::{read_cause, read_changes, read_pairs};
-use join_types::Pair;
+use join_types::{Pair, RowSink};
 use key_space::Value;
 use out_of_memory::OutOfMemory;
 use request_codec::{
     LONG_LINE, LineFault, PairsWriter, Reply, WrittenPairs, cause_name, long_line, memory_line,
     number_value, text_value, write, write_ok, write_row,
 };
-use row_sink::RowSink;
 use std::alloc::{AllocError, Global};
 use test_rows::Fields;
 

@@ -1,8 +1,7 @@
 // What rows write, as values. Nothing stands for what is not written as it has to be.
 use crate::answer::Answer;
-use change_lists::Change;
 use join_lang::{parse, print};
-use join_types::{Cause, Pair, Positions, Write};
+use join_types::{Cause, Change, Pair, Positions, Write};
 use key_space::{Key, Value};
 use std::alloc::Global;
 

@@ -3,13 +3,24 @@
 //
 // Dangerous here: nothing is compared. A row is only as good as its line of `stdout`, which is written by hand from the
 // specification and never taken from what the program prints.
+//
+// Trials of what knows no key: ranks of readings, books of ids, command lines, queues and bells. Each line of `stdin` is
+// a case, which is printed again with its answer, and `stdout` has the answers that are wanted. A line that begins with `#` is a
+// heading. A new row costs no proof.
+//
+// Dangerous here: nothing is compared. A row is only as good as its line of `stdout`, which is written by hand from the
+// specification and never taken from what the program prints.
 #![tactic(auto)]
 
+mod books;
+mod commands;
+mod doors;
 mod escapes;
 mod keys;
 mod logs;
 mod patterns;
 mod ranges;
+mod ranks;
 mod readers;
 mod sets;
 mod stabs;
@@ -31,6 +42,11 @@ fn answer(alloc: Global, row: &str, out: &mut Answer) -> Option<()> {
         "stabs" => stabs::answer(alloc, fields, out),
         "set" => sets::answer(alloc, fields, out),
         "log" => logs::answer(alloc, fields, out),
+        "ranks" => ranks::answer(alloc, fields, out),
+        "book" => books::answer(alloc, fields, out),
+        "command" => commands::answer(alloc, fields, out),
+        "door" => doors::answer_door(alloc, fields, out),
+        "bell" => doors::answer_bell(fields, out),
         _ => None,
     }
 }

@@ -2,11 +2,10 @@
 ghost use Rattle.std.specs.Prelude.{◌≡◌, ◌≤◌, map, IfOk};
 ghost use Rattle.semantics.specs.States.{below};
 ghost use Rattle.semantics.specs.Verdicts.{AllEntered};
-ghost use Rattle.state_changes.specs.StateChanges.{change_to};
+ghost use Rattle.growing_history.specs.StateChanges.{change_to};
 
-use change_lists::Change;
 use join_model::state_below;
-use join_types::Entry;
+use join_types::{Change, Entry};
 use key_space::Key;
 use out_of_memory::OutOfMemory;
 use std::alloc::Global;

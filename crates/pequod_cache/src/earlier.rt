@@ -14,9 +14,8 @@ ghost use Rattle.pequod_cache.specs.Questions.{asked};
 
 use crate::cache::Cache;
 use base_shards::Naming;
-use change_lists::Change;
 use join_set::JoinSet;
-use join_types::Pair;
+use join_types::{Change, Pair};
 use key_space::Range;
 use out_of_memory::OutOfMemory;
 use pq_io::Gate;

@@ -4,7 +4,7 @@ use Rattle.semantics.specs.Texts.{Text, Range, Table, value_at}
 use Rattle.semantics.specs.Histories.{History}
 use Rattle.semantics.specs.States.{state}
 use Rattle.semantics.specs.Answers.{get, found, absent, answer}
-use Rattle.state_changes.specs.StateChanges.{Change, changes_between, changes}
+use Rattle.growing_history.specs.StateChanges.{Change, changes_between, changes}
 use Rattle.protocol.specs.Requests.{Request}
 use Rattle.protocol.specs.Replies.{Reply as PlainReply}
 use Rattle.protocol.specs.Told.{Told}

@@ -5,8 +5,8 @@ use Rattle.semantics.specs.States.{merged}
 use Rattle.semantics.proofs.TableLemmas.{IsAscending}
 use Rattle.semantics.proofs.MergedLemmas.{ascending-pairs_within}
 use Rattle.layering.proofs.MergeLemmas.{merged_into_nothing}
-use Rattle.state_changes.specs.StateChanges.{Change, differ_at, change_to, changes_among, changes_between}
-use Rattle.state_changes.proofs.ChangeLemmas.{changes_among_pairs}
+use Rattle.growing_history.specs.StateChanges.{Change, differ_at, change_to, changes_among, changes_between}
+use Rattle.growing_history.proofs.ListLemmas.{changes_among_pairs}
 
 -- the changes among a key and others
 among_first : (key : Text) (keys : List Text) (before after : Table) → changes_among (key ∷ keys) before after ≡ changes_among (key ∷ []) before after ++ changes_among keys before after

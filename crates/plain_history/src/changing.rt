@@ -3,11 +3,10 @@ ghost use Rattle.std.specs.Prelude.{◌≡◌, ◌∷◌, ◌++◌, [], map, IfO
 ghost use Rattle.std.specs.FinMap.Entries.{is_sorted};
 ghost use Rattle.semantics.specs.Texts.{text_cmp};
 ghost use Rattle.semantics.specs.States.{merged};
-ghost use Rattle.state_changes.specs.StateChanges.{changes_among, changes_between, same_value};
+ghost use Rattle.growing_history.specs.StateChanges.{changes_among, changes_between, same_value};
 
-use change_lists::Change;
 use join_model::Table;
-use join_types::Pair;
+use join_types::{Change, Pair};
 use key_space::{Key, Range, Value};
 use out_of_memory::OutOfMemory;
 use std::alloc::Global;

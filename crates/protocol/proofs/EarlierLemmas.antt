@@ -6,7 +6,7 @@ use Rattle.semantics.specs.Texts.{Range, Table, pairs_within}
 use Rattle.semantics.specs.Histories.{History}
 use Rattle.semantics.specs.States.{state}
 use Rattle.semantics.specs.Answers.{pairs, answer}
-use Rattle.state_changes.specs.StateChanges.{Change, changes}
+use Rattle.growing_history.specs.StateChanges.{Change, changes}
 use Rattle.protocol.specs.Requests.{Earlier, scan_at, changes_since}
 use Rattle.protocol.specs.Replies.{Reply, answered, gone, ahead, changed}
 use Rattle.protocol.specs.Earlier.{reach_back, asked_position, told_back, earlier_reply}

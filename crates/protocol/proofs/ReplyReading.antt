@@ -6,7 +6,7 @@ use Rattle.serde_json.specs.Data.{Num, unsigned, negative, float, Data, null, bo
 use Rattle.semantics.specs.Texts.{Text, Table, same}
 use Rattle.semantics.specs.Verdicts.{computed, full, nojoin, slots, sources, clash, cycle, deep, many}
 use Rattle.semantics.specs.Answers.{found, absent, pairs}
-use Rattle.state_changes.specs.StateChanges.{Change}
+use Rattle.growing_history.specs.StateChanges.{Change}
 use Rattle.protocol.specs.Rows.{whole_number, list_of}
 use Rattle.protocol.specs.Requests.{json, form, key, value, range, syntax}
 use Rattle.protocol.specs.Replies.{Reply, done, answered, refused, gone, ahead, changed, unread, long, memory, bye, pair_item, value_items, change_item, reply_items}

@@ -8,7 +8,7 @@ use Rattle.serde_json.specs.Written.{compact_text}
 use Rattle.semantics.specs.Texts.{Text, Table}
 use Rattle.semantics.specs.Verdicts.{Cause, computed, full, nojoin, slots, sources, clash, cycle, deep, many}
 use Rattle.semantics.specs.Answers.{Answer, found, absent, pairs}
-use Rattle.state_changes.specs.StateChanges.{Change}
+use Rattle.growing_history.specs.StateChanges.{Change}
 use Rattle.protocol.specs.Rows.{whole_number, list_of}
 use Rattle.protocol.specs.Requests.{LineFault, json, form, key, value, range, syntax}
 use Rattle.protocol.specs.Replies.{Reply, done, answered, refused, gone, ahead, changed, unread, long, memory, bye, fault_items, cause_items, pair_item, answer_items, value_items, change_item, reply_items, reply_text}

@@ -10,7 +10,7 @@ use Rattle.semantics.specs.Histories.{Entry, History}
 use Rattle.semantics.specs.States.{state}
 use Rattle.semantics.specs.Verdicts.{verdict}
 use Rattle.semantics.specs.Answers.{Answer, scan, answer}
-use Rattle.state_changes.specs.StateChanges.{Change, changes_between, changes}
+use Rattle.growing_history.specs.StateChanges.{Change, changes_between, changes}
 use Rattle.protocol.specs.Requests.{Request, write, read, earlier, quit, Earlier, scan_at, changes_since}
 use Rattle.protocol.specs.Replies.{Reply, done, answered, refused, gone, ahead, changed, unread, long, memory, bye}
 use Rattle.protocol.specs.Earlier.{asked_position}

@@ -2,7 +2,7 @@
 use Rattle.std.specs.Prelude.{ℕ, ◌+◌, length, take, nat_lt, if◌then◌else◌}
 use Rattle.semantics.specs.Histories.{History}
 use Rattle.semantics.specs.Answers.{scan, answer}
-use Rattle.state_changes.specs.StateChanges.{changes}
+use Rattle.growing_history.specs.StateChanges.{changes}
 use Rattle.protocol.specs.Requests.{Earlier, scan_at, changes_since}
 use Rattle.protocol.specs.Replies.{Reply, answered, gone, ahead, changed}
 

@@ -4,7 +4,7 @@ use Rattle.serde_json.specs.Data.{Data, string}
 use Rattle.semantics.specs.Texts.{Text}
 use Rattle.semantics.specs.Verdicts.{Cause, computed, full, nojoin, slots, sources, clash, cycle, deep, many}
 use Rattle.semantics.specs.Answers.{Answer, found, absent, pairs}
-use Rattle.state_changes.specs.StateChanges.{Change}
+use Rattle.growing_history.specs.StateChanges.{Change}
 use Rattle.protocol.specs.Rows.{whole_number, list_of, row}
 use Rattle.protocol.specs.JoinsFile.{cause_name}
 use Rattle.protocol.specs.Requests.{LineFault, json, form, key, value, range, syntax}

@@ -4,7 +4,7 @@ use Rattle.std.specs.List.{AllZip, enumerate_from}
 use Rattle.semantics.specs.Histories.{History, IsPrefix}
 use Rattle.semantics.specs.Verdicts.{verdict}
 use Rattle.semantics.specs.Answers.{Answer, found, absent, pairs, scan, answer}
-use Rattle.state_changes.specs.StateChanges.{Change, changes}
+use Rattle.growing_history.specs.StateChanges.{Change, changes}
 use Rattle.protocol.specs.Requests.{Request, write, read, earlier, quit, Earlier, scan_at, changes_since}
 use Rattle.protocol.specs.Replies.{Reply, done, answered, refused, gone, ahead, changed, unread, long, memory, bye}
 use Rattle.protocol.specs.Earlier.{reach_back, asked_position}

@@ -19,8 +19,8 @@ use Rattle.base_shards.specs.Reading.{ReachesBack, ReadsOn}
 use Rattle.join_eval.specs.Answers.{ListsChanges, AnswersChanges}
 use Rattle.join_eval.specs.declared.reading.Changed.{Changed}
 use Rattle.join_eval.specs.declared.reading.Changed.TheVariants.{Keys, All}
-use Rattle.state_changes.specs.StateChanges.{changes_among, changes_between, changes}
-use Rattle.state_changes.proofs.ChangeLemmas.{changes_among_keys, changes_of_pairs}
+use Rattle.growing_history.specs.StateChanges.{changes_among, changes_between, changes}
+use Rattle.growing_history.proofs.ListLemmas.{changes_among_keys, changes_of_pairs}
 use Rattle.range_cells.specs.Asked.{TellsTouched, pairs_asked, pairs_at}
 use Rattle.range_cells.specs.Comparing.{changes_of}
 use Rattle.range_cells.proofs.ComparingLemmas.{ascending-pairs_at, changes_at_keys}

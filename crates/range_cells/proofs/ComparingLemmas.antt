@@ -22,9 +22,9 @@ use Rattle.growing_history.proofs.SortedLemmas.{never_less}
 use Rattle.layering.specs.MergeLaws.{begins_merged}
 use Rattle.layering.proofs.MergeLemmas.{merged_into_nothing}
 use Rattle.layering.proofs.StepLemmas.{merged_stepwise}
-use Rattle.range_serving.proofs.MergingLemmas.{ascends-drop}
-use Rattle.state_changes.specs.StateChanges.{Change, same_value, differ_at, change_to, changes_among}
-use Rattle.state_changes.proofs.ChangeLemmas.{key_from_value, made_same}
+use Rattle.cell_slots.proofs.MergingLemmas.{ascends-drop}
+use Rattle.growing_history.specs.StateChanges.{Change, same_value, differ_at, change_to, changes_among}
+use Rattle.growing_history.proofs.ListLemmas.{key_from_value, made_same}
 use Rattle.range_cells.specs.Asked.{pairs_at}
 use Rattle.range_cells.specs.Comparing.{changes_of, gone_pair, new_pair, change_of_both, begins_changes}
 

@@ -4,7 +4,7 @@ use Rattle.std.specs.declared.cmp.Ordering.{Ordering}
 use Rattle.std.specs.declared.cmp.Ordering.TheVariants.{Less, Equal, Greater}
 use Rattle.semantics.specs.Texts.{Text, same, Table}
 use Rattle.semantics.specs.States.{merged}
-use Rattle.state_changes.specs.StateChanges.{Change, changes_among}
+use Rattle.growing_history.specs.StateChanges.{Change, changes_among}
 
 -- the changes between two tables, at the keys of both
 abbrev pub changes_of : Table → Table → List Change

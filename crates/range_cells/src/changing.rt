@@ -1,7 +1,7 @@
 // What changed in a range from one position to another.
 ghost use Rattle.std.specs.Prelude.{◌≡◌, ◌≤◌, length, take, IfOk};
 ghost use Rattle.semantics.specs.States.{state};
-ghost use Rattle.state_changes.specs.StateChanges.{changes};
+ghost use Rattle.growing_history.specs.StateChanges.{changes};
 ghost use Rattle.join_set.specs.Sets.{AreJoins};
 ghost use Rattle.write_history.specs.Entries.{IsRecorded};
 ghost use Rattle.write_history.specs.Marks.{reach};
@@ -12,8 +12,8 @@ use crate::asked::{Touched, ask};
 use crate::comparing::compare;
 use crate::range_cells::{RangeCells, Reading};
 use base_shards::Naming;
-use change_lists::Change;
 use join_set::JoinSet;
+use join_types::Change;
 use key_space::Range;
 use out_of_memory::OutOfMemory;
 use pq_io::Gate;

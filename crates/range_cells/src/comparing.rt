@@ -3,8 +3,7 @@ ghost use Rattle.std.specs.Prelude.{◌≡◌, ◌++◌, map, IfOk, OnOk};
 ghost use Rattle.layering.specs.Merging.{Ascends};
 ghost use Rattle.range_cells.specs.Comparing.{change_of_both, changes_of, gone_pair, new_pair};
 
-use change_lists::Change;
-use join_types::Pair;
+use join_types::{Change, Pair};
 use out_of_memory::OutOfMemory;
 use std::alloc::Global;
 use std::cmp::Ordering;

@@ -17,13 +17,11 @@ ghost use Rattle.range_cells.specs.Turns.{AdvancesLittle};
 
 use base_shards::Naming;
 use join_eval::{Changed, KeepFault, TooMany};
-use join_types::Pair;
+use join_types::{Pair, RowSink};
 use key_space::Range;
 use out_of_memory::OutOfMemory;
 use pq_io::Gate;
-use row_sink::RowSink;
-use shared_cells::Cell;
-use shared_layers::{AllRanks, Rank, RankReader, Room, hand_range};
+use shared_cells::{AllRanks, Cell, Rank, RankReader, Room, hand_range};
 use shared_reader::{SharedReader, Stacked, Use};
 use std::marker::{Model, PhantomData};
 use std::sync::Wait;

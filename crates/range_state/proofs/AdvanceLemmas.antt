@@ -27,8 +27,8 @@ use Rattle.kept_ranges.specs.Sound.{KeptRange, IsSoundAt}
 use Rattle.kept_ranges.specs.SoundLaws.{AreReportedBetween, CanStand, IsAdvanceMark, MakesNotes}
 use Rattle.kept_ranges.proofs.SoundLemmas.{advanced_is_sound, relisted_is_sound}
 use Rattle.kept_ranges.proofs.TouchLemmas.{touched}
-use Rattle.source_changes.specs.Filling.{CanFill}
-use Rattle.source_changes.specs.Laws.{NeedsCanFill}
+use Rattle.range_state.specs.Filling.{CanFill}
+use Rattle.range_state.specs.Laws.{NeedsCanFill}
 use Rattle.range_state.specs.Advanced.{touch_notes, key_notes, slots_touched, touched_by, applied_by, IsAdvancedTo}
 use Rattle.range_state.specs.Held.{groups_of, kept_of, range_kept, FitsGroups, FitsJoin, HasPlaces}
 use Rattle.range_state.specs.Work.{NotesEach}

@@ -4,7 +4,7 @@ use Rattle.std.proofs.lemmas.Option.{same_Some}
 use Rattle.semantics.specs.Histories.{History}
 use Rattle.range_evaluation.specs.Trees.{Need}
 use Rattle.kept_ranges.specs.Sound.{KeptRange}
-use Rattle.source_changes.specs.Asking.{AreBareThroughout, asking_steps}
+use Rattle.range_state.specs.Asking.{AreBareThroughout, asking_steps}
 use Rattle.range_state.specs.Held.{range_kept}
 use Rattle.range_state.specs.Ready.{StandsAt}
 use Rattle.range_state.specs.Work.{advance_steps}

@@ -10,7 +10,7 @@ use Rattle.semantics.proofs.MemberLemmas.{has_from_contains, contains_from_has}
 use Rattle.growing_history.specs.Changes.{Same}
 use Rattle.growing_history.specs.Entered.{HasEntered, HasRank}
 use Rattle.growing_history.proofs.PrefixLemmas.{prefix_length, take_prefix}
-use Rattle.state_changes.specs.StateChanges.{Change}
+use Rattle.growing_history.specs.StateChanges.{Change}
 use Rattle.join_eval.specs.Answers.{HaveValues, change_keys}
 use Rattle.range_evaluation.specs.Trees.{Need}
 use Rattle.range_evaluation.proofs.ListedLemmas.{nothing_in}

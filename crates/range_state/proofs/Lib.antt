@@ -1,3 +1,12 @@
+mod OrderLemmas
+mod ChangeOrderLemmas
+mod ListLemmas
+pub mod ApplyingLemmas
+pub mod LongerLemmas
+mod AskingLemmas
+pub mod SettingLemmas
+mod FillingLemmas
+pub mod CountLemmas
 mod RingLemmas
 pub mod SinceLemmas
 pub mod ReadLemmas

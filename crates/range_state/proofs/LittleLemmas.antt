@@ -19,9 +19,9 @@ use Rattle.kept_ranges.specs.Notes.{note_limit}
 use Rattle.kept_ranges.specs.Rules.{source_of, reported_in, Touch, is_touched, is_left, Application, applications}
 use Rattle.kept_ranges.specs.Sound.{KeptRange}
 use Rattle.kept_ranges.proofs.TouchLemmas.{touched, not_by}
-use Rattle.source_changes.specs.Asking.{ListsWritten, AreListed, changed_count}
-use Rattle.source_changes.specs.Laws.{is_check_source, is_value_source, check_needs, value_needs, changed_in, FewTouches, FewApplications}
-use Rattle.source_changes.proofs.CountLemmas.{sum_taken}
+use Rattle.range_state.specs.Asking.{ListsWritten, AreListed, changed_count}
+use Rattle.range_state.specs.Laws.{is_check_source, is_value_source, check_needs, value_needs, changed_in, FewTouches, FewApplications}
+use Rattle.range_state.proofs.CountLemmas.{sum_taken}
 use Rattle.range_state.specs.Advanced.{touch_notes, key_notes, slots_touched, touched_by, applied_by, IsAdvancedTo}
 use Rattle.range_state.specs.Held.{range_kept, view_of, FitsJoin}
 use Rattle.range_state.specs.Ready.{StandsAt}

@@ -12,7 +12,7 @@ use Rattle.range_evaluation.specs.Trees.{Need}
 use Rattle.kept_ranges.specs.Notes.{key, slots, Note}
 use Rattle.kept_ranges.specs.Rules.{reported_in, Touch, is_left, Application}
 use Rattle.kept_ranges.proofs.ApplyLemmas.{application_from}
-use Rattle.source_changes.specs.Asking.{ListsWritten, AreListed}
+use Rattle.range_state.specs.Asking.{ListsWritten, AreListed}
 use Rattle.range_state.specs.Advanced.{touch_notes, key_notes, touched_by, applied_by, IsAdvancedTo}
 use Rattle.range_state.specs.Held.{range_kept}
 use Rattle.range_state.specs.Work.{AreTouchedSlots, IsFilledBy, IsMarkOf}

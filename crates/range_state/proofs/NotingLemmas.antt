@@ -7,7 +7,7 @@ use Rattle.semantics.proofs.MemberLemmas.{Has, has_from_contains, contains_from_
 use Rattle.lazy_log.specs.Pending.{NotesOnce}
 use Rattle.kept_ranges.specs.Notes.{key, slots, Note, Notes, note_limit, last_dropped, noted}
 use Rattle.kept_ranges.specs.Rules.{Touch, Application, AddsTouched}
-use Rattle.source_changes.specs.Valued.{ValuedApplication, all_unvalued}
+use Rattle.range_state.specs.Valued.{ValuedApplication, all_unvalued}
 use Rattle.range_state.specs.Advanced.{touch_notes, key_notes, slots_touched}
 use Rattle.range_state.specs.Work.{NotesEach}
 

@@ -7,7 +7,7 @@ use Rattle.kept_ranges.specs.Rules.{Touch, Application, touches, is_left, applic
 use Rattle.semantics.specs.Histories.{History, joins_of}
 use Rattle.semantics.specs.States.{below}
 use Rattle.growing_history.specs.Entered.{HasEntered, HasRank}
-use Rattle.state_changes.specs.StateChanges.{Change}
+use Rattle.growing_history.specs.StateChanges.{Change}
 use Rattle.join_eval.specs.Answers.{HaveValues, change_keys}
 use Rattle.kept_ranges.specs.Sound.{IsSoundAt}
 use Rattle.kept_ranges.specs.SoundLaws.{AreReportedBetween}

@@ -9,7 +9,7 @@ use Rattle.agg_rows.specs.Kept.{KeptGroups, pairs_of}
 use Rattle.join_eval.specs.Bounds.{Allows, Exceeds}
 use Rattle.kept_ranges.specs.Rules.{Application, IsFilled}
 use Rattle.kept_ranges.specs.Listing.{AreListed}
-use Rattle.source_changes.specs.Valued.{ValuedApplication}
+use Rattle.range_state.specs.Valued.{ValuedApplication}
 use Rattle.range_state.specs.Held.{groups_of, kept_of, FitsJoin}
 use Rattle.range_state.specs.Work.{fill_needs}
 use Rattle.range_state.specs.declared.filling.Filling.{Filling}

@@ -1,3 +1,8 @@
+pub mod Filling
+pub mod Asking
+pub mod Setting
+pub mod Laws
+pub mod Valued
 pub mod PlainNotes
 pub mod NotesSince
 pub mod Advanced

@@ -11,7 +11,7 @@ use Rattle.semantics.specs.States.{below}
 use Rattle.growing_history.specs.Changes.{changed_keys}
 use Rattle.key_ranges.specs.Containing.{range_slots, only}
 use Rattle.range_evaluation.specs.Trees.{Need, tree, reading_steps}
-use Rattle.source_changes.specs.Asking.{asking_steps, changed_count}
+use Rattle.range_state.specs.Asking.{asking_steps, changed_count}
 use Rattle.lazy_log.specs.Pending.{meets_output, NotesOnce}
 use Rattle.join_rows.specs.Kept.{KeptRows}
 use Rattle.join_eval.specs.Bounds.{Allows, Exceeds}

@@ -8,23 +8,23 @@ ghost use Rattle.join_eval.specs.Answers.{change_keys};
 ghost use Rattle.kept_ranges.specs.Notes.{note_limit, noted};
 ghost use Rattle.kept_ranges.specs.Rules.{AddsTouched};
 ghost use Rattle.kept_ranges.specs.Sound.{IsSoundAt};
-ghost use Rattle.source_changes.specs.Valued.{all_unvalued};
+ghost use Rattle.range_state.specs.Valued.{all_unvalued};
 ghost use Rattle.range_state.specs.Held.{FitsJoin, range_kept};
 ghost use Rattle.range_state.specs.Advanced.{CanAdvance, IsAdvancedTo, key_notes, slots_touched, touch_notes};
 ghost use Rattle.range_state.specs.Work.{NotesEach};
 
 use crate::holding::Holding;
+use crate::laws::needs_can_fill;
 use crate::subject::Subject;
-use crate::{Marked, Note, Notes};
-use change_lists::Change;
-use join_output::evaluation::value_op;
+use crate::{
+    Application, Marked, Note, Notes, Touch, applications, apply_values, list_values, remake_rows,
+    touches,
+};
+use join_types::Change;
 use key_space::Key;
 use lazy_log::LazyLog;
+use operators::evaluation::value_op;
 use out_of_memory::OutOfMemory;
-use source_changes::laws::needs_can_fill;
-use source_changes::{
-    Application, Touch, applications, apply_values, list_values, remake_rows, touches,
-};
 use std::alloc::Global;
 
 /// Records the touched slots as pending, each once, and notes them. The touched keys are given back.

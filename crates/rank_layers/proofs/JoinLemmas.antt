@@ -23,7 +23,7 @@ use Rattle.kept_ranges.proofs.PathLemmas.{has_from_at}
 use Rattle.cell_slots.specs.Slots.{IsDeclared, IsOutput, StandsAs}
 use Rattle.cell_slots.specs.Spending.{JoinsSpend}
 use Rattle.cell_slots.proofs.DeclaredLemmas.{declared_once, stands_as, stands_over}
-use Rattle.range_gaps.specs.Gaps.{GiveSame}
+use Rattle.cell_slots.specs.Gaps.{GiveSame}
 
 -- ---- parts of a range, each of which is a thing with a range
 

@@ -14,9 +14,9 @@ use Rattle.join_eval.specs.Moves.{Moves}
 use Rattle.kept_ranges.specs.Sound.{KeptRange, IsSound}
 use Rattle.range_state.specs.Held.{forgotten}
 use Rattle.range_state.specs.Ready.{HasSameSubject, IsReady, StandsAt}
-use Rattle.range_serving.specs.Serving.{IsPast, WasAdvanced, WasMended, output_within}
-use Rattle.range_serving.proofs.AdvancedLemmas.{mended_counted}
-use Rattle.range_serving.proofs.CountingLemmas.{forward_counted, forward_order}
+use Rattle.cell_slots.specs.Serving.{IsPast, WasAdvanced, WasMended, output_within}
+use Rattle.cell_slots.proofs.AdvancedLemmas.{mended_counted}
+use Rattle.cell_slots.proofs.CountingLemmas.{forward_counted, forward_order}
 use Rattle.cell_slots.specs.declared.slot.Part.{Part}
 use Rattle.cell_slots.specs.declared.slot.Slot.{Slot}
 use Rattle.cell_slots.specs.declared.slot.Slot.TheVariants.{Lent, Held}

@@ -28,7 +28,7 @@ use Rattle.join_eval.specs.declared.reading.Changes.TheVariants.{Listed, Unliste
 use Rattle.join_eval.specs.Answers.{change_keys}
 use Rattle.kept_ranges.specs.Sound.{KeptRange}
 use Rattle.range_state.specs.Since.{AnswersSince}
-use Rattle.range_serving.specs.Telling.{TellsOutput}
+use Rattle.cell_slots.specs.Telling.{TellsOutput}
 use Rattle.cell_slots.specs.declared.slot.Part.{Part}
 use Rattle.cell_slots.specs.declared.slot.Slot.{Slot}
 use Rattle.cell_slots.specs.declared.slot.Slot.TheVariants.{Held}

@@ -5,7 +5,7 @@ ghost use Rattle.semantics.specs.Texts.{Text, text_cmp};
 
 use key_space::Key;
 use out_of_memory::OutOfMemory;
-use source_changes::merged;
+use range_state::merged;
 
 /// Puts two lists of keys that ascend together: gives the keys of both, ascending, each once. Linear in both, as a sort of one
 /// behind the other is; where one is empty the other is given back.

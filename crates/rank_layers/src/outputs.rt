@@ -15,12 +15,11 @@ ghost use Rattle.cell_slots.specs.Spending.{JoinsSpend};
 
 use crate::query::Query;
 use crate::range_cache::RangeCache;
-use cell_slots::are_too_many;
+use cell_slots::{are_too_many, merge};
 use join_eval::Reader;
 use join_types::{Join, Pair};
 use key_space::Range;
 use out_of_memory::OutOfMemory;
-use range_serving::merge;
 use std::sync::ledger::Ledger;
 use steps::Steps;
 

@@ -1,8 +1,7 @@
 // Replies.
 use crate::request::LineFault;
 use crate::written::WrittenPairs;
-use change_lists::Change;
-use join_types::{Cause, Pair};
+use join_types::{Cause, Change, Pair};
 use key_space::Value;
 use out_of_memory::OutOfMemory;
 

@@ -10,9 +10,9 @@ ghost use Rattle.request_codec.specs.Written.{Continues, HasPairs, head_tokens};
 
 use crate::lines::LINE_END;
 use crate::writing::{write_numbered, write_texts};
+use join_types::RowSink;
 use json::Writer;
 use out_of_memory::OutOfMemory;
-use row_sink::RowSink;
 use std::alloc::{AllocError, Global};
 use std::marker::Model;
 

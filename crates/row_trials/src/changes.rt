@@ -5,7 +5,7 @@
 // than 512 bytes. The needs stay as they are.
 ghost use Rattle.std.specs.Prelude.{◌≡◌, ◌<◌, [], ◌∷◌, length, slice_get, IfSome, IfOk, true};
 ghost use Rattle.semantics.specs.Joins.{keeps_slot_rule};
-ghost use Rattle.join_output.specs.Evaluation.{CanGoOn};
+ghost use Rattle.operators.specs.Evaluation.{CanGoOn};
 ghost use Rattle.kept_ranges.specs.Rules.{source_of};
 
 use eager_apply::apply;

@@ -2,8 +2,8 @@
 //
 // A first bound that is above all keys with one text of a slot of fixed width is raised to the next text, where that has one byte
 // changed, and a last bound right before the keys with one is lowered to it. Both bound the same keys that fit the output.
+use cell_slots::{output_part, reads_all};
 use join_lang::parse;
-use range_gaps::{output_part, reads_all};
 use row_texts::reading::{Unread, read_range};
 use row_texts::showing::show_word;
 use std::alloc::Global;

@@ -12,9 +12,9 @@ use Rattle.growing_history.specs.Entered.{HasEntered, HasRank}
 use Rattle.growing_history.proofs.EnteredLemmas.{has_entered_taken}
 use Rattle.kept_ranges.specs.Sound.{KeptRange, IsSound, IsSoundAt}
 use Rattle.range_state.specs.Ready.{StandsAt, pending_meets}
-use Rattle.source_changes.specs.Asking.{AreBareThroughout}
+use Rattle.range_state.specs.Asking.{AreBareThroughout}
 use Rattle.range_state.specs.Work.{AreBareUnder, TouchesLittle, advance_steps, mend_steps}
-use Rattle.range_serving.specs.Serving.{MendsPart, WasMended}
+use Rattle.cell_slots.specs.Serving.{MendsPart, WasMended}
 use Rattle.cell_slots.specs.declared.slot.Slot.{Slot}
 use Rattle.cell_slots.specs.declared.slot.Slot.TheVariants.{Lent, Held}
 use Rattle.cell_slots.specs.Slots.{Holdings, with_slot, KeepPlaces, Frame, HasFree, MeetsNone, IsReadySlot, HoldsReady, IsDeclared, IsRightFor}

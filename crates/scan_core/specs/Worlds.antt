@@ -10,9 +10,9 @@ use Rattle.growing_history.specs.Entered.{HasRank}
 use Rattle.layering.specs.Reached.{reaches, ReachesOne}
 use Rattle.kept_ranges.specs.Sound.{KeptRange}
 use Rattle.range_state.specs.Ready.{StandsAt, pending_meets}
-use Rattle.source_changes.specs.Asking.{AreBareThroughout}
+use Rattle.range_state.specs.Asking.{AreBareThroughout}
 use Rattle.range_state.specs.Work.{AreBareUnder, TouchesLittle, advance_steps, mend_steps}
-use Rattle.range_serving.specs.Serving.{MendsPart, WasAdvanced, WasMended}
+use Rattle.cell_slots.specs.Serving.{MendsPart, WasAdvanced, WasMended}
 use Rattle.core_events.specs.Events.{Event, Done, brought, mended, evicted, nothing, append, begin, piece, advance, mend, evict, finish}
 use Rattle.core_events.specs.Plain.{World, Scan, scan_of, goes_on, freed, step}
 use Rattle.core_events.specs.PlainLaws.{AnswersAs, LookAlike}

@@ -12,12 +12,11 @@ ghost use Rattle.scan_core.specs.Worlds.{CellSteps, IsRankTo, StepsAs, StepSpend
 use crate::ScanTable;
 use crate::contents::Core;
 use crate::reading::{advance_cell, mend_cell, read_piece};
-use cell_slots::Slot;
+use cell_slots::{Slot, is_past};
 use core_events::{Done, Event, ScanBound};
 use join_types::{Entry, Write};
 use key_space::Range;
 use out_of_memory::OutOfMemory;
-use range_serving::is_past;
 use std::alloc::Global;
 use std::marker::Model;
 use std::sync::ledger::Ledger;

@@ -21,11 +21,11 @@ use Rattle.kept_ranges.proofs.SoundLemmas.{sound_over_longer}
 use Rattle.range_state.specs.Held.{forgotten}
 use Rattle.range_state.specs.Ready.{HasSameSubject, IsReady, StandsAt}
 use Rattle.range_state.specs.Work.{TakesTooMany}
-use Rattle.range_serving.specs.Serving.{CountsFill, CountsReach, IsLeftOrStandsAt, IsPast, IsTooWide, StandsFrom, output_within}
-use Rattle.range_serving.specs.Telling.{TellsOutput}
-use Rattle.range_serving.proofs.CountingLemmas.{fill_over}
-use Rattle.range_serving.proofs.LongerLemmas.{bare_all}
-use Rattle.range_serving.proofs.UpToLemmas.{gone_is_wide, wide_over}
+use Rattle.cell_slots.specs.Serving.{CountsFill, CountsReach, IsLeftOrStandsAt, IsPast, IsTooWide, StandsFrom, output_within}
+use Rattle.cell_slots.specs.Telling.{TellsOutput}
+use Rattle.cell_slots.proofs.CountingLemmas.{fill_over}
+use Rattle.cell_slots.proofs.LongerLemmas.{bare_all}
+use Rattle.cell_slots.proofs.UpToLemmas.{gone_is_wide, wide_over}
 use Rattle.cell_slots.specs.Slots.{IsDeclared, IsOutput, IsRightFor, StandsAs, IsRankIn, IsRankAt}
 use Rattle.cell_slots.proofs.DeclaredLemmas.{declared_over_longer, declared_once, has_rank, stands_ranked, stands_over}
 use Rattle.rank_layers.specs.Telling.{TellsJoin}

@@ -4,3 +4,5 @@ pub mod PartLemmas
 pub mod DirectoryLemmas
 pub mod CellLemmas
 mod HandingLemmas
+pub mod LayerLemmas
+mod RangeHandingLemmas

@@ -4,8 +4,8 @@ use Rattle.std.specs.Option.{IsSomeAnd}
 use Rattle.semantics.specs.Histories.{History}
 use Rattle.kept_ranges.specs.Sound.{KeptRange}
 use Rattle.range_state.specs.Ready.{HasSameSubject, StandsAt, StandsOrIsForgotten}
-use Rattle.source_changes.specs.Asking.{AreBareThroughout}
-use Rattle.range_serving.specs.Serving.{IsCaughtUp, StandsFrom}
+use Rattle.range_state.specs.Asking.{AreBareThroughout}
+use Rattle.cell_slots.specs.Serving.{IsCaughtUp, StandsFrom}
 use Rattle.shared_cells.specs.Cells.{CellView}
 
 -- a kept range of the same subject stands at a position, with nothing pending

@@ -6,7 +6,7 @@ use Rattle.layering.specs.Parts.{IsWithin}
 use Rattle.write_history.specs.Passes.{HistoryId, PassView}
 use Rattle.kept_ranges.specs.Sound.{KeptRange}
 use Rattle.range_state.specs.Ready.{IsReady, StandsAt}
-use Rattle.range_serving.specs.Serving.{IsPast, IsTooWide, StandsFrom}
+use Rattle.cell_slots.specs.Serving.{IsPast, IsTooWide, StandsFrom}
 use Rattle.cell_slots.specs.Slots.{IsRightFor}
 
 -- the position of the join's declaration, the rank and the range that the cell is for, what is kept of it, and the cell's pass

@@ -7,13 +7,13 @@ ghost use Rattle.join_eval.specs.Moves.{Moves};
 ghost use Rattle.kept_ranges.specs.Sound.{IsSound};
 ghost use Rattle.range_state.specs.Ready.{HasSameSubject, StandsAt, StandsOrIsForgotten};
 ghost use Rattle.range_state.specs.Work.{advance_steps, StaysWithin, TakesTooMany, TouchesLittle};
-ghost use Rattle.range_serving.specs.Serving.{CountsForward, StandsFrom};
+ghost use Rattle.cell_slots.specs.Serving.{CountsForward, StandsFrom};
 ghost use Rattle.shared_cells.specs.Advancing.{IsAdvancedFrom, StandsBare};
 
 use base_shards::Naming;
+use cell_slots::{catch_up, stands_from};
 use join_eval::{KeepFault, NeedBound};
 use pq_io::Gate;
-use range_serving::{catch_up, stands_from};
 use range_state::RangeState;
 use shared_reader::Stacked;
 use std::convert::Infallible;

@@ -9,12 +9,12 @@ ghost use Rattle.shared_cells.specs.Handing.{HandsOut};
 
 use crate::cell::Cell;
 use base_shards::Naming;
+use cell_slots::hand_kept;
+use join_types::RowSink;
 use key_space::Range;
 use out_of_memory::OutOfMemory;
 use pq_io::Gate;
-use range_serving::hand_kept;
 use rank_layers::Query;
-use row_sink::RowSink;
 use shared_reader::Stacked;
 use std::alloc::Global;
 use std::sync::ledger::Ledger;

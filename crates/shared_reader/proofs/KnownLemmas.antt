@@ -8,7 +8,7 @@ use Rattle.semantics.proofs.MemberLemmas.{has_from_contains, contains_from_has, 
 use Rattle.growing_history.specs.Changes.{changed_keys}
 use Rattle.growing_history.proofs.ChangeLemmas.{changed_keys_ascend, changed_keys_are_written}
 use Rattle.growing_history.proofs.SortedLemmas.{same_sorted}
-use Rattle.state_changes.specs.StateChanges.{Change, change_to}
+use Rattle.growing_history.specs.StateChanges.{Change, change_to}
 use Rattle.base_versions.specs.Valued.{base_changes}
 use Rattle.join_eval.specs.Answers.{change_keys}
 use Rattle.join_eval.proofs.ValueLemmas.{keys_of_valued}

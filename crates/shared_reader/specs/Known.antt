@@ -2,7 +2,7 @@
 use Rattle.std.specs.Prelude.{◌≡◌, ℕ, List, Option, IfSome}
 use Rattle.semantics.specs.Texts.{Range}
 use Rattle.semantics.specs.Histories.{History}
-use Rattle.state_changes.specs.StateChanges.{Change}
+use Rattle.growing_history.specs.StateChanges.{Change}
 use Rattle.base_versions.specs.Valued.{base_changes}
 use Rattle.layering.specs.Parts.{IsWithin}
 

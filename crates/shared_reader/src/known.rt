@@ -5,10 +5,10 @@ ghost use Rattle.base_versions.specs.Valued.{base_changes};
 ghost use Rattle.shared_reader.specs.Known.{AreKnownIn, Covers, IsKnownIn};
 
 use crate::followed::is_within;
-use change_lists::Change;
+use join_types::Change;
 use key_space::Range;
 use out_of_memory::OutOfMemory;
-use source_changes::changes_in;
+use range_state::changes_in;
 use std::alloc::Global;
 use std::marker::Model;
 

@@ -19,10 +19,9 @@ use base_reader::lowest::{
 };
 use base_reader::reaching::join_of;
 use base_shards::{BaseShards, Naming};
-use change_lists::Change;
 use join_eval::{Between, Changed, Changes, Reader};
 use join_set::JoinSet;
-use join_types::{Join, Kind, Pair};
+use join_types::{Change, Join, Kind, Pair};
 use key_space::Range;
 use out_of_memory::OutOfMemory;
 use std::alloc::Global;

@@ -10,7 +10,7 @@ use Rattle.semantics.specs.Graphs.{rank, least_cycle}
 use Rattle.semantics.specs.States.{reading, below, state}
 use Rattle.semantics.specs.Verdicts.{join_cause, verdict}
 use Rattle.semantics.specs.Answers.{answer}
-use Rattle.state_changes.specs.StateChanges.{changes}
+use Rattle.growing_history.specs.StateChanges.{changes}
 use Rattle.protocol.specs.JoinText.{read_pattern, read_join}
 use Rattle.protocol.specs.Lines.{lines_of}
 use Rattle.protocol.specs.Requests.{request_of}

@@ -2,7 +2,7 @@ use Rattle.std.proofs.Common.{◌≡◌, [], ◌∷◌, ◌++◌, Option, sym, a
 use Rattle.std.proofs.lemmas.List.{map-append}
 use Rattle.semantics.specs.Texts.{Text, value_at}
 use Rattle.semantics.specs.States.{below}
-use Rattle.state_changes.specs.StateChanges.{change_to}
+use Rattle.growing_history.specs.StateChanges.{change_to}
 use Rattle.list_reader.proofs.valuing.valued.Goals as goal
 
 pub loop-key-preserved : goal.loop-key-preserved

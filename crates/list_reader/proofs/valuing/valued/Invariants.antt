@@ -1,6 +1,6 @@
 use Rattle.std.proofs.Common.{◌≡◌, map}
 use Rattle.semantics.specs.States.{below}
-use Rattle.state_changes.specs.StateChanges.{change_to}
+use Rattle.growing_history.specs.StateChanges.{change_to}
 use Rattle.list_reader.proofs.valuing.valued.Given as goal
 
 abbrev pub invariant-loop-key : goal.invariant-loop-key

@@ -1,7 +1,7 @@
 use Rattle.std.proofs.Common.{◌≡◌, true, false, [], ◌∷◌, ◌++◌, sym, ap, ◌∙◌, append-nil}
 use Rattle.semantics.specs.Texts.{value_at}
-use Rattle.state_changes.specs.StateChanges.{same_value}
-use Rattle.state_changes.proofs.ChangeLemmas.{no_change, one_change}
+use Rattle.growing_history.specs.StateChanges.{same_value}
+use Rattle.growing_history.proofs.ListLemmas.{no_change, one_change}
 use Rattle.plain_history.proofs.changing.add_change.Goals as goal
 
 pub returns-then-is_same : goal.returns-then-is_same

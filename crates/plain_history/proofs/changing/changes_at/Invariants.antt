@@ -1,5 +1,5 @@
 use Rattle.std.proofs.Common.{◌≡◌, ◌++◌, map}
-use Rattle.state_changes.specs.StateChanges.{changes_among}
+use Rattle.growing_history.specs.StateChanges.{changes_among}
 use Rattle.plain_history.proofs.changing.changes_at.Given as goal
 
 -- with the changes that are left to be found, these are all

@@ -2,7 +2,7 @@ use Rattle.std.proofs.Common.{◌≡◌, [], map, ap, ◌∙◌}
 use Rattle.std.proofs.lemmas.Result.{IfOk-weaker}
 use Rattle.semantics.specs.Texts.{pairs_within}
 use Rattle.semantics.specs.States.{merged}
-use Rattle.state_changes.specs.StateChanges.{changes_among, changes_between}
+use Rattle.growing_history.specs.StateChanges.{changes_among, changes_between}
 use Rattle.plain_history.proofs.ComparedLemmas.{compared}
 use Rattle.plain_history.proofs.changing.compare.Goals as goal
 

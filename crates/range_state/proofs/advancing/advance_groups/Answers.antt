@@ -5,9 +5,9 @@ use Rattle.agg_rows.specs.Kept.{pairs_of}
 use Rattle.join_eval.specs.Answers.{change_keys}
 use Rattle.kept_ranges.specs.Listing.{IsApplied}
 use Rattle.kept_ranges.specs.Notes.{noted}
-use Rattle.source_changes.specs.Valued.{ValuedApplication, all_unvalued, list_each}
-use Rattle.source_changes.proofs.ApplyingLemmas.{carry_values}
-use Rattle.source_changes.proofs.SettingLemmas.{list_each_applied}
+use Rattle.range_state.specs.Valued.{ValuedApplication, all_unvalued, list_each}
+use Rattle.range_state.proofs.ApplyingLemmas.{carry_values}
+use Rattle.range_state.proofs.SettingLemmas.{list_each_applied}
 use Rattle.range_state.specs.Advanced.{key_notes}
 use Rattle.range_state.specs.declared.holding.Holding.{Holding}
 use Rattle.range_state.proofs.AdvanceLemmas.{all_can_fill, GroupsStep, groups_step, groups_advanced, groups_sound}

@@ -4,9 +4,9 @@ use Rattle.semantics.specs.States.{below}
 use Rattle.join_rows.specs.Kept.{KeptRows, came_by_any}
 use Rattle.join_eval.specs.Answers.{change_keys}
 use Rattle.kept_ranges.specs.Notes.{noted}
-use Rattle.source_changes.specs.Valued.{ValuedApplication, all_unvalued, set_each}
-use Rattle.source_changes.proofs.ApplyingLemmas.{carry_values}
-use Rattle.source_changes.proofs.SettingLemmas.{set_each_applied}
+use Rattle.range_state.specs.Valued.{ValuedApplication, all_unvalued, set_each}
+use Rattle.range_state.proofs.ApplyingLemmas.{carry_values}
+use Rattle.range_state.proofs.SettingLemmas.{set_each_applied}
 use Rattle.range_state.specs.Advanced.{key_notes}
 use Rattle.range_state.specs.declared.holding.Holding.{Holding}
 use Rattle.range_state.proofs.AdvanceLemmas.{left_can_fill, RowsStep, rows_step, rows_advanced, rows_sound}

@@ -1,6 +1,6 @@
 use Rattle.std.proofs.Common.{◌≡◌, ◌+◌, [], ◌∷◌, take, sym, ap, ◌∙◌}
 use Rattle.kept_ranges.specs.Notes.{key, noted}
-use Rattle.source_changes.specs.Valued.{ValuedApplication}
+use Rattle.range_state.specs.Valued.{ValuedApplication}
 use Rattle.range_state.proofs.NotingLemmas.{noted_one, notes_unvalued}
 use Rattle.range_state.proofs.advancing.note_keys.Goals as goal
 

@@ -1,6 +1,6 @@
 use Rattle.std.proofs.Common.{◌≡◌, take}
 use Rattle.kept_ranges.specs.Notes.{noted}
-use Rattle.source_changes.specs.Valued.{all_unvalued}
+use Rattle.range_state.specs.Valued.{all_unvalued}
 use Rattle.range_state.specs.Advanced.{key_notes}
 use Rattle.range_state.proofs.advancing.note_keys.Given as goal
 

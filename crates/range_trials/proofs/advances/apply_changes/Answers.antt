@@ -4,7 +4,7 @@ use Rattle.semantics.proofs.MemberLemmas.{has_filter}
 use Rattle.growing_history.proofs.ElementLemmas.{all_from_has, has_of_all}
 use Rattle.range_evaluation.specs.Trees.{Need}
 use Rattle.join_rows.specs.Kept.{KeptRows}
-use Rattle.source_changes.specs.Filling.{CanFill}
+use Rattle.range_state.specs.Filling.{CanFill}
 use Rattle.range_trials.proofs.advances.apply_changes.Goals as goal
 
 -- what holds of each need holds of those that are left

@@ -18,8 +18,8 @@ use Rattle.join_eval.proofs.CollectingLemmas.{whole_needs}
 use Rattle.join_set.specs.Sets.{Joins}
 use Rattle.kept_ranges.specs.Kept.{Kept, CameBy}
 use Rattle.kept_ranges.proofs.FillLemmas.{filled_is_right}
-use Rattle.source_changes.specs.Filling.{CanFill}
-use Rattle.source_changes.specs.Laws.{NeedCanFill}
+use Rattle.range_state.specs.Filling.{CanFill}
+use Rattle.range_state.specs.Laws.{NeedCanFill}
 use Rattle.list_reader.proofs.RangeSlotLemmas.{slots_of_range}
 use Rattle.range_trials.proofs.advances.fill_first.Goals as goal
 

@@ -5,7 +5,7 @@ use Rattle.semantics.specs.Texts.{pairs_within}
 use Rattle.semantics.specs.Outputs.{out}
 use Rattle.semantics.specs.States.{below}
 use Rattle.layering.specs.Parts.{JoinTo}
-use Rattle.range_serving.proofs.AdvancedLemmas.{on_ok_always}
+use Rattle.cell_slots.proofs.AdvancedLemmas.{on_ok_always}
 use Rattle.cell_slots.specs.Slots.{StandsAs}
 use Rattle.join_eval.proofs.MovesLemmas.{moves_trans}
 use Rattle.cell_slots.proofs.DeclaredLemmas.{stands_over}

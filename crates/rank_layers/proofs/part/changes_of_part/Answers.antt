@@ -5,8 +5,8 @@ use Rattle.kept_ranges.specs.Sound.{KeptRange}
 use Rattle.range_state.specs.Ready.{StandsAt}
 use Rattle.range_state.specs.Since.{AnswersSince, told_count}
 use Rattle.range_state.specs.Work.{advance_steps, TouchesLittle}
-use Rattle.source_changes.specs.Asking.{AreBareThroughout}
-use Rattle.range_serving.specs.Serving.{IsCaughtUp}
+use Rattle.range_state.specs.Asking.{AreBareThroughout}
+use Rattle.cell_slots.specs.Serving.{IsCaughtUp}
 use Rattle.cell_slots.specs.declared.slot.Slot.{Slot}
 use Rattle.cell_slots.specs.declared.slot.Slot.TheVariants.{Lent, Held}
 use Rattle.cell_slots.specs.Slots.{Frame, IsRightFor, with_slot}

@@ -4,7 +4,7 @@ use Rattle.semantics.specs.Histories.{History, IsPrefix}
 use Rattle.kept_ranges.specs.Sound.{KeptRange}
 use Rattle.range_state.specs.Held.{forgotten}
 use Rattle.range_state.specs.Ready.{IsReady, StandsAt, pending_meets}
-use Rattle.source_changes.specs.Asking.{AreBareThroughout}
+use Rattle.range_state.specs.Asking.{AreBareThroughout}
 use Rattle.cell_slots.specs.declared.slot.Slot.TheVariants.{Lent, Held}
 use Rattle.cell_slots.specs.Slots.{Frame, IsRightFor, with_slot}
 use Rattle.cell_slots.specs.Spending.{StaysReady}

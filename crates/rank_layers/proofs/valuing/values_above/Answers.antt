@@ -3,7 +3,7 @@ use Rattle.std.proofs.lemmas.List.{take_all}
 use Rattle.semantics.specs.Texts.{value_at}
 use Rattle.semantics.specs.States.{below}
 use Rattle.growing_history.proofs.PrefixLemmas.{prefix_length, take_prefix}
-use Rattle.state_changes.specs.StateChanges.{change_to}
+use Rattle.growing_history.specs.StateChanges.{change_to}
 use Rattle.join_eval.proofs.MovesLemmas.{moves_refl, moves_trans}
 use Rattle.rank_layers.proofs.ValueLemmas.{valued_more}
 use Rattle.rank_layers.proofs.valuing.values_above.Goals as goal

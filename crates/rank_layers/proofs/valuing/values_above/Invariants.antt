@@ -1,6 +1,6 @@
 use Rattle.std.proofs.Common.{◌≡◌, ◌+◌, ◌≤◌, map, take}
 use Rattle.semantics.specs.States.{below}
-use Rattle.state_changes.specs.StateChanges.{change_to}
+use Rattle.growing_history.specs.StateChanges.{change_to}
 use Rattle.join_eval.specs.Moves.{Moves}
 use Rattle.rank_layers.proofs.valuing.values_above.Given as goal
 

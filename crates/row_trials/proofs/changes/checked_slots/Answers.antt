@@ -4,8 +4,8 @@ use Rattle.std.specs.Option.{IfSome}
 use Rattle.semantics.specs.Texts.{Text}
 use Rattle.semantics.specs.Patterns.{Slots, no_slots, bind}
 use Rattle.semantics.specs.Joins.{Source, Join, is_check, is_join, checks_of, value_sources_of, keeps_slot_rule}
-use Rattle.join_output.specs.Evaluation.{CanGoOn}
-use Rattle.join_output.proofs.SlotLemmas.{can_start, goes_on}
+use Rattle.operators.specs.Evaluation.{CanGoOn}
+use Rattle.operators.proofs.SlotLemmas.{can_start, goes_on}
 use Rattle.row_trials.proofs.changes.checked_slots.Goals as goal
 
 -- a check and then a source that is none are evaluated as they are written

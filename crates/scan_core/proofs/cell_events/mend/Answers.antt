@@ -2,7 +2,7 @@ use Rattle.std.proofs.Common.{Result, Ok}
 use Rattle.std.specs.Prelude.{⊤}
 use Rattle.growing_history.proofs.PrefixLemmas.{prefix_refl}
 use Rattle.range_state.proofs.ReadLemmas.{sound_where}
-use Rattle.range_serving.proofs.AdvancedLemmas.{mended_over}
+use Rattle.cell_slots.proofs.AdvancedLemmas.{mended_over}
 use Rattle.scan_core.proofs.cell_events.mend.Goals as goal
 
 pub returns-clause-mended : goal.returns-clause-mended

@@ -5,9 +5,9 @@ use Rattle.join_eval.specs.Bounds.{OnTooWide, most_of}
 use Rattle.join_eval.proofs.CollectingLemmas.{on_too_wide_always}
 use Rattle.kept_ranges.specs.Sound.{KeptRange}
 use Rattle.range_state.specs.Work.{TakesTooMany}
-use Rattle.range_serving.specs.Serving.{CountsFill, StandsFrom}
-use Rattle.range_serving.proofs.AdvancedLemmas.{filled_within}
-use Rattle.range_serving.proofs.CountingLemmas.{advance_counts}
+use Rattle.cell_slots.specs.Serving.{CountsFill, StandsFrom}
+use Rattle.cell_slots.proofs.AdvancedLemmas.{filled_within}
+use Rattle.cell_slots.proofs.CountingLemmas.{advance_counts}
 use Rattle.shared_cells.proofs.advancing.advance_to.Goals as goal
 
 pub returns-then-stands_from-clause-advanced : goal.returns-then-stands_from-clause-advanced

@@ -1,6 +1,6 @@
 use Rattle.std.proofs.Common.{List, refl, ◌∙◌, subst}
 use Rattle.semantics.specs.Texts.{Range}
-use Rattle.range_serving.proofs.AdvancedLemmas.{on_err_always}
+use Rattle.cell_slots.proofs.AdvancedLemmas.{on_err_always}
 use Rattle.shared_cells.specs.Spots.{IsPut, SpotView}
 use Rattle.shared_cells.proofs.ListingLemmas.{listed_and_back}
 use Rattle.shared_cells.proofs.directory.give_in.Goals as goal

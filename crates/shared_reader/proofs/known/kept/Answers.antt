@@ -1,5 +1,5 @@
 use Rattle.std.proofs.Common.{◌≡◌, Option, IfSome, Vec, Global, subst}
-use Rattle.state_changes.specs.StateChanges.{Change}
+use Rattle.growing_history.specs.StateChanges.{Change}
 use Rattle.base_versions.specs.Valued.{base_changes}
 use Rattle.shared_reader.proofs.known.kept.Goals as goal
 

@@ -3,7 +3,7 @@ use Rattle.std.proofs.lemmas.Option.{IfSome_then}
 use Rattle.std.proofs.lemmas.Result.{IfOk-weaker}
 use Rattle.semantics.specs.Texts.{table_of}
 use Rattle.semantics.specs.Histories.{History, base_of}
-use Rattle.state_changes.specs.StateChanges.{change_to}
+use Rattle.growing_history.specs.StateChanges.{change_to}
 use Rattle.base_versions.specs.Changes.{changes_of}
 use Rattle.base_versions.specs.Positions.{IsKeptSince}
 use Rattle.base_versions.specs.Kept.{TableKept, IsFoundByVersions, empty_table, StandsFor}

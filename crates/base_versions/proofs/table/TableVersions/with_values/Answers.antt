@@ -2,7 +2,7 @@ use Rattle.std.proofs.Common.{◌≡◌, List, [], ◌∷◌, ◌++◌, map, opt
 use Rattle.std.specs.List.{AllByRecursion}
 use Rattle.std.proofs.lemmas.List.{map-append}
 use Rattle.semantics.specs.Texts.{Text}
-use Rattle.state_changes.specs.StateChanges.{Change}
+use Rattle.growing_history.specs.StateChanges.{Change}
 use Rattle.base_versions.specs.Valued.{HasVersion}
 use Rattle.base_versions.proofs.ValuedLemmas.{all_and_one}
 use Rattle.base_versions.proofs.table.TableVersions.with_values.Goals as goal

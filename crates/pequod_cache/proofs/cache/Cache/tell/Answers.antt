@@ -2,7 +2,7 @@ use Rattle.std.proofs.Common.{◌≡◌, take, IfOk, sym, ◌∙◌, subst, arit
 use Rattle.semantics.specs.Texts.{pairs_within}
 use Rattle.semantics.specs.States.{state}
 use Rattle.semantics.specs.Answers.{pairs}
-use Rattle.state_changes.specs.StateChanges.{changes}
+use Rattle.growing_history.specs.StateChanges.{changes}
 use Rattle.protocol.specs.Requests.{scan_at, changes_since}
 use Rattle.protocol.specs.Replies.{answered, changed}
 use Rattle.protocol.specs.Earlier.{earlier_reply}

@@ -3,8 +3,8 @@ use Rattle.std.proofs.lemmas.Result.{IfOk-at_ok, IfOk-weaker}
 use Rattle.layering.specs.Merging.{Ascends}
 use Rattle.semantics.specs.States.{state}
 use Rattle.semantics.proofs.StateLemmas.{ascending-state}
-use Rattle.state_changes.specs.StateChanges.{changes}
-use Rattle.state_changes.proofs.ChangeLemmas.{nothing_between}
+use Rattle.growing_history.specs.StateChanges.{changes}
+use Rattle.growing_history.proofs.ListLemmas.{nothing_between}
 use Rattle.base_shards.proofs.ReadingLemmas.{reads_on-refl, reads_on-trans, reaches_still, sees_still}
 use Rattle.range_cells.specs.Asked.{TellsTouched, pairs_asked}
 use Rattle.range_cells.specs.Comparing.{changes_of}

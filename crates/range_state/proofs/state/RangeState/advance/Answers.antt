@@ -6,7 +6,7 @@ use Rattle.semantics.specs.Histories.{History, joins_of}
 use Rattle.semantics.specs.States.{below}
 use Rattle.growing_history.specs.Entered.{HasRank}
 use Rattle.growing_history.proofs.PrefixLemmas.{prefix_trans, take_prefix}
-use Rattle.state_changes.specs.StateChanges.{Change}
+use Rattle.growing_history.specs.StateChanges.{Change}
 use Rattle.join_eval.specs.Answers.{HaveValues, change_keys}
 use Rattle.join_eval.specs.Bounds.{Allows, Exceeds, most_of}
 use Rattle.join_eval.specs.Moves.{Moves}
@@ -16,7 +16,7 @@ use Rattle.kept_ranges.specs.Notes.{note_limit}
 use Rattle.kept_ranges.specs.Sound.{KeptRange, IsSoundAt, IsSound}
 use Rattle.kept_ranges.specs.SoundLaws.{AreReportedBetween}
 use Rattle.kept_ranges.proofs.SoundLemmas.{sound_over_longer}
-use Rattle.source_changes.specs.Asking.{AreBareThroughout, AreListed}
+use Rattle.range_state.specs.Asking.{AreBareThroughout, AreListed}
 use Rattle.range_state.specs.Held.{view_of, range_kept, FitsJoin}
 use Rattle.range_state.specs.Work.{advance_steps, fill_needs, StaysWithin, TouchesLittle}
 use Rattle.range_state.specs.declared.holding.Holding.{Holding}

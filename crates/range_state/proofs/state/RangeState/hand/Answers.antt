@@ -1,7 +1,7 @@
 use Rattle.std.proofs.Common.{◌≡◌, ◌+◌, length, sym, ap, ◌∙◌}
 use Rattle.semantics.specs.Texts.{pairs_within}
 use Rattle.kept_ranges.specs.Sound.{KeptRange}
-use Rattle.row_sink.proofs.SinkLemmas.{got_as}
+use Rattle.join_types.proofs.SinkLemmas.{got_as}
 use Rattle.range_state.specs.Held.{view_of, range_kept}
 use Rattle.range_state.proofs.ReadLemmas.{rows_at, sound_where, sound_join}
 use Rattle.range_state.proofs.state.RangeState.hand.Goals as goal

@@ -9,8 +9,8 @@ use Rattle.write_history.specs.Passes.{PassView}
 use Rattle.kept_ranges.specs.Sound.{KeptRange}
 use Rattle.range_state.specs.Ready.{StandsAt, StandsOrIsForgotten}
 use Rattle.range_state.specs.Work.{TouchesLittle}
-use Rattle.range_serving.specs.Serving.{StandsFrom}
-use Rattle.range_serving.proofs.LongerLemmas.{forward_before, little_before, steps_before}
+use Rattle.cell_slots.specs.Serving.{StandsFrom}
+use Rattle.cell_slots.proofs.LongerLemmas.{forward_before, little_before, steps_before}
 use Rattle.cell_slots.specs.Slots.{IsRankAt}
 use Rattle.shared_cells.specs.Advancing.{IsAdvancedFrom, StandsBare}
 use Rattle.shared_cells.specs.Cells.{KeepsWithin}

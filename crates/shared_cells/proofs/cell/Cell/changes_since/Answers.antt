@@ -8,9 +8,9 @@ use Rattle.kept_ranges.specs.Sound.{KeptRange}
 use Rattle.range_state.specs.Ready.{StandsAt}
 use Rattle.range_state.specs.Since.{AnswersSince, told_count}
 use Rattle.range_state.specs.Work.{TouchesLittle}
-use Rattle.range_serving.specs.Serving.{IsCaughtUp, StandsFrom}
-use Rattle.range_serving.proofs.AdvancedLemmas.{on_err_always}
-use Rattle.range_serving.proofs.LongerLemmas.{forward_before, little_before, steps_before}
+use Rattle.cell_slots.specs.Serving.{IsCaughtUp, StandsFrom}
+use Rattle.cell_slots.proofs.AdvancedLemmas.{on_err_always}
+use Rattle.cell_slots.proofs.LongerLemmas.{forward_before, little_before, steps_before}
 use Rattle.shared_cells.specs.Advancing.{StandsBare}
 use Rattle.shared_cells.specs.Cells.{IsHeldOrEmpty, IsHeldOrStandsAt, IsLentFor, KeepsWithin}
 use Rattle.shared_cells.proofs.CellLemmas.{held_there, lent_within, right_of_lent, rank_of_lent, stands_longer, told_of_lent, wide_cell}

@@ -5,8 +5,8 @@ use Rattle.join_eval.proofs.MovesLemmas.{moves_trans}
 use Rattle.rank_layers.proofs.PartLemmas.{right_after}
 use Rattle.kept_ranges.specs.Sound.{KeptRange}
 use Rattle.range_state.specs.Ready.{IsReady}
-use Rattle.range_serving.specs.Serving.{StandsFrom, output_within}
-use Rattle.range_serving.proofs.AdvancedLemmas.{on_err_always}
+use Rattle.cell_slots.specs.Serving.{StandsFrom, output_within}
+use Rattle.cell_slots.proofs.AdvancedLemmas.{on_err_always}
 use Rattle.shared_cells.specs.Cells.{IsHeldOrEmpty, IsHeldOrStandsAt, IsLentFor}
 use Rattle.shared_cells.proofs.CellLemmas.{held_there, lent_within, right_of_lent, rank_of_lent, output_of_lent}
 use Rattle.shared_cells.proofs.HandingLemmas.{few_handed, hands_out}

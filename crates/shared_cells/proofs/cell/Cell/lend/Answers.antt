@@ -3,8 +3,8 @@ use Rattle.std.proofs.lemmas.Bool.{false≢true}
 use Rattle.std.proofs.lemmas.Option.{none-some}
 use Rattle.join_eval.proofs.MovesLemmas.{moves_trans}
 use Rattle.growing_history.proofs.PrefixLemmas.{prefix_length}
-use Rattle.range_serving.specs.Serving.{StandsFrom}
-use Rattle.range_serving.proofs.AdvancedLemmas.{on_err_always}
+use Rattle.cell_slots.specs.Serving.{StandsFrom}
+use Rattle.cell_slots.proofs.AdvancedLemmas.{on_err_always}
 use Rattle.cell_slots.specs.Slots.{StandsAs}
 use Rattle.cell_slots.proofs.DeclaredLemmas.{stands_over}
 use Rattle.shared_cells.proofs.CellLemmas.{lent_of_kept, lent_of_new, nowhere_from, ready_from, ready_serves, same_place_back, serves_empty, serves_same, taken_from}

@@ -5,10 +5,10 @@ use Rattle.join_eval.proofs.MovesLemmas.{moves_trans}
 use Rattle.rank_layers.proofs.PartLemmas.{right_after}
 use Rattle.kept_ranges.specs.Sound.{KeptRange}
 use Rattle.range_state.specs.Ready.{IsReady, StandsAt, pending_meets}
-use Rattle.range_serving.specs.Serving.{HasTooMany, StandsFrom, WasAdvanced, WasMended}
-use Rattle.range_serving.proofs.AdvancedLemmas.{on_err_always}
-use Rattle.range_serving.proofs.LongerLemmas.{advanced_before, mended_before, reach_before}
-use Rattle.range_serving.proofs.UpToLemmas.{many_over}
+use Rattle.cell_slots.specs.Serving.{HasTooMany, StandsFrom, WasAdvanced, WasMended}
+use Rattle.cell_slots.proofs.AdvancedLemmas.{on_err_always}
+use Rattle.cell_slots.proofs.LongerLemmas.{advanced_before, mended_before, reach_before}
+use Rattle.cell_slots.proofs.UpToLemmas.{many_over}
 use Rattle.shared_cells.specs.Advancing.{StandsBare}
 use Rattle.shared_cells.specs.Cells.{IsHeldOrEmpty, IsHeldOrStandsAt, IsLentFor, KeepsWithin}
 use Rattle.shared_cells.proofs.CellLemmas.{fill_of_lent, held_there, lent_within, right_of_lent, rank_of_lent, output_of_lent, served_cell, stands_longer}

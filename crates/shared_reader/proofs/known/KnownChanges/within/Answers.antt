@@ -1,7 +1,7 @@
 use Rattle.std.proofs.Common.{◌≡◌, ◌∙◌, List, filter, sym, ap, subst}
 use Rattle.std.specs.List.Sorted.{IsStrictlySortedBy}
 use Rattle.semantics.specs.Texts.{text_cmp, within}
-use Rattle.state_changes.specs.StateChanges.{Change}
+use Rattle.growing_history.specs.StateChanges.{Change}
 use Rattle.join_eval.specs.Answers.{change_keys}
 use Rattle.shared_reader.specs.Known.{KnownView}
 use Rattle.shared_reader.proofs.KnownLemmas.{known_ascend, known_part}

@@ -1,4 +1,0 @@
-use Rattle.door_trials.proofs.counts.counts_what_is_handed_out.Given as goal
-
-abbrev pub ghosts-hand_out_twice : goal.ghosts-hand_out_twice
-ghosts-hand_out_twice g a = record { name = a.blank.name; parts = a.blank.parts }

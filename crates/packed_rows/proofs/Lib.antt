@@ -1,9 +1,0 @@
-mod AllLemmas
-mod ResultLemmas
-mod OrderedLemmas
-mod FoundLemmas
-mod LaidLemmas
-mod LeafLemmas
-mod WithinLemmas
-mod DropLemmas
-mod MergeLemmas

@@ -1,9 +1,0 @@
-use Rattle.std.proofs.Common.{Some, refl, sym, ap, ◌∙◌}
-use Rattle.range_gaps.proofs.slots.open_at.Goals as goal
-
-pub returns : goal.returns
-returns c = record {
-  width = sym c.in_ok-width.ensures ∙ ap Some (sym c.from-bytes.ensures);
-  same_rest = refl;
-  same_last = refl;
-}

@@ -1,5 +1,0 @@
-use Rattle.semantics_laws.proofs.FixedPointLemmas.{fixed_point_is_state_lem}
-use Rattle.semantics_laws.proofs.fixed_point_laws.fixed_point_is_state.Goals as goal
-
-pub returns : goal.returns
-returns c = fixed_point_is_state_lem

@@ -1,5 +1,0 @@
-use Rattle.semantics_laws.proofs.FixedPointLemmas.{state_is_fixed_point_lem}
-use Rattle.semantics_laws.proofs.fixed_point_laws.state_is_fixed_point.Goals as goal
-
-pub returns : goal.returns
-returns c = state_is_fixed_point_lem

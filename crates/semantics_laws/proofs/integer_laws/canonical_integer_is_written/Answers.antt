@@ -1,5 +1,0 @@
-use Rattle.semantics_laws.proofs.IntegerLemmas.{canonical_integer_is_written_lem}
-use Rattle.semantics_laws.proofs.integer_laws.canonical_integer_is_written.Goals as goal
-
-pub returns : goal.returns
-returns c = canonical_integer_is_written_lem

@@ -1,5 +1,0 @@
-use Rattle.semantics_laws.proofs.FitLemmas.{match_has_least_slots_lem}
-use Rattle.semantics_laws.proofs.output_laws.match_has_least_slots.Goals as goal
-
-pub returns : goal.returns
-returns c = match_has_least_slots_lem

@@ -1,5 +1,0 @@
-use Rattle.semantics.proofs.GatherLemmas.{value_at-out}
-use Rattle.semantics_laws.proofs.output_laws.out_at_key.Goals as goal
-
-pub returns : goal.returns
-returns c = value_at-out

@@ -1,5 +1,0 @@
-use Rattle.semantics.proofs.GatherLemmas.{ascending-out}
-use Rattle.semantics_laws.proofs.output_laws.out_is_sorted.Goals as goal
-
-pub returns : goal.returns
-returns c = ascending-out

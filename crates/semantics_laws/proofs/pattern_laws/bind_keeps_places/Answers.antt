@@ -1,5 +1,0 @@
-use Rattle.semantics.proofs.BindLemmas.{length-bind}
-use Rattle.semantics_laws.proofs.pattern_laws.bind_keeps_places.Goals as goal
-
-pub returns : goal.returns
-returns c = length-bind

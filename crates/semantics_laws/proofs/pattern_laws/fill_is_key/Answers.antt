@@ -1,5 +1,0 @@
-use Rattle.semantics_laws.proofs.TableKeys.{fill_is_key_lem}
-use Rattle.semantics_laws.proofs.pattern_laws.fill_is_key.Goals as goal
-
-pub returns : goal.returns
-returns c = fill_is_key_lem

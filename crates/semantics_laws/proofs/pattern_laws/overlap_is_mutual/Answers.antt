@@ -1,5 +1,0 @@
-use Rattle.semantics.proofs.OfRankLemmas.{overlaps_symmetric}
-use Rattle.semantics_laws.proofs.pattern_laws.overlap_is_mutual.Goals as goal
-
-pub returns : goal.returns
-returns c = overlaps_symmetric

@@ -1,5 +1,0 @@
-use Rattle.semantics_laws.proofs.TableKeys.{table_range_is_range_lem}
-use Rattle.semantics_laws.proofs.pattern_laws.table_range_is_range.Goals as goal
-
-pub returns : goal.returns
-returns c = table_range_is_range_lem

@@ -1,5 +1,0 @@
-use Rattle.semantics_laws.proofs.ReadingLemmas.{cycle_cause_is_least_cycle_lem}
-use Rattle.semantics_laws.proofs.reading_laws.cycle_cause_is_least_cycle.Goals as goal
-
-pub returns : goal.returns
-returns c = cycle_cause_is_least_cycle_lem

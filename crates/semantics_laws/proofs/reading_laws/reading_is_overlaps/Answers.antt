@@ -1,5 +1,0 @@
-use Rattle.semantics_laws.proofs.ReadingLemmas.{reading_is_overlaps_lem}
-use Rattle.semantics_laws.proofs.reading_laws.reading_is_overlaps.Goals as goal
-
-pub returns : goal.returns
-returns c = reading_is_overlaps_lem

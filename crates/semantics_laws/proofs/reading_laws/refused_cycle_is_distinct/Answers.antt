@@ -1,5 +1,0 @@
-use Rattle.semantics_laws.proofs.ReadingLemmas.{refused_cycle_is_distinct_lem}
-use Rattle.semantics_laws.proofs.reading_laws.refused_cycle_is_distinct.Goals as goal
-
-pub returns : goal.returns
-returns c = refused_cycle_is_distinct_lem

@@ -1,5 +1,0 @@
-use Rattle.semantics.proofs.StateLemmas.{value_at-below_elsewhere}
-use Rattle.semantics_laws.proofs.state_laws.below_elsewhere.Goals as goal
-
-pub returns : goal.returns
-returns c = value_at-below_elsewhere

@@ -1,5 +1,0 @@
-use Rattle.semantics_laws.proofs.KindLemmas.{kinds_change_nothing_lem}
-use Rattle.semantics_laws.proofs.state_laws.kinds_change_nothing.Goals as goal
-
-pub returns : goal.returns
-returns c = kinds_change_nothing_lem

@@ -1,2 +1,0 @@
-pub mod LayerLemmas
-mod HandingLemmas

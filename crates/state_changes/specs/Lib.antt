@@ -1,2 +1,0 @@
-pub mod StateChanges
-pub mod ChangeLaws

@@ -62,9 +62,11 @@ class Metric:
     def _samples(self) -> Iterator[str]:
         raise NotImplementedError
 
-    def _named(self, values: Sequence[str]) -> Labels:
+    def _want(self, values: Sequence[str]) -> None:
         if len(values) != len(self.labels):
             raise ValueError(f"{self.name} has {len(self.labels)} labels, and {len(values)} values were given")
+
+    def _named(self, values: Sequence[str]) -> Labels:
         return tuple(zip(self.labels, values))
 
 
@@ -84,7 +86,7 @@ class Counter(Metric):
         """Adds an amount, which is not negative, where the labels have these values. An amount of 0 has it shown."""
         if amount < 0:
             raise ValueError(f"a counter does not fall, and {amount} was added to {self.name}")
-        self._named(values)
+        self._want(values)
         self._values[values] = self._values.get(values, 0) + amount
 
     def value(self, *values: str) -> Number:
@@ -108,7 +110,7 @@ class Gauge(Metric):
 
     def set(self, value: Number, *values: str) -> None:
         """Sets the value where the labels have these values."""
-        self._named(values)
+        self._want(values)
         self._values[values] = value
 
     def clear(self, *values: str) -> None:
@@ -137,7 +139,7 @@ class Histogram(Metric):
         """Counts a value, or as many equal ones, where the labels have these values. It looks through the bounds by halves."""
         spread = self._spreads.get(values)
         if spread is None:
-            self._named(values)
+            self._want(values)
             spread = self._spreads[values] = _Spread(len(self.bounds) + 1)
         spread.counts[bisect.bisect_left(self.bounds, value)] += times
         spread.total += value * times

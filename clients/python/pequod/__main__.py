@@ -16,6 +16,10 @@ STATUS_OF_WORDS = 2
 def main(words: Optional[Sequence[str]] = None) -> int:
     """Does what the words say, and gives the status."""
     given = list(sys.argv[1:] if words is None else words)
+    if given[:1] == ["relay"]:
+        from .relay.command import run
+
+        return run(given[1:])
     return _check(given[1:]) if given[:1] == ["check"] else _prompt(given)
 
 

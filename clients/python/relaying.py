@@ -3,6 +3,7 @@
 import contextlib
 import os
 import socket
+import struct
 import subprocess
 import sys
 import tempfile
@@ -121,6 +122,12 @@ def connected(port):
     return link
 
 
+def leave(link):
+    """Ends a connection by a reset, as a client that is killed over unread replies."""
+    link.setsockopt(socket.SOL_SOCKET, socket.SO_LINGER, struct.pack("ii", 1, 0))
+    link.close()
+
+
 class Told:
     """A server that answers the first line of each connection, which is the relay's own, and then only what it is told to."""
 
@@ -129,6 +136,8 @@ class Told:
         self.listener = socket.create_server((HOST, 0))
         self.port = self.listener.getsockname()[1]
         self.links, self.came, self.lock = [], [], threading.Lock()
+        self.hold = threading.Event()
+        """As long as it is set, no line is read."""
         threading.Thread(target=self.accept, daemon=True).start()
 
     def accept(self):
@@ -143,9 +152,14 @@ class Told:
             file.readline()
             link.sendall(self.first)
             self.links.append(link)
-            for line in file:
+            while line := self.next_line(file):
                 with self.lock:
                     self.came.append(line)
+
+    def next_line(self, file):
+        while self.hold.is_set():
+            time.sleep(0.01)
+        return file.readline()
 
     def lines(self):
         """The lines that came and were not given yet."""
@@ -157,7 +171,14 @@ class Told:
         """Sends bytes over the first link that stands."""
         self.links[0].sendall(replies)
 
+    def drop(self, link):
+        """Ends a link."""
+        with contextlib.suppress(OSError):
+            link.shutdown(socket.SHUT_RDWR)
+        link.close()
+
     def close(self):
         self.listener.close()
+        self.hold.clear()
         for link in self.links:
-            link.close()
+            self.drop(link)

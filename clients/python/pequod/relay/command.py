@@ -56,10 +56,10 @@ async def _serve(options: argparse.Namespace, bounds: Bounds, tls: Optional[ssl.
         if options.metrics is not None:
             listener = Listener(METRICS_HOST, options.metrics, lambda: _text_of(relay, loop))
     except OSError as error:
-        relay.close()
+        await relay.close()
         return _fail(NO_ADDRESS, str(error))
     await ended.wait()
-    relay.close()
+    await relay.close()
     if listener is not None:
         await loop.run_in_executor(None, listener.close)
     return ENDED

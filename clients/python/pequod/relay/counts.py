@@ -21,6 +21,7 @@ class Cause(enum.Enum):
     NO_LINK = "no_link"
     TOO_MANY = "too_many"
     TOO_SLOW = "too_slow"
+    RELAY_ENDED = "relay_ended"
 
 
 class Counts:

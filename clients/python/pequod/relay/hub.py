@@ -5,6 +5,7 @@ from __future__ import annotations
 import asyncio
 import ssl
 import sys
+import time
 from dataclasses import dataclass
 from typing import Optional, Union
 
@@ -23,6 +24,7 @@ PAUSE_SECONDS = 0.2
 CONNECT_SECONDS = 5.0
 ANSWER_SECONDS = 5.0
 """After how long it says that a link was made and is not answered."""
+CLOSING_SECONDS = 1.0
 BACKLOG = 1024
 HANDSHAKE_SECONDS = 10.0
 
@@ -70,14 +72,19 @@ class Relay:
         )
         self._tasks = [loop.create_task(self._keep_link()) for _ in range(self._count)]
 
-    def close(self) -> None:
-        """Takes no further client, and ends all links and all clients' connections."""
+    async def close(self) -> None:
+        """Takes no further client, and resets those that are connected. What was sent for them may stand or not."""
         if self._listener is not None:
             self._listener.close()
         for task in self._tasks:
             task.cancel()
         for link in self._links:
             link.close()
+        for client in list(self._clients):
+            client.reset(Cause.RELAY_ENDED)
+        end = time.monotonic() + CLOSING_SECONDS
+        while self._clients and time.monotonic() < end:
+            await asyncio.sleep(0)
 
     def text(self) -> str:
         """Gives what was counted, for Prometheus."""

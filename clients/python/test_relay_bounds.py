@@ -19,7 +19,8 @@ NONE = b'["none",0]\n'
 # Lines that are sent at once, and how many of them are under way while none is answered.
 UNDER_WAY = (
     ("gets", [GET] * 1_000, 256),
-    ("puts of many bytes", [b'["put","a|1","' + b"x" * 60_000 + b'"]\n'] * 300, 256),
+    ("puts of many bytes", [b'["put","a|1","' + b"x" * 60_000 + b'"]\n'] * 300, 2),
+    ("a long line between others", [GET, b" " * 900_000 + b"\n", GET, GET], 2),
     ("scans", [SCAN] * 9, 2),
     ("changes", [CHANGES] * 9, 2),
     ("unusual spellings", [UNUSUAL] * 9, 2),

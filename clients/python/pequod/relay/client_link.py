@@ -54,10 +54,13 @@ class ClientLink(asyncio.Protocol):
         self._lines = b""
         self._at = 0
         self._beginning = bytearray()
-        # What is under way: how many lines were sent and answered, and which of these, by number, have replies without a bound.
+        # What is under way: how many lines were sent and answered, which of these, by number, have replies without a bound, and for
+        # the last of each block of lines how many bytes the block has.
         self._sent = 0
         self._answered = 0
         self._unbounded: Deque[int] = collections.deque()
+        self._blocks: Deque[tuple[int, int]] = collections.deque()
+        self._bytes = 0
         self._is_slow = False
         self._is_paused = False
         self._is_at_end = False
@@ -127,9 +130,7 @@ class ClientLink(asyncio.Protocol):
 
     def take(self, replies: bytes, ended: int) -> None:
         """Writes replies, or a piece of one, and lets go of a client for which too much waits."""
-        self._answered += ended
-        while self._unbounded and self._unbounded[0] <= self._answered:
-            self._unbounded.popleft()
+        self._note_answered(ended)
         if self._transport is None or self._state is State.GONE:
             return
         self._transport.write(replies)
@@ -164,6 +165,8 @@ class ClientLink(asyncio.Protocol):
         if count and self._link is not None:
             lines = self._lines[start:self._at]
             self._sent += count
+            self._bytes += len(lines)
+            self._blocks.append((self._sent, len(lines)))
             self._link.send(self, lines, count)
         if last is not None:
             self._lines, self._at = b"", 0
@@ -174,8 +177,8 @@ class ClientLink(asyncio.Protocol):
     def _take_lines(self) -> tuple[int, Optional[Kind]]:
         """Goes over the lines that may be sent now. Gives how many they are, and what ends the connection behind them, if that is
         the next one."""
-        count, lines = 0, self._lines
-        while self._at < len(lines) and self._may_send(count):
+        count, lines, start = 0, self._lines, self._at
+        while self._at < len(lines) and self._may_send(count, self._at - start):
             end = lines.index(b"\n", self._at)
             kind = kind_of(lines, self._at, end)
             if kind.words is not None:
@@ -189,13 +192,24 @@ class ClientLink(asyncio.Protocol):
             self._at = end + 1
         return count, None
 
-    def _may_send(self, more: int) -> bool:
-        """Whether a line may be sent beside these many more. Where the server takes none, it is called again when it does."""
-        if self._is_slow or self._sent + more - self._answered >= self._bounds.lines or self._link is None:
+    def _may_send(self, more: int, size: int) -> bool:
+        """Whether a line may be sent beside so many more, of so many bytes. Where the server takes none, it is called again when
+        it does."""
+        if self._is_slow or self._link is None or self._bytes + size >= self._bounds.bytes:
+            return False
+        if self._sent + more - self._answered >= self._bounds.lines:
             return False
         if self._link.is_full:
             self._link.wait(self)
         return not self._link.is_full
+
+    def _note_answered(self, ended: int) -> None:
+        """Notes that so many lines more are under way no longer."""
+        self._answered += ended
+        while self._unbounded and self._unbounded[0] <= self._answered:
+            self._unbounded.popleft()
+        while self._blocks and self._blocks[0][0] <= self._answered:
+            self._bytes -= self._blocks.popleft()[1]
 
     def _read_or_pause(self) -> None:
         """Leaves what a client sends in its socket, while lines wait or no more is taken."""

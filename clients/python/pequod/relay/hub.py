@@ -36,6 +36,8 @@ class Bounds:
     clients: int = 1_000
     lines: int = 256
     """Lines of one client that are under way."""
+    bytes: int = 64 * 1024
+    """Bytes of these lines, beyond which no further one is begun."""
     scans: int = 2
     """Those among them whose replies have no bound: scans, `changes`, and lines in an unusual spelling."""
     replies: int = MEGABYTE // 4

@@ -1,4 +1,5 @@
-"""`python3 -m pequod HOST:PORT` is a prompt, and `python3 -m pequod check FILE` looks at a file of joins."""
+"""`python3 -m pequod HOST:PORT` is a prompt, `python3 -m pequod check FILE` looks at a file of joins, and `python3 -m pequod postgres
+MAPPING.toml` keeps tables equal to those of PostgreSQL."""
 
 from __future__ import annotations
 
@@ -20,6 +21,8 @@ def main(words: Optional[Sequence[str]] = None) -> int:
         from .relay.command import run
 
         return run(given[1:])
+    if given[:1] == ["postgres"]:
+        return _postgres(given[1:])
     return _check(given[1:]) if given[:1] == ["check"] else _prompt(given)
 
 
@@ -32,6 +35,12 @@ def _check(given: Sequence[str]) -> int:
     parser.add_argument("--program", metavar="PATH", help="the built program; unless given $PEQUOD, or else pequod")
     options = parser.parse_args(given)
     return check_file(options.file, options.program)
+
+
+def _postgres(given: Sequence[str]) -> int:
+    from .postgres.command import main as keep_tables
+
+    return keep_tables(given)
 
 
 def _prompt(given: Sequence[str]) -> int:

@@ -121,13 +121,16 @@ class Case(unittest.TestCase):
         self.cursor.execute("drop schema public cascade; create schema public; drop publication if exists pequod")
 
     def bridge(self, tables, **options):
-        bridge = Bridge(mapping(self.database.dsn, self.server.port, tables, **options))
-        self.addCleanup(bridge.stop)
-        return bridge
+        self.last = Bridge(mapping(self.database.dsn, self.server.port, tables, **options))
+        self.addCleanup(self.last.stop)
+        return self.last
 
     def wait(self):
         """Waits until all that was committed stands in Pequod."""
-        return postgres.wait_for(self.client, self.cursor, SECONDS)
+        try:
+            return postgres.wait_for(self.client, self.cursor, SECONDS)
+        except TimeoutError as error:
+            raise AssertionError(f"{error}\n{self.last.told}") from error
 
     def pairs(self, table, at=None):
         return dict(self.client.scan(f"{table}|", f"{table}}}", at))

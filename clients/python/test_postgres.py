@@ -57,7 +57,7 @@ class Ways(bridging.Case):
         self.wait()
         for _ in range(3):
             self.assertTrue(self.end_a_page())
-            self.wait()
+            postgres.wait_for(self.client, self.cursor, 5)
 
     def end_a_page(self):
         """Has the last record of the log end where a page ends, which 1 of 1,000 does by itself."""

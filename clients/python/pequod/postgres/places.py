@@ -22,9 +22,14 @@ class Lines:
         for number, line in enumerate(text.splitlines(), 1):
             if found := _HEADER.match(line):
                 header = _path(read, found[1])
-                self._lines.setdefault(header, number)
+                self._note(header, number)
             elif found := _NAMED.match(line):
-                self._lines.setdefault(header + _path(read, f"{found[1]} = 0"), number)
+                self._note(header + _path(read, f"{found[1]} = 0"), number)
+
+    def _note(self, path: Path, number: int) -> None:
+        """Notes a path that a line names, and all that it stands in, where none before did."""
+        for length in range(len(path), 0, -1):
+            self._lines.setdefault(path[:length], number)
 
     def of(self, path: Path) -> int:
         """Gives the line of a name, or else of what it would stand in."""

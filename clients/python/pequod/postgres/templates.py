@@ -56,8 +56,7 @@ def read_parts(text: str) -> list[Part]:
         if column is not None:
             parts.append(Field(column, None if word is None else read_format(word)))
         elif token in ("{", "}"):
-            raise ValueError(f"{token} at byte {len(text[:found.start()].encode())} belongs to no column; "
-                             f"write {token * 2} for a brace")
+            raise ValueError(f"{token} in {text!r} belongs to no column: write {token * 2} for a brace")
         else:
             parts.append(token[0] if token in ("{{", "}}") else token)
     return parts

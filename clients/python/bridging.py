@@ -94,6 +94,12 @@ class Bridge:
         with self._keeping:
             self.kill()
 
+    def __enter__(self):
+        return self
+
+    def __exit__(self, *_):
+        self.stop()
+
 
 class Case(unittest.TestCase):
     """A test with a Pequod, and a bridge from the module's PostgreSQL to it. A subclass has `database`, set by `setUpModule`."""

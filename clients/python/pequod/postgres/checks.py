@@ -95,8 +95,9 @@ def _of_published(mapping: Mapping, table: TableMapping, stands: Table) -> Itera
         return
     if published.is_filtered:
         yield "", "it is published with a filter of rows, which a copy of the table would not heed"
-    left = [name for name in table.columns if published.columns is not None and name not in published.columns]
-    if left and not any(column.is_generated for column in stands.columns if column.name in left):
+    told = [column.name for column in stands.columns if not column.is_generated]
+    left = [name for name in told if published.columns is not None and name not in published.columns]
+    if left:
         yield "", f"it is published without its column {', '.join(left)}"
 
 

@@ -166,10 +166,10 @@ class Bridge:
 
     def _look_again(self, relation: Relation) -> None:
         """Looks at a table that is told of for the first time, or again."""
+        self._compare(read_catalogue(self._database.ask, self._mapping))
         table = self._tables.get(relation.number)
         if table is not None and not set(table.columns) <= set(relation.columns):
             raise CopyNeeded(f"{table.name} had other columns for a while")
-        self._compare(read_catalogue(self._database.ask, self._mapping))
 
     def _compare(self, catalogue: Catalogue) -> None:
         """Compares what the catalogue says now with what it said at the beginning."""

@@ -1,5 +1,5 @@
 #!/usr/bin/env bash
-# Runs the tests in Python against the built program: those of the client, of the cookbook and of the web page.
+# Runs the tests in Python against the built program: those of the client, of the cookbook and of the web pages.
 # Usage: bench/python_tests.sh PROGRAM. It ends with status 1 where one of them fails.
 set -u
 program=${1:-}
@@ -11,7 +11,7 @@ PEQUOD=$(realpath "$program")
 export PEQUOD
 cd "$(dirname "$0")/.." || exit 1
 failed=0
-for folder in clients/python examples/cookbook examples/timeline; do
+for folder in clients/python examples/cookbook examples/timeline examples/forum; do
   echo "$folder"
   python3 -m unittest discover "$folder" || failed=1
 done

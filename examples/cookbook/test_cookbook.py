@@ -4,12 +4,16 @@ Each recipe is run and its replies are compared, the lines that the document sho
 the functions of recipes.py are tried.
 """
 
+import asyncio
+import contextlib
 import json
 import pathlib
 import re
+import secrets
 import subprocess
 import sys
 import threading
+import time
 import unittest
 import unittest.mock
 
@@ -17,7 +21,8 @@ FOLDER = pathlib.Path(__file__).resolve().parent
 sys.path[:0] = [str(FOLDER), str(FOLDER.parent.parent / "clients" / "python")]
 import pequod  # noqa: E402
 import recipes  # noqa: E402
-from serving import HOST, PROGRAM, Case, want_program as setUpModule  # noqa: E402, F401
+from pequod import aio  # noqa: E402
+from serving import HOST, PROGRAM, Case, Server, want_program as setUpModule  # noqa: E402, F401
 
 DOCUMENT = FOLDER.parent.parent / "docs" / "COOKBOOK.md"
 
@@ -41,7 +46,11 @@ class Files(unittest.TestCase):
     def test_the_document_shows_what_the_files_have(self):
         named = []
         for section in DOCUMENT.read_text(encoding="utf-8").split("\n## ")[1:]:
-            (recipe,) = set(re.findall(r"cookbook/(\w+)\.requests", section))
+            recipes_of = set(re.findall(r"cookbook/(\w+)\.requests", section))
+            if not recipes_of:
+                # It is of programs and not of pairs.
+                continue
+            (recipe,) = recipes_of
             named.append(recipe)
             blocks = [block.splitlines() for block in re.findall(r"```\n(.*?)```", section, re.S)]
             with self.subTest(recipe):
@@ -85,8 +94,9 @@ class Scores(Case):
         self.assertEqual(list(self.client.scan_prefix("top|chess|")), [("top|chess|0075|ann", "Ann")])
 
     def test_the_next_write_removes_strays(self):
+        for score in "0990", "85":
+            self.client.put(f"at|chess|ann|{score}", "1")
         self.client.put("score|chess|0990|ann", "1")
-        self.client.put("score|chess|85|ann", "1")
         self.client.put("score|chess|0990|bob", "1")
         self.assertEqual(self.scores(), ["0990", "85"])
         recipes.move_score(self.client, "chess", "ann", 980)
@@ -94,6 +104,103 @@ class Scores(Case):
         recipes.move_score(self.client, "chess", "ann", 980)
         keys = [key for key, _ in self.client.scan_prefix("score|chess|")]
         self.assertEqual(keys, ["score|chess|0980|ann", "score|chess|0990|bob"])
+
+
+class Best(Case):
+    joins = joins_of("best")
+
+    def best(self):
+        return json.loads(self.client.get("best|karma").value or "[]")
+
+    def wait_for(self, wanted):
+        end = time.monotonic() + 20
+        while self.best() != wanted and time.monotonic() < end:
+            time.sleep(0.01)
+        self.assertEqual(self.best(), wanted)
+
+    def test_ties_go_by_name_and_the_size_holds(self):
+        karma = {"karma|cat": "2", "karma|bob": "2", "karma|ann": "-1", "karma|dan": "10"}
+        self.assertEqual(json.loads(recipes.best_of(karma, 3)), [["dan", 10], ["bob", 2], ["cat", 2]])
+
+    def test_the_best_follow(self):
+        with self.client.pipeline() as pipeline:
+            for author in range(30):
+                for voter in range(author):
+                    pipeline.put(f"vote|a{author:02}|{voter}", "1")
+        keeper = self.server.connect()
+
+        def keep():
+            with contextlib.suppress(pequod.LinkLost):
+                recipes.keep_best(keeper, 3, 0.01)
+
+        thread = threading.Thread(target=keep)
+        thread.start()
+        try:
+            self.wait_for([["a29", 29], ["a28", 28], ["a27", 27]])
+            self.client.remove("vote|a29|0")
+            self.client.remove("vote|a29|1")
+            self.wait_for([["a28", 28], ["a27", 27], ["a29", 27]])
+        finally:
+            self.server.end()
+            thread.join()
+            keeper.close()
+            self.server.start()
+
+
+class Newest(Case):
+    joins = joins_of("newest")
+
+    def test_pages_go_from_the_newest(self):
+        self.client.put("follow|ann|bob", "1")
+        moments = [1764288000000000 + 1000 * number for number in range(50)]
+        with self.client.pipeline() as pipeline:
+            for moment in moments:
+                pipeline.put(f"post|bob|{recipes.back(moment)}", f"at {moment}")
+        first = recipes.newest(self.client, "ann", moments[30])
+        self.client.put(f"post|bob|{recipes.back(moments[-1] + 1)}", "later")
+        last_key = first.pairs[-1][0]
+        second = recipes.newest(self.client, "ann", moments[10], last_key, first.position)
+        shown = [recipes.moment_of(key) for key, _ in (*first, *second)]
+        self.assertEqual(shown, moments[:9:-1])
+        self.assertEqual(len(first), 20)
+
+
+class Expiry(Case):
+    joins = joins_of("expiry")
+    now = 29750400
+
+    def keys(self):
+        tables = "session", "until", *(f"end{self.now + ahead:08}" for ahead in range(-2, 9))
+        return [key for table in tables for key, _ in self.client.scan(f"{table}|", f"{table}}}")]
+
+    def test_what_ends_goes(self):
+        recipes.put_until(self.client, "session|x1", "ann", self.now + 1)
+        recipes.put_until(self.client, "session|x2", "bob", self.now + 2)
+        recipes.sweep_up_to(self.client, self.now)
+        self.assertEqual(self.client.get("online|all").value, "2")
+        self.assertEqual(recipes.value_at(self.client, "session|x1", self.now), "ann")
+        self.assertIsNone(recipes.value_at(self.client, "session|x1", self.now + 1))
+        recipes.sweep_up_to(self.client, self.now + 1)
+        self.assertEqual(self.client.get("online|all").value, "1")
+        recipes.sweep_up_to(self.client, self.now + 4)
+        self.assertEqual(self.keys(), [])
+        self.assertEqual(self.client.get("swept|minute").value, f"{self.now + 4:08}")
+
+    def test_what_is_put_again_stays(self):
+        for ahead in 1, 3, 2:
+            recipes.put_until(self.client, "session|x1", f"until {ahead}", self.now + ahead)
+        recipes.put_until(self.client, "session|x1", "last", self.now + 3)
+        for ahead in 1, 2:
+            recipes.sweep_up_to(self.client, self.now + ahead)
+            self.assertEqual(recipes.value_at(self.client, "session|x1", self.now + ahead), "last")
+        recipes.sweep_up_to(self.client, self.now + 3)
+        self.assertEqual(self.keys(), [])
+
+    def test_a_sweeper_that_was_away_goes_on_where_it_was(self):
+        recipes.sweep_up_to(self.client, self.now)
+        recipes.put_until(self.client, "session|x1", "ann", self.now + 2)
+        recipes.sweep_up_to(self.client, self.now + 5)
+        self.assertEqual(self.keys(), [])
 
 
 class Refill(Case):
@@ -215,6 +322,130 @@ class Fresh(Case):
         shown = {"feed|ann|1|bob": "stale"}
         self.assertEqual(recipes.refresh(self.client, "feed|ann|", "feed|ann}", shown, 1000), self.client.position)
         self.assertEqual(shown, {})
+
+
+class OpenPage(Case):
+    joins = joins_of("open_page")
+    bounds = "feed|ann|", "feed|ann}"
+
+    def setUp(self):
+        super().setUp()
+        self.fill()
+
+    def fill(self):
+        with self.server.connect() as client:
+            client.put("follow|ann|bob", "1")
+            client.put("ready|feeds", secrets.token_hex(8))
+
+    def test_it_goes_on_over_any_connection(self):
+        run, pairs = recipes.open_page(self.client, *self.bounds)
+        self.client.put("post|bob|100", "Hi")
+        with self.server.connect() as other:
+            news = recipes.what_is_new(other, run, *self.bounds, pairs.position)
+        self.assertEqual(list(news), [("feed|ann|100|bob", "Hi")])
+
+    def test_a_position_of_another_run_is_seen(self):
+        run, pairs = recipes.open_page(self.client, *self.bounds)
+        self.server.restart()
+        self.fill()
+        with self.server.connect() as other, other.pipeline() as pipeline:
+            for number in range(10):
+                pipeline.put(f"other|{number}", "x")
+        with self.server.connect() as other:
+            self.assertGreater(other.get("k|a").position, pairs.position)
+            self.assertIsNone(recipes.what_is_new(other, run, *self.bounds, pairs.position))
+
+    def test_an_empty_cache_and_a_position_out_of_reach(self):
+        run, pairs = recipes.open_page(self.client, *self.bounds)
+        self.assertIsNone(recipes.what_is_new(self.client, run, *self.bounds, 1000))
+        self.client.remove("ready|feeds")
+        self.assertEqual(recipes.open_page(self.client, *self.bounds)[0], None)
+        self.assertIsNone(recipes.what_is_new(self.client, None, *self.bounds, pairs.position))
+
+
+class ManyFeeds(Case):
+    """Hundreds of readers over one client."""
+
+    options = ("--workers", "2")
+    joins = joins_of("fresh")
+    users = 300
+
+    def follow(self):
+        with self.client.pipeline() as pipeline:
+            for user in range(self.users):
+                pipeline.put(f"follow|u{user:03}|bob{user % 3}", "1")
+            pipeline.put("post|bob0|100", "Old")
+
+    async def with_feeds(self, act):
+        async with await aio.connect(HOST, self.server.port) as client:
+            feeds = recipes.Feeds(client)
+            running = asyncio.ensure_future(feeds.run(0.05))
+            try:
+                with contextlib.ExitStack() as held:
+                    followed = [held.enter_context(feeds.follow(f"u{user:03}")) for user in range(self.users)]
+                    await asyncio.wait_for(act(followed), 60)
+            finally:
+                running.cancel()
+
+    def test_each_is_told_of_its_own(self):
+        self.follow()
+
+        async def act(followed):
+            for user, feed in enumerate(followed):
+                wanted = [(f"feed|u{user:03}|100|bob0", "Old")] if user % 3 == 0 else []
+                self.assertEqual(await feed.told.get(), (True, wanted))
+            self.client.put("post|bob1|110", "Hi")
+            self.client.remove("post|bob0|100")
+            for user, feed in enumerate(followed):
+                if user % 3 == 0:
+                    self.assertEqual(await feed.told.get(), (False, [(f"feed|u{user:03}|100|bob0", None)]))
+                if user % 3 == 1:
+                    self.assertEqual(await feed.told.get(), (False, [(f"feed|u{user:03}|110|bob1", "Hi")]))
+            self.assertTrue(all(feed.told.empty() for feed in followed))
+
+        asyncio.run(self.with_feeds(act))
+
+    def test_after_a_restart_all_begin_anew(self):
+        self.follow()
+
+        async def act(followed):
+            for feed in followed:
+                await feed.told.get()
+            self.server.restart()
+            for feed in followed:
+                self.assertEqual(await feed.told.get(), (True, []))
+
+        asyncio.run(self.with_feeds(act))
+
+
+class Move(Case):
+    """A new server in the place of the old one."""
+
+    joins = joins_of("refill")
+
+    def test_what_was_written_meanwhile_is_there(self):
+        truth = {"item|sea|1": "Oar", "item|sea|2": "Sail"}
+        recipes.bring_to(self.client, truth, ["item"])
+        asked, used = [], []
+
+        def read_truth():
+            asked.append(dict(truth))
+            # Somebody writes when most was read, and nobody while the lock is held.
+            truth.pop("item|sea|2", None)
+            truth["item|sea|3"] = "Rope"
+            return asked[-1]
+
+        with Server(joins=self.joins) as server, server.connect() as new:
+            recipes.move_to(new, read_truth, ["item"], contextlib.nullcontext(), lambda: used.append(server.port))
+            self.assertEqual(dict(new.scan("item|", "item}")), truth)
+            self.assertEqual((recipes.stock(new, "sea"), used, len(asked)), (2, [server.port], 2))
+
+    def test_only_what_differs_is_written(self):
+        truth = {"item|sea|1": "Oar", "item|sea|2": "Sail"}
+        self.assertEqual(recipes.bring_to(self.client, truth, ["item"]), 2)
+        self.assertEqual(recipes.bring_to(self.client, truth, ["item"]), 0)
+        self.assertEqual(recipes.bring_to(self.client, {"item|sea|1": "Oars"}, ["item"]), 2)
+        self.assertEqual(dict(self.client.scan("item|", "item}")), {"item|sea|1": "Oars"})
 
 
 if __name__ == "__main__":

@@ -2,6 +2,7 @@
 
 import datetime
 import html
+import time
 import urllib.parse
 
 MAX_POST = 500
@@ -13,10 +14,15 @@ FRAME = """<!doctype html>
 {body}</main></body></html>
 """
 ENTER = (
-    '<h1>Who are you?</h1><form class="enter" method="post" action="/"><input name="name" placeholder="your name" required '
-    'maxlength="20" pattern="[a-z][a-z0-9_]*" title="small letters, digits and _"><button>Go in</button></form>'
+    '<h1>Who are you?</h1><form class="enter" method="post" action="/"><label for="name">Your name: small letters, digits and _'
+    '</label><span><input id="name" name="name" required maxlength="20" pattern="[a-z][a-z0-9_]*" autocomplete="username" '
+    'autocapitalize="none"><button>Go in</button></span></form>'
 )
-NO_CACHE = '<p class="notice">The cache does not answer, so no {what} can be shown now.{more}</p>'
+# The script of a page says something here.
+NEWS = '<p id="news" role="status"></p>'
+NO_CACHE = (
+    '<p class="notice" data-without-cache>The cache does not answer, so no {what} can be shown now.{more}</p>' + NEWS
+)
 
 
 def frame(title, body):
@@ -28,16 +34,17 @@ def link(name):
 
 
 def button(user, action, label, poster):
+    name = html.escape(poster)
     return (
-        f'<form method="post" action="/{html.escape(user)}/{action}">'
-        f'<input type="hidden" name="poster" value="{html.escape(poster)}"><button>{label}</button></form>'
+        f'<form method="post" action="/{html.escape(user)}/{action}"><input type="hidden" name="poster" value="{name}">'
+        f'<button aria-label="{label} {name}">{label}</button></form>'
     )
 
 
 def post_form(user, typed=""):
     return (
-        f'<form class="post" method="post" action="/{user}/post"><textarea name="text" rows="3" maxlength="{MAX_POST}" required '
-        f'placeholder="What is new?">\n{html.escape(typed)}</textarea><button>Post</button></form>'
+        f'<form class="post" method="post" action="/{user}/post"><label for="text">What is new?</label><textarea id="text" '
+        f'name="text" rows="3" maxlength="{MAX_POST}" required>\n{html.escape(typed)}</textarea><button>Post</button></form>'
     )
 
 
@@ -55,11 +62,24 @@ def changes(posts, position):
     return {"position": position, "posts": told}
 
 
+def age(seconds, when):
+    """How long ago something was, as '2 min', and its date from a week on. `age` of live.js says the same."""
+    minutes = max(0, int(seconds // 60))
+    if minutes < 1:
+        return "now"
+    if minutes < 60:
+        return f"{minutes} min"
+    if minutes < 24 * 60:
+        return f"{minutes // 60} h"
+    return f"{minutes // (24 * 60)} d" if minutes < 7 * 24 * 60 else f"{when.day} {when:%B %Y}"
+
+
 def post_text(poster, moment, text):
-    when = datetime.datetime.fromtimestamp(moment / 1e6)
+    when = datetime.datetime.fromtimestamp(moment / 1e6, datetime.timezone.utc)
+    told = age(time.time() - moment / 1e6, when)
     return (
         f'<article id="{html.escape(name_of(poster, moment))}" data-moment="{moment}">'
-        f'<p class="who">{link(poster)} <time>{when:%d %B %Y %H:%M}</time></p>'
+        f'<p class="who">{link(poster)} <time datetime="{when:%Y-%m-%dT%H:%M:%SZ}">{told}</time></p>'
         f'<p class="text">{html.escape(text)}</p></article>'
     )
 
@@ -70,7 +90,7 @@ def people(rows, after):
         f"<tr><td>{link(name)}</td><td>{html.escape(posts)}</td><td>{html.escape(follows)}</td></tr>"
         for name, posts, follows in rows
     )
-    table = f'<table><tr><th>Name</th><th>Posts</th><th>Follows</th></tr>{table}</table>' if rows else "<p>Nobody yet.</p>"
+    table = f'<table><tr><th scope="col">Name</th><th scope="col">Posts</th><th scope="col">Follows</th></tr>{table}</table>' if rows else "<p>Nobody yet.</p>"
     more = f'<p><a href="/?from={after}">More</a></p>' if after else ""
     return frame("Pequod timeline", f"{ENTER}<h2>Everybody</h2>{table}{more}")
 
@@ -93,7 +113,7 @@ def timeline(user, posts, older, followed, others, position, live=None):
     return frame(
         f"{user} - Pequod timeline",
         f'<h1>{user}</h1>{post_form(user)}<div class="columns">'
-        f'<section><h2>Timeline</h2><div{goes_on}>{shown}</div>{older}</section>'
+        f'<section><h2>Timeline</h2>{NEWS}<div{goes_on}>{shown}</div>{older}</section>'
         f'<aside><h2>You follow</h2><ul>{left or "<li>Nobody yet.</li>"}</ul>'
         f'<h2>New here</h2><ul>{more or "<li>Nobody.</li>"}</ul>'
         f'<p class="position">at position {position}</p></aside></div>',

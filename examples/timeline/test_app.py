@@ -78,7 +78,7 @@ class Shown(Pages):
         self.assertIn("Nobody yet", self.ask("")[1])
         self.assertIn('<p id="nothing">Nothing here', self.ask("ann")[1])
         self.assertIn("Hello there", self.ask("bob/post", text="Hello there")[1])
-        self.assertIn('value="bob"><button>Follow', self.ask("ann")[1])
+        self.assertIn('value="bob"><button aria-label="Follow bob">Follow', self.ask("ann")[1])
         self.assertIn("Hello there", self.ask("ann/follow", poster="bob")[1])
         self.assertIn("Again", self.ask("bob/post", text="Again")[1])
         text = self.ask("ann")[1]
@@ -94,6 +94,32 @@ class Shown(Pages):
         self.assertIn("&lt;script&gt;alert(&#x27;x&#x27;)&lt;/script&gt; &amp; &quot;quoted&quot;", text)
         self.assertIn("\n| caf\u00e9 \u65e5\u672c</p>", text)
         self.assertNotIn("<script>", text)
+
+    def test_times_are_told_by_age(self):
+        truth, now = Truth(self.data), time.time_ns() // 1_000
+        for ago, words in ((0, "now"), (150, "2 min"), (2 * 3600 + 60, "2 h"), (3 * 86400 + 60, "3 d")):
+            truth.post("ann", now - ago * 1_000_000, words)
+        self.server.restart()
+        articles = re.findall(r'<time datetime="(.*?)">(.*?)</time></p><p class="text">(.*?)</p>', self.ask("ann")[1])
+        self.assertEqual([told for _, told, _ in articles], ["now", "2 min", "2 h", "3 d"])
+        self.assertEqual([text for _, _, text in articles], ["now", "2 min", "2 h", "3 d"])
+        self.assertEqual(articles[0][0], time.strftime("%Y-%m-%dT%H:%M:%SZ", time.gmtime(now // 1_000_000)))
+        text = self.ask("ann?before=1000000000000000&hours=1")[1]
+        self.assertNotIn("<time", text)
+        truth.post("ann", 999_999_999_000_000, "old")
+        self.server.restart()
+        self.assertIn(">9 September 2001</time>", self.ask("ann?before=1000000000000000&hours=1")[1])
+
+    def test_fields_and_buttons_have_names(self):
+        self.ask("bob/post", text="Hi")
+        for place in "", "ann":
+            text = self.ask(place)[1]
+            for field in re.findall(r'<(?:input|textarea) id="(\w+)"', text):
+                self.assertIn(f'<label for="{field}">', text)
+            for field in re.findall(r"<(?:input|textarea) [^>]*>", text):
+                self.assertRegex(field, 'id="|type="hidden"')
+        self.assertIn('aria-label="Follow bob"', text)
+        self.assertIn('id="news" role="status"', text)
 
     def test_what_is_no_name(self):
         self.assertEqual(self.ask("Ann|x")[0], 404)
@@ -130,7 +156,7 @@ class Shown(Pages):
             place = more and more[1]
         self.assertEqual([len(page) for page in names], [20, 20, 5])
         self.assertEqual(sum(names, []), [f"u{user}" for user in range(45)])
-        newest = re.findall(r'value="(u\d+)"><button>Follow', self.ask("ann")[1])
+        newest = re.findall(r'value="(u\d+)"><button aria-label="Follow u\d+">Follow', self.ask("ann")[1])
         self.assertEqual(newest, [f"u{user}" for user in range(44, 34, -1)])
 
     def test_older_posts_come_in_pages(self):
@@ -267,6 +293,7 @@ class Ends(Pages):
             status, text = self.ask(place)
             self.assertEqual(status, 503)
             self.assertIn("The cache does not answer", text)
+            self.assertIn("data-without-cache", text)
             self.assertIn(what, text)
         status, text = self.ask("bob/post", text=NASTY)
         self.assertEqual(status, 503)

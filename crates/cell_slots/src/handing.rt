@@ -1,13 +1,14 @@
 // Pieces of ranges, handed out row by row from what is kept.
-ghost use Rattle.std.specs.Prelude.{◌≡◌, ◌+◌, ◌≤◌, length, take, IfOk, OnErr, OnOk, None, Some};
+ghost use Rattle.std.specs.Prelude.{◌≡◌, ℕ, ◌+◌, ◌<◌, ◌≤◌, ◌⊎◌, length, take, true, IfOk, OnErr, OnOk, None, Some};
 ghost use Rattle.std.specs.Bool.{OnFalse, OnTrue};
 ghost use Rattle.semantics.specs.Histories.{joins_of};
 ghost use Rattle.growing_history.specs.Entered.{HasEntered, HasRank};
 ghost use Rattle.join_eval.specs.Moves.{Moves};
 ghost use Rattle.kept_ranges.specs.Sound.{IsSound};
-ghost use Rattle.range_state.specs.Ready.{HasSameSubject, IsReady};
+ghost use Rattle.range_state.specs.Ready.{HasSameSubject, IsReady, StandsAt, pending_meets};
+ghost use Rattle.range_state.specs.Asking.{AreBareThroughout};
 ghost use Rattle.range_state.specs.Work.{StaysWithin};
-ghost use Rattle.cell_slots.specs.Serving.{IsLeftOrStandsAt, IsPast, StandsFrom, output_within};
+ghost use Rattle.cell_slots.specs.Serving.{CountsReach, HasTooMany, IsLeftOrStandsAt, IsPast, StandsFrom, WasAdvanced, WasMended, output_within};
 
 use crate::serving::make_ready;
 use join_eval::{KeepFault, NeedBound, Reader, TooMany};
@@ -58,6 +59,12 @@ pub fn hand_kept<R: Reader, G: Gate, K: RowSink, L: Ledger>(
     ensures moves { Moves R.list R.floor R.went reader.old reader.new }
     ensures counted { steps.old ≤ steps.new }
     ensures cost { IfOk result (λ gave. OnTrue gave (steps.old + 1 + length (output_within state.old (R.list reader.old) p range.now) ≤ steps.new)) }
+    ensures wide { IfOk result (λ gave. OnFalse gave ((state.old.position ≡ None) ⊎ HasTooMany (Some most) (R.list reader.old) p range.now state.old)) }
+    ensures least { IfOk result (λ gave. OnTrue gave (CountsReach (R.list reader.old) p state.old (steps.old + 1 + length (output_within state.old (R.list reader.old) p range.now)) steps.new)) }
+    ensures behind { (q : ℕ) → StandsAt q state.old → q < p → AreBareThroughout (R.list reader.old) q p state.old.kept.needs →
+        IfOk result (λ gave. OnTrue gave (WasAdvanced (R.list reader.old) q p range.now state.old state.new (steps.old + 1 + length (output_within state.old (R.list reader.old) p range.now)) steps.new)) }
+    ensures pending { StandsAt p state.old → pending_meets state.old range.now ≡ true →
+        IfOk result (λ gave. OnTrue gave (WasMended (R.list reader.old) p range.now state.old state.new (steps.old + 1 + length (output_within state.old (R.list reader.old) p range.now)) steps.new)) }
     ensures at_once { IsReady p range.now state.old → OnOk result (steps.new ≡ steps.old + 1 + length (output_within state.old (R.list reader.old) p range.now)) }
 {
     let Some(_position) = state.position() else {

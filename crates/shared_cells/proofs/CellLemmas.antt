@@ -1,5 +1,5 @@
 -- What a cell keeps, over longer histories, and as the join's that is asked for.
-use Rattle.std.proofs.Common.{◌≡◌, ℕ, ◌<◌, ◌≤◌, ◌⊎◌, length, take, Option, IfSome, Some, None, Result, Ok, Err, IfErr, refl, sym, ap, ◌∙◌, subst, inl, inr, ⊎_elim, arith}
+use Rattle.std.proofs.Common.{◌≡◌, ℕ, ◌<◌, ◌≤◌, ◌⊎◌, length, take, Option, IfSome, MatchOption, Some, None, Result, Ok, Err, IfErr, refl, sym, ap, ◌∙◌, subst, inl, inr, ⊎_elim, arith}
 use Rattle.std.specs.Option.{IsSomeAnd}
 use Rattle.semantics.specs.Texts.{Table, Range, value_at, pairs_within}
 use Rattle.semantics.specs.Joins.{Join}
@@ -31,7 +31,7 @@ use Rattle.cell_slots.proofs.DeclaredLemmas.{declared_over_longer, declared_once
 use Rattle.rank_layers.specs.Telling.{TellsJoin}
 use Rattle.rank_layers.proofs.PartLemmas.{not_past}
 use Rattle.shared_cells.specs.Advancing.{IsKeptBy, StandsBare}
-use Rattle.shared_cells.specs.Cells.{CellView, IsRightIn, IsCell, HasSamePlace, IsCellFor, IsHeldOrEmpty, IsHeldOrStandsAt, IsLentFor, CanServe, IsReadyCell, IsWideCell, KeepsWithin}
+use Rattle.shared_cells.specs.Cells.{CellView, IsRightIn, IsCell, HasSamePlace, IsCellFor, IsHeldOrEmpty, IsHeldOrStandsAt, IsLentFor, CanServe, IsReadyCell, IsWideCell, KeepsNothing, KeepsWithin}
 
 -- ---- over longer histories
 
@@ -254,6 +254,11 @@ held_there p old new s t whose holds left = subst (IsHeldOrStandsAt p old) (sym 
     by_place any (inl (inr gone)) = inr (inl gone)
     by_place (inl is) (inl (inl same)) = inl (is ∙ ap (λ (k : KeptRange). Some k) (sym same))
     by_place (inr empty) (inl (inl same)) = inr (inl (ap (λ (k : KeptRange). k.position) same ∙ empty.0))
+
+-- where something stands nowhere, nothing is kept
+pub keeps_nothing : (held : Option KeptRange) (at : Option ℕ) → MatchOption held (at ≡ None) (λ s. at ≡ s.position) → at ≡ None → KeepsNothing held
+keeps_nothing None at is none = tt
+keeps_nothing (Some s) at is none = sym is ∙ none
 
 -- what is given back after it was served makes the cell one that can be read so, or one that is too wide
 pub served_cell : (lent after : CellView) (h more : History) (at rank p most : ℕ) (part : Range) (s t : KeptRange) → p ≤ length h → IsPrefix h more → IsLentFor lent at rank p part s → HasSamePlace lent after → after.held ≡ Some t

@@ -40,6 +40,10 @@ pub record IsCellFor (cell : CellView) (at rank : ℕ) (part : Range) : Type 0 w
   pub ranked : cell.rank ≡ rank
   pub whole : IsWithin part cell.range
 
+-- nothing of its range is kept in a cell
+abbrev pub KeepsNothing : Option KeptRange → Type 0
+KeepsNothing held = IfSome held (λ s. s.position ≡ None)
+
 -- what a cell keeps has no more than so many needs, if it keeps something
 abbrev pub KeepsWithin : ℕ → Option KeptRange → Type 0
 KeepsWithin most held = IfSome held (λ s. length s.kept.needs ≤ most)

@@ -1,10 +1,15 @@
 // What lies behind the lock of a cell, handed out row by row.
-ghost use Rattle.std.specs.Prelude.{◌≡◌, ◌≤◌, length, IfOk, IfSome, None, OnErr, OnOk};
+ghost use Rattle.std.specs.Prelude.{◌≡◌, ℕ, ◌+◌, ◌≤◌, ◌⊎◌, length, true, IfOk, None, OnErr, OnOk, Some};
 ghost use Rattle.std.specs.Bool.{OnFalse, OnTrue};
+ghost use Rattle.std.specs.Option.{IsSomeAnd};
 ghost use Rattle.semantics.specs.Joins.{Join as PlainJoin};
 ghost use Rattle.join_eval.specs.Moves.{Moves};
+ghost use Rattle.kept_ranges.specs.Sound.{KeptRange};
+ghost use Rattle.range_state.specs.Ready.{StandsAt, pending_meets};
+ghost use Rattle.cell_slots.specs.Serving.{CountsReach, HasTooMany, WasAdvanced, WasMended, output_within};
 ghost use Rattle.cell_slots.specs.Slots.{StandsAs};
-ghost use Rattle.shared_cells.specs.Cells.{CanServe, HasSamePlace, IsHeldOrStandsAt, IsReadyCell, KeepsWithin};
+ghost use Rattle.shared_cells.specs.Advancing.{StandsBare};
+ghost use Rattle.shared_cells.specs.Cells.{CanBeLent, CanServe, HasSamePlace, IsHeldOrStandsAt, IsReadyCell, KeepsNothing, KeepsWithin};
 ghost use Rattle.shared_cells.specs.Handing.{HandsOut};
 
 use crate::cell::Cell;
@@ -27,8 +32,12 @@ impl<N: Naming> Cell<N> {
     /// for another rank of it or has not the whole part, and where what is kept stands past p. Nor is it where nothing is kept, or
     /// what is kept stands below the reader's floor or would have more than `most` needs: then nothing is kept.
     ///
-    /// The cell's pass and the reader see what either has seen. Where the cell can be read over the part at once, what it keeps
-    /// stays as it is. Where it cannot serve the part, it takes no step.
+    /// The cell's pass and the reader see what either has seen. Where the cell can be read over the part at once, it takes one
+    /// step and one for each pair, and what it keeps stays as it is. Where what it keeps stands from the floor on, below p with
+    /// bare ranges, or at p with something pending that meets the part, it is not filled again, and takes these steps and no more
+    /// than those of an advance and a mend. Where it hands out what stands below p, from the floor on, it takes beside one step
+    /// and one for each pair one for each of its needs at least, or what filling takes. Where it cannot serve the part, it takes no
+    /// step.
     ///
     /// On `OutOfMemory` what is kept is as it was, or stands at p, or nothing is kept.
     pub fn hand<R: Stacked<N>, G: Gate, K: RowSink, L: Ledger>(
@@ -51,12 +60,22 @@ impl<N: Naming> Cell<N> {
         ensures idle { (CanServe self.old query.at query.rank query.p part.now → ⊥) → steps.new ≡ steps.old }
         ensures still { IsReadyCell self.old query.at query.rank query.p part.now → OnOk result (self.new.held ≡ self.old.held) }
         ensures few { KeepsWithin most self.old.held → IfOk result (λ gave. OnTrue gave (KeepsWithin most self.new.held)) }
-        ensures gone { CanServe self.old query.at query.rank query.p part.now → IfOk result (λ gave. OnFalse gave (IfSome self.new.held (λ s. s.position ≡ None))) }
+        ensures wide { (s : KeptRange) → CanBeLent self.old query.at query.rank query.p (R.floor reader.old) part.now s →
+            IfOk result (λ gave. OnFalse gave ((s.position ≡ None) ⊎ HasTooMany (Some most) (R.list reader.old) query.p part.now s)) }
+        ensures gone { CanServe self.old query.at query.rank query.p part.now → IfOk result (λ gave. OnFalse gave (KeepsNothing self.new.held)) }
         ensures err { OnErr result (IsHeldOrStandsAt query.p self.old.held self.new.held) }
         ensures same_place { HasSamePlace self.old self.new }
         ensures met { self.new.pass.view ≡ R.list reader.new }
         ensures moves { Moves R.list R.floor R.went reader.old reader.new }
         ensures counted { steps.old ≤ steps.new }
+        ensures least { (s : KeptRange) → CanBeLent self.old query.at query.rank query.p (R.floor reader.old) part.now s →
+            IfOk result (λ gave. OnTrue gave (CountsReach (R.list reader.old) query.p s (steps.old + 1 + length (output_within s (R.list reader.old) query.p part.now)) steps.new)) }
+        ensures at_once { (cell : IsReadyCell self.old query.at query.rank query.p part.now) →
+            OnOk result (steps.new ≡ steps.old + 1 + length (output_within cell.state (R.list reader.old) query.p part.now)) }
+        ensures behind { (s : KeptRange) (q : ℕ) → CanBeLent self.old query.at query.rank query.p (R.floor reader.old) part.now s → StandsBare (R.list reader.old) q query.p s →
+            IfOk result (λ gave. OnTrue gave (IsSomeAnd self.new.held (λ after. WasAdvanced (R.list reader.old) q query.p part.now s after (steps.old + 1 + length (output_within s (R.list reader.old) query.p part.now)) steps.new))) }
+        ensures pending { (s : KeptRange) → CanBeLent self.old query.at query.rank query.p (R.floor reader.old) part.now s → StandsAt query.p s → pending_meets s part.now ≡ true →
+            IfOk result (λ gave. OnTrue gave (IsSomeAnd self.new.held (λ after. WasMended (R.list reader.old) query.p part.now s after (steps.old + 1 + length (output_within s (R.list reader.old) query.p part.now)) steps.new))) }
     {
         let Some(state) = self.lend(alloc, query, part, reader)? else {
             return Ok(false);

@@ -1,11 +1,12 @@
 // One part of a range, from the cell that has it, which threads share, or with nothing kept.
-ghost use Rattle.std.specs.Prelude.{◌≡◌, ◌+◌, ◌≤◌, length, IfOk, IfSome};
+ghost use Rattle.std.specs.Prelude.{◌≡◌, ◌+◌, ◌≤◌, length, IfOk, IfSome, None};
 ghost use Rattle.std.specs.Bool.{OnTrue};
 ghost use Rattle.semantics.specs.Joins.{Join as PlainJoin};
 ghost use Rattle.growing_history.specs.Entered.{HasEntered};
 ghost use Rattle.join_eval.specs.Moves.{Moves};
 ghost use Rattle.cell_slots.specs.Slots.{IsOutput, StandsAs};
 ghost use Rattle.rank_layers.specs.Telling.{TellsJoin};
+ghost use Rattle.shared_cells.specs.Cells.{KeepsNothing};
 ghost use Rattle.shared_cells.specs.Handing.{HandsOut};
 
 use crate::room::Room;
@@ -53,7 +54,9 @@ pub fn read_alone<N: Naming, W, G: Gate, R: Stacked<N>, L: Ledger>(
 fn rows_kept<N: Naming>(
     found: &Result<Option<Vec<Pair>>, OutOfMemory>,
     cell: &Cell<N>,
-) -> Option<u64> {
+) -> Option<u64>
+    ensures { result ≡ None → KeepsNothing cell.now.held }
+{
     let gave = matches!(found, Ok(Some(_)));
     if gave && cell.position().is_none() {
         return None;
@@ -61,9 +64,13 @@ fn rows_kept<N: Naming>(
     Some(cell.rows())
 }
 
-/// How many rows the cell holds after it was asked what changed. None where its range takes more needs than may be kept.
-fn rows_told<N: Naming>(told: &Result<Changed, KeepFault<TooMany>>, cell: &Cell<N>) -> Option<u64> {
-    if matches!(told, Err(KeepFault::TooWide(_))) {
+/// How many rows the cell holds after it was asked what changed. None where its range takes more needs than may be kept, and it
+/// keeps nothing.
+fn rows_told<N: Naming>(told: &Result<Changed, KeepFault<TooMany>>, cell: &Cell<N>) -> Option<u64>
+    ensures { result ≡ None → KeepsNothing cell.now.held }
+{
+    let is_wide = matches!(told, Err(KeepFault::TooWide(_)));
+    if is_wide && cell.position().is_none() {
         return None;
     }
     Some(cell.rows())
@@ -123,7 +130,9 @@ fn read_cell<N: Naming, W: Wait, G: Gate, R: Stacked<N>, L: Ledger>(
 }
 
 /// How many rows the cell holds. None where it keeps nothing.
-fn rows_held<N: Naming>(cell: &Cell<N>) -> Option<u64> {
+fn rows_held<N: Naming>(cell: &Cell<N>) -> Option<u64>
+    ensures { result ≡ None → KeepsNothing cell.now.held }
+{
     let _position = cell.position()?;
     Some(cell.rows())
 }

@@ -1,15 +1,18 @@
-use Rattle.std.proofs.Common.{◌≡◌, ℕ, ◌≤◌, IfSome, Option, Some, None, sym, ap, ◌∙◌, subst, refl}
+use Rattle.std.proofs.Common.{◌≡◌, ℕ, ◌+◌, ◌≤◌, length, IfSome, Option, Some, None, true, sym, ap, ◌∙◌, subst, refl, arith}
 use Rattle.std.specs.Bool.{OnFalse}
+use Rattle.std.specs.Option.{IsSomeAnd}
 use Rattle.std.proofs.lemmas.Option.{none-some, same_Some}
 use Rattle.join_eval.proofs.MovesLemmas.{moves_trans}
 use Rattle.rank_layers.proofs.PartLemmas.{right_after}
+use Rattle.semantics.specs.Texts.{Table}
 use Rattle.kept_ranges.specs.Sound.{KeptRange}
-use Rattle.range_state.specs.Ready.{IsReady}
-use Rattle.cell_slots.specs.Serving.{StandsFrom, output_within}
+use Rattle.range_state.specs.Ready.{IsReady, StandsAt, pending_meets}
+use Rattle.cell_slots.specs.Serving.{StandsFrom, WasAdvanced, WasMended, output_within}
 use Rattle.cell_slots.proofs.AdvancedLemmas.{on_err_always}
+use Rattle.shared_cells.specs.Advancing.{StandsBare}
 use Rattle.shared_cells.specs.Cells.{IsHeldOrEmpty, IsHeldOrStandsAt, IsLentFor}
-use Rattle.shared_cells.proofs.CellLemmas.{held_there, lent_within, right_of_lent, rank_of_lent, output_of_lent}
-use Rattle.shared_cells.proofs.HandingLemmas.{few_handed, hands_out}
+use Rattle.shared_cells.proofs.CellLemmas.{held_there, lent_within, right_of_lent, rank_of_lent, output_of_lent, stands_longer}
+use Rattle.shared_cells.proofs.HandingLemmas.{few_handed, handed_advanced, handed_mended, handed_reach, hands_out, kept_or_wide, on_false_so, on_true_so, output_before}
 use Rattle.shared_cells.proofs.cell.Cell.hand.Goals as goal
 
 pub hand_kept-handed-requires-clause-stands : goal.hand_kept-handed-requires-clause-stands
@@ -103,3 +106,72 @@ returns-in_err-handed-clause-err g c =
     let whose : IsHeldOrEmpty c.args.self.now.held c.in-Some.state = subst (λ o. IfSome o (IsHeldOrEmpty c.args.self.now.held)) c.in-Some.is c.in_ok-state.ensures.whose in
     on_err_always c.from_residual-in_err-handed.result
     (held_there c.args.query.p c.args.self.now.held c.give_back.new.self.held c.in-Some.state c.hand_kept-handed.new.state whose c.give_back.ensures.held c.in_err-handed.ensures.err)
+
+-- ---- what is not filled anew, unless it would have too many needs
+
+pub returns-in_default-clause-wide : goal.returns-in_default-clause-wide
+returns-in_default-clause-wide g c = λ s can. absurd (none-some s (sym c.in_default.is ∙ c.in_ok-state.ensures.kept s can))
+
+pub returns-clause-wide : goal.returns-clause-wide
+returns-clause-wide g c = λ s can.
+    let own : c.in-Some.state ≡ s = same_Some c.in-Some.state s (sym c.in-Some.is ∙ c.in_ok-state.ensures.kept s can) in
+    on_false_so c.in_ok-handed.field-0
+    (kept_or_wide (Some c.args.most) (g.R.Reader.list c.args.reader.now) (g.R.Reader.list c.lend.new.reader) c.args.query.p c.args.part.now s c.in-Some.state c.lend.ensures.moves.kept c.requires.within own)
+    c.in_ok-handed.ensures.wide
+
+pub returns-clause-behind : goal.returns-clause-behind
+returns-clause-behind g c = λ s q can is.
+    let h = g.R.Reader.list c.args.reader.now in
+    let more = g.R.Reader.list c.lend.new.reader in
+    let p = c.args.query.p in
+    let part = c.args.part.now in
+    let kept = c.lend.ensures.moves.kept in
+    let new = c.hand_kept-handed.new in
+    let spent = c.args.steps.now + 1 + length (output_within s h p part) in
+    let own : c.in-Some.state ≡ s = same_Some c.in-Some.state s (sym c.in-Some.is ∙ c.in_ok-state.ensures.kept s can) in
+    let there : StandsBare more q p c.in-Some.state = stands_longer h more q p s c.in-Some.state kept c.requires.within own is in
+    let order : q ≤ p = let less = is.behind in omega (arith, less) in
+    on_true_so c.in_ok-handed.field-0
+    (λ (was : WasAdvanced more q p part c.in-Some.state new.state (c.args.steps.now + 1 + length (output_within c.in-Some.state more p part)) new.steps).
+    subst (λ (o : Option KeptRange). IsSomeAnd o (λ after. WasAdvanced h q p part s after spent new.steps)) (sym c.give_back.ensures.held)
+    (handed_advanced h more q p c.args.steps.now new.steps part s c.in-Some.state new.state kept c.requires.within order own was))
+    (c.in_ok-handed.ensures.behind q there.stands there.behind there.bare)
+
+pub returns-clause-pending : goal.returns-clause-pending
+returns-clause-pending g c = λ s can stands meets.
+    let h = g.R.Reader.list c.args.reader.now in
+    let more = g.R.Reader.list c.lend.new.reader in
+    let p = c.args.query.p in
+    let part = c.args.part.now in
+    let kept = c.lend.ensures.moves.kept in
+    let new = c.hand_kept-handed.new in
+    let spent = c.args.steps.now + 1 + length (output_within s h p part) in
+    let own : c.in-Some.state ≡ s = same_Some c.in-Some.state s (sym c.in-Some.is ∙ c.in_ok-state.ensures.kept s can) in
+    let at : StandsAt p c.in-Some.state = subst (StandsAt p) (sym own) stands in
+    let some : pending_meets c.in-Some.state part ≡ true = ap (λ (k : KeptRange). pending_meets k part) own ∙ meets in
+    on_true_so c.in_ok-handed.field-0
+    (λ (was : WasMended more p part c.in-Some.state new.state (c.args.steps.now + 1 + length (output_within c.in-Some.state more p part)) new.steps).
+    subst (λ (o : Option KeptRange). IsSomeAnd o (λ after. WasMended h p part s after spent new.steps)) (sym c.give_back.ensures.held)
+    (handed_mended h more p c.args.steps.now new.steps part s c.in-Some.state new.state kept c.requires.within own was))
+    (c.in_ok-handed.ensures.pending at some)
+
+-- ---- what is counted
+
+pub returns-clause-least : goal.returns-clause-least
+returns-clause-least g c = λ s can.
+    let own : c.in-Some.state ≡ s = same_Some c.in-Some.state s (sym c.in-Some.is ∙ c.in_ok-state.ensures.kept s can) in
+    on_true_so c.in_ok-handed.field-0
+    (handed_reach (g.R.Reader.list c.args.reader.now) (g.R.Reader.list c.lend.new.reader) c.args.query.p c.args.steps.now c.hand_kept-handed.new.steps c.args.part.now s c.in-Some.state c.lend.ensures.moves.kept c.requires.within own)
+    c.in_ok-handed.ensures.least
+
+pub returns-in_default-clause-at_once : goal.returns-in_default-clause-at_once
+returns-in_default-clause-at_once g c = λ ready. absurd (none-some ready.state (sym c.in_default.is ∙ c.in_ok-state.ensures.ready ready ∙ ready.holds))
+
+pub returns-clause-at_once : goal.returns-clause-at_once
+returns-clause-at_once g c = λ ready.
+    let p = c.args.query.p in
+    let part = c.args.part.now in
+    let own : c.in-Some.state ≡ ready.state = same_Some c.in-Some.state ready.state (sym c.in-Some.is ∙ c.in_ok-state.ensures.ready ready ∙ ready.holds) in
+    let there : IsReady p part c.in-Some.state = subst (IsReady p part) (sym own) ready.ready in
+    c.in_ok-handed.ensures.at_once there
+    ∙ ap (λ (rows : Table). c.args.steps.now + 1 + length rows) (output_before (g.R.Reader.list c.args.reader.now) (g.R.Reader.list c.lend.new.reader) p part ready.state c.in-Some.state c.lend.ensures.moves.kept c.requires.within own)

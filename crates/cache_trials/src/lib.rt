@@ -48,6 +48,10 @@ mod kept_rows;
 #[cfg(test)]
 mod playing;
 #[cfg(test)]
+mod scan_cost;
+#[cfg(test)]
+mod scanning;
+#[cfg(test)]
 mod seated;
 #[cfg(test)]
 mod threads;

@@ -6,12 +6,13 @@ ghost use Rattle.cache_trials.specs.Seated.{AreSeats};
 use crate::far_rows::FAR_ROWS;
 use crate::fed_rows::FED_ROWS;
 use crate::feed_cost::feed_since;
-use crate::kept::{Kept, Seen, keep_seats, pop_pass, read_at, turn_at_end, write};
+use crate::kept::{Kept, keep_seats, pop_pass, read_at, turn_at_end, write};
 use crate::kept_rows::{ROWS, Row};
+use crate::scanning::{Look, Looked, scan_at, show_pairs};
 use crate::seated::make_seats;
 use crate::wide_rows::WIDE_ROWS;
 use base_shards::Naming;
-use join_types::{Change, Pair};
+use join_types::Change;
 use key_space::Range;
 use pequod_cache::Seats;
 use pq_io::{Gate, OpenGate};
@@ -27,16 +28,21 @@ use write_history::Pass;
 
 /// A gate that counts how often it is passed: a read that does not pass it fills and mends nothing.
 #[derive(Drop)]
-struct Counter {
+pub struct Counter {
     passed: Cell<u64>,
 }
 
 impl Counter {
     /// It was not passed yet.
-    fn new() -> Counter {
+    pub fn new() -> Counter {
         Counter {
             passed: Cell::new(0),
         }
+    }
+
+    /// How often it was passed.
+    pub fn passed(&self) -> u64 {
+        self.passed.get()
     }
 }
 
@@ -62,16 +68,9 @@ fn show_turn(alloc: Global, text: &mut String, turn: Turn) -> Result<(), Fail> {
     Ok(())
 }
 
-/// Adds how often the gate was passed, and the pairs, as a line.
-fn show(alloc: Global, text: &mut String, passed: u64, pairs: Vec<Pair>) -> Result<(), Fail> {
-    text.push_str(format!(in alloc; "{passed}:")?.as_str())?;
-    for pair in pairs {
-        text.push(' ')?;
-        text.push_str(pair.key.text())?;
-        text.push('=')?;
-        text.push_str(pair.value.text())?;
-    }
-    text.push('\n')?;
+/// Adds how often the gate was passed, and the rows, as a line.
+fn show(alloc: Global, text: &mut String, passed: u64, rows: &str) -> Result<(), Fail> {
+    text.push_str(format!(in alloc; "{passed}:{rows}\n")?.as_str())?;
     Ok(())
 }
 
@@ -98,27 +97,38 @@ fn read_place(rt: &impl Abort, alloc: Global, text: &str) -> (u64, Range) {
     (p, Range::read(alloc, low, high).expect(rt, "a range"))
 }
 
-/// Reads at the place that a text is.
-fn read_there<N: Naming, R: Wait + Abort>(
+/// Reads or scans at the place that a text is.
+fn look_there<N: Naming, R: Wait + Abort>(
     rt: &R,
     alloc: Global,
     kept: &Kept<N>,
     pass: Pass,
     place: &str,
     gate: &Counter,
-) -> (Pass, Seen)
+    look: Look,
+) -> (Pass, Looked)
     requires { IsWriter N.history pass }
     ensures { IsWriter N.history result.0 }
 {
-    let (p, range) = read_place(rt, alloc, place);
+    let place = read_place(rt, alloc, place);
     let blank = Blank::new(1);
-    read_at::<N, Counter, Brand, R>(rt, kept, pass, p, &range, gate, blank)
+    match look {
+        Look::Scan => scan_at::<N, Counter, Brand, R>(rt, alloc, kept, pass, &place, gate, blank),
+        Look::Read => {
+            let (p, range) = place;
+            let (pass, seen) = read_at::<N, Counter, Brand, R>(
+                rt, kept, pass, p, &range, gate, blank,
+            );
+            let rows = show_pairs(alloc, seen.pairs.as_slice()).expect(rt, "memory");
+            let steps = seen.steps;
+            (pass, Looked { rows, steps })
+        }
+    }
 }
 
-/// A read that takes at most, or at least, so many steps, as the name says.
-fn expect_cost(rt: &impl Abort, name: &str, bound: &str, seen: &Seen) {
+/// A look that takes at most, or at least, so many steps, as the name says.
+fn expect_cost(rt: &impl Abort, name: &str, bound: &str, steps: u64) {
     let bound = bound.parse::<u64>().expect(rt, "a number of steps");
-    let steps = seen.steps;
     match name {
         "most" => assert!(rt; steps <= bound, "{steps} steps, at most {bound} wanted"),
         _ => assert!(rt; bound <= steps, "{steps} steps, at least {bound} wanted"),
@@ -161,7 +171,7 @@ fn settle<N: Naming, R: Wait + Abort>(
 
 /// Does what a line says: it writes, once or often, settles the base pairs, which adds a line, evicts a cell, makes room, which
 /// adds a line, takes a turn, which adds a line, asks what changed in a range since so many entries, which adds a line, reads a
-/// range after so many, which adds a line, or reads it with `most` or `least` so many steps.
+/// range after so many, or scans it, as is said, which adds a line, or does that with `most` or `least` so many steps.
 fn play_line<N: Naming, R: Wait + Abort>(
     rt: &R,
     alloc: Global,
@@ -169,6 +179,7 @@ fn play_line<N: Naming, R: Wait + Abort>(
     mut pass: Pass,
     line: &str,
     text: &mut String,
+    look: Look,
 ) -> Result<Pass, Fail>
     requires { IsWriter N.history pass }
     ensures { IfOk result (IsWriter N.history) }
@@ -213,25 +224,27 @@ fn play_line<N: Naming, R: Wait + Abort>(
         }
         "read" => {
             let gate = Counter::new();
-            let (pass, seen) = read_there(rt, alloc, kept, pass, about, &gate);
-            show(alloc, text, gate.passed.get(), seen.pairs)?;
+            let (pass, looked) = look_there(rt, alloc, kept, pass, about, &gate, look);
+            show(alloc, text, gate.passed(), looked.rows.as_str())?;
             Ok(pass)
         }
         _ => {
             let (bound, place) = about.split_once(' ').expect(rt, "a bound");
-            let (pass, seen) = read_there(rt, alloc, kept, pass, place, &Counter::new());
-            expect_cost(rt, name, bound, &seen);
+            let gate = Counter::new();
+            let (pass, looked) = look_there(rt, alloc, kept, pass, place, &gate, look);
+            expect_cost(rt, name, bound, looked.steps);
             Ok(pass)
         }
     }
 }
 
-/// What the lines of a row add.
+/// What the lines of a row add, where its ranges are looked at so.
 fn play<N: Naming, R: Wait + Abort>(
     rt: &R,
     alloc: Global,
     seats: Seats,
     row: &Row,
+    look: Look,
 ) -> Result<String, Fail>
     requires seats { AreSeats N.history seats }
     requires limit { 1 ≤ row.now.limit }
@@ -240,22 +253,22 @@ fn play<N: Naming, R: Wait + Abort>(
     let mut pass = pop_pass::<N, R>(rt, &mut passes);
     let mut text = String::new(alloc);
     for line in row.lines.lines() {
-        pass = play_line(rt, alloc, &kept, pass, line, &mut text)?;
+        pass = play_line(rt, alloc, &kept, pass, line, &mut text, look)?;
     }
     Ok(text)
 }
 
 /// What the lines of a row add, over a history of its own.
-fn play_row<R: Wait + Abort>(rt: &R, alloc: Global, row: &Row) -> Result<String, Fail> {
+fn play_row<R: Wait + Abort>(rt: &R, alloc: Global, row: &Row, look: Look) -> Result<String, Fail> {
     assert!(rt; 1 <= row.cells && row.cells <= 4 && 1 <= row.limit);
     let seats = make_seats(alloc, 1, row.cells)?;
-    play::<Brand, R>(rt, alloc, seats, row)
+    play::<Brand, R>(rt, alloc, seats, row, look)
 }
 
-/// Each row adds what is wanted.
-fn play_all<R: Wait + Abort>(rt: &R, alloc: Global, rows: &[Row]) -> Result<(), Fail> {
+/// Each row adds what is wanted, where its ranges are looked at so.
+fn play_all<R: Wait + Abort>(rt: &R, alloc: Global, rows: &[Row], look: Look) -> Result<(), Fail> {
     for row in rows {
-        let shown = play_row(rt, alloc, row)?;
+        let shown = play_row(rt, alloc, row, look)?;
         assert!(rt; shown.as_str() == row.wanted);
     }
     Ok(())
@@ -263,20 +276,40 @@ fn play_all<R: Wait + Abort>(rt: &R, alloc: Global, rows: &[Row]) -> Result<(), 
 
 #[test]
 fn one_thread_reads_what_is_kept(rt: HostRuntime) -> Result<(), Fail> {
-    play_all(&rt, rt.alloc(), &ROWS)
+    play_all(&rt, rt.alloc(), &ROWS, Look::Read)
+}
+
+#[test]
+fn one_thread_scans_what_is_kept(rt: HostRuntime) -> Result<(), Fail> {
+    play_all(&rt, rt.alloc(), &ROWS, Look::Scan)
 }
 
 #[test]
 fn one_thread_reads_what_is_far_behind(rt: HostRuntime) -> Result<(), Fail> {
-    play_all(&rt, rt.alloc(), &FAR_ROWS)
+    play_all(&rt, rt.alloc(), &FAR_ROWS, Look::Read)
+}
+
+#[test]
+fn one_thread_scans_what_is_far_behind(rt: HostRuntime) -> Result<(), Fail> {
+    play_all(&rt, rt.alloc(), &FAR_ROWS, Look::Scan)
 }
 
 #[test]
 fn one_thread_is_told_what_changed(rt: HostRuntime) -> Result<(), Fail> {
-    play_all(&rt, rt.alloc(), &FED_ROWS)
+    play_all(&rt, rt.alloc(), &FED_ROWS, Look::Read)
+}
+
+#[test]
+fn one_thread_is_told_what_changed_between_scans(rt: HostRuntime) -> Result<(), Fail> {
+    play_all(&rt, rt.alloc(), &FED_ROWS, Look::Scan)
 }
 
 #[test]
 fn one_thread_reads_wide_ranges(rt: HostRuntime) -> Result<(), Fail> {
-    play_all(&rt, rt.alloc(), &WIDE_ROWS)
+    play_all(&rt, rt.alloc(), &WIDE_ROWS, Look::Read)
+}
+
+#[test]
+fn one_thread_scans_wide_ranges(rt: HostRuntime) -> Result<(), Fail> {
+    play_all(&rt, rt.alloc(), &WIDE_ROWS, Look::Scan)
 }

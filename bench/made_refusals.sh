@@ -1,10 +1,11 @@
 #!/usr/bin/env bash
 # Lists each line of the program's crates where a refusal of memory is made by hand, in place of one that the allocator or the
 # system gave. Anybody can write `AllocError`, `AllocFailed`, or an error of the system whose kind is that no memory was found, and
-# ask for more memory than there can be; a body that answers `memory` at will has to do one of these. Below stands how many such
-# lines each file may have, and docs/DECISIONS.md says why they may. It ends with status 1 where a file has more or fewer of them,
-# so that one which moves to another file is seen too. It looks at text alone: a number that is worked out to be too large it
-# does not find, nor what a macro writes.
+# ask for more memory than there can be, or for a `refusal` of one who does; a body that answers `memory` at will has to do one of
+# these. Below stands each such line with the three lines of code that lead to it, and docs/DECISIONS.md says why they may stand.
+# It ends with status 1 where there is another, or one is gone, or what leads to it has changed, as a condition that holds more
+# often. It looks at text alone: a number that is worked out to be too large it does not find, nor what a macro writes, nor a
+# change further up.
 # Usage: bench/made_refusals.sh
 set -euo pipefail
 cd "$(dirname "$0")/.."
@@ -13,31 +14,50 @@ export LC_ALL=C
 # In `out_of_memory` a refusal is made of what it is given, and in `server` of the system's refusal of a thread. Each other one is
 # made of nothing.
 read -r -d '' wanted << 'END' || true
-crates/base_shards/src/shard.rt 1
-crates/join_rows/src/refusing.rt 1
-crates/load_run/src/acting.rt 1
-crates/load_run/src/declaring.rt 2
-crates/load_run/src/held.rt 1
-crates/out_of_memory/src/lib.rt 5
-crates/request_codec/src/reading.rt 1
-crates/server/src/beside.rt 2
-crates/write_history/src/history.rt 2
+crates/base_shards/src/shard.rt: if self.number == number { / return Ok(()); / } / Err(OutOfMemory::from(AllocError))
+crates/join_rows/src/entry.rt: ensures grows { Grows bytes.old.items bytes.new.items } / { / let Ok(start) = u32::try_from(bytes.len()) else { / return Err(refusal(*bytes.allocator()));
+crates/join_rows/src/leaves.rt: ensures unchanged { OnErr result (AreCounted leaves.new.items count) } / { / if count == u64::MAX { / return Err(refusal(alloc));
+crates/join_rows/src/packed.rt: { / match count.checked_add(more) { / Some(sum) => Ok(sum), / None => Err(refusal(alloc)),
+crates/join_rows/src/refusing.rt:  / use out_of_memory::OutOfMemory; / use std::alloc::Global; / pub fn refusal(alloc: Global) -> OutOfMemory {
+crates/join_rows/src/refusing.rt: use out_of_memory::OutOfMemory; / use std::alloc::Global; / pub fn refusal(alloc: Global) -> OutOfMemory { / match Vec::<u8>::with_capacity(alloc, usize::MAX) {
+crates/load_run/src/acting.rt: let _position = match client.write(rt, change) { / Reply::Done(position) => position, / Reply::Memory(memory) => return Err(memory), / _ => return Err(OutOfMemory::from(AllocError)),
+crates/load_run/src/declaring.rt: let position = match first.declare(rt, join) { / Reply::Done(position) => position, / Reply::Memory(memory) => return Err(memory), / _ => return Err(OutOfMemory::from(AllocError)),
+crates/load_run/src/declaring.rt: _ => return Err(OutOfMemory::from(AllocError)), / }; / if before.checked_add(1) != Some(position) { / return Err(OutOfMemory::from(AllocError));
+crates/load_run/src/held.rt: { / match bytes.checked_add(more) { / Some(sum) => Ok(sum), / None => Err(OutOfMemory::from(AllocError)),
+crates/out_of_memory/src/lib.rt: } / impl From<AllocError> for OutOfMemory { / fn from(_error: AllocError) -> Self { / OutOfMemory { refused: () }
+crates/out_of_memory/src/lib.rt: } / impl<T: Drop> From<AllocFailed<T>> for OutOfMemory { / fn from(_failed: AllocFailed<T>) -> Self { / OutOfMemory { refused: () }
+crates/out_of_memory/src/lib.rt: pub fn split<T>(failed: AllocFailed<T>) -> (OutOfMemory, T) / ensures { result.1 ≡ failed.value } / { / let AllocFailed { value } = failed;
+crates/out_of_memory/src/lib.rt: ensures { result.1 ≡ failed.value } / { / let AllocFailed { value } = failed; / (OutOfMemory { refused: () }, value)
+crates/out_of_memory/src/lib.rt: ensures { IsSome result ↔ (error_kind error.now ≡ ErrorKind.OutOfMemory) } / { / match error.kind() { / ErrorKind::OutOfMemory => Some(OutOfMemory { refused: () }),
+crates/request_codec/src/reading.rt: Ok(value) => Ok(value), / Err(error) => { / if error.is_memory() { / Err(LineFault::OutOfMemory(AllocError.into()))
+crates/server/src/beside.rt: Ok(thread) => thread, / Err(refused) => { / queue.close(rt); / return Err((OutOfMemory::from(AllocError::from(refused)), task));
+crates/server/src/beside.rt: { / let _updating = match scope.spawn(move || update(rt, bell, updater)) { / Ok(thread) => thread, / Err(refused) => return Err((OutOfMemory::from(AllocError::from(refused)), task)),
+crates/write_history/src/history.rt: logs.push(Log::new(alloc)?)?; / match Board::new(alloc, &words, logs, &kinds) { / Ok(made) => Ok(made), / Err(_) => Err(OutOfMemory::from(AllocError)),
+crates/write_history/src/history.rt: { / match some.checked_add(more) { / Some(count) => Ok(count), / None => Err(OutOfMemory::from(AllocError)),
 END
 
 # Types that name a refusal make none, so they are taken out of a line before it is looked at; nor does a `use` that gives no
 # other name.
 lines=$(
   find crates/*/src -name '*.rt' | sort | grep -vE '^crates/([a-z_]*_trials|row_texts|test_rows)/' | xargs awk '
-    /^ *\/\// || (/^ *(pub )?use / && !/ as /) { next }
+    FNR == 1 { third = second = first = "" }
+    /^ *\/\// || /^ *$/ { next }
     {
-      rest = $0
+      here = $0
+      sub(/^ */, "", here)
+      rest = here
       gsub(/<AllocError>|, AllocError>|: AllocError\)|AllocFailed</, "", rest)
-      if (rest ~ /AllocError|AllocFailed|ErrorKind::OutOfMemory|ErrorKind as|from_raw_os_error|\{ refused: \(\) \}/ ||
-          rest ~ /[iu]size::MAX|MAX as usize/) print FILENAME ":" FNR ":" $0
+      is_use = here ~ /^(pub )?use / && here !~ / as /
+      if (!is_use &&
+          (rest ~ /AllocError|AllocFailed|ErrorKind::OutOfMemory|ErrorKind as|from_raw_os_error|\{ refused: \(\) \}/ ||
+           rest ~ /[iu]size::MAX|MAX as usize|(^|[^a-z_])refusal\(/)) print FILENAME ": " third " / " second " / " first " / " here
+      third = second
+      second = first
+      first = here
     }'
 )
 printf '%s\n' "$lines"
-diff <(printf '%s\n' "$wanted") <(cut -d: -f1 <<< "$lines" | uniq -c | awk '{ print $2, $1 }') >&2 || {
-  echo "bench/made_refusals.sh: these files have another number of such lines than it says" >&2
+diff <(printf '%s\n' "$wanted") <(printf '%s\n' "$lines") >&2 || {
+  echo "bench/made_refusals.sh: these lines are other ones than it says" >&2
   exit 1
 }

@@ -83,10 +83,12 @@ attempt "a load of 100,000 acts by 4 workers as by one" 0 "$folder/wanted" load 
 
 # Questions about positions that lie 65,537 and 65,536 entries back.
 seq 65540 | awk '{ printf "[\"put\",\"k|a\",\"%d\"]\n", $1 } END { for (at = 3; at <= 4; at++) {
-  printf "[\"scan\",\"k|\",\"k}\",%d]\n[\"changes\",\"k|\",\"k}\",%d]\n", at, at } }' > "$folder/puts"
+  printf "[\"scan\",\"k|\",\"k}\",%d]\n[\"changes\",\"k|\",\"k}\",%d]\n", at, at }
+  print "[\"feed\",3]\n[\"feed\",65539]" }' > "$folder/puts"
 printf '%s\n' '["error","gone",65540]' '["error","gone",65540]' '["pairs",4,[["k|a","4"]]]' \
-  '["changes",4,65540,[["k|a","65540"]]]' > "$folder/wanted"
-"$program" run < "$folder/puts" 2> "$folder/message" | tail -n 4 > "$folder/written"
+  '["changes",4,65540,[["k|a","65540"]]]' '["error","gone",65540]' \
+  '["entries",65539,65540,[[0,["put","k|a","65540"]]]]' > "$folder/wanted"
+"$program" run < "$folder/puts" 2> "$folder/message" | tail -n 6 > "$folder/written"
 judge "positions too far back, and just not" 0 "${PIPESTATUS[0]}" "$folder/wanted"
 
 # A million puts of a thousand keys, in less room than all entries or all versions would take: what is old goes.

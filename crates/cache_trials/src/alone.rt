@@ -2,7 +2,7 @@
 ghost use Rattle.std.specs.Prelude.{◌≡◌, ◌≤◌, length};
 ghost use Rattle.pequod_cache.specs.Sitting.{AreOf, AreOfParts, AreWriters};
 
-use crate::asking::{Ask, FIRST_JOINS, answer_afresh, line_of, position_told};
+use crate::asking::{Ask, FIRST_JOINS, answer_afresh, draw_position, line_of, position_told};
 use base_shards::Naming;
 use pequod_cache::{LoneClient, Seats};
 use plain_history::PlainHistory;
@@ -23,12 +23,18 @@ const COUNT: usize = 1_000;
 /// One of so many of these asks for an earlier position.
 const REQUESTS_FOR_A_LOOK_BACK: u32 = 8;
 
+/// One of so many of those asks for the entries after it.
+const LOOKS_BACK_FOR_A_FEED: u32 = 4;
+
 /// A request that is drawn, where there are so many entries. A drop is of the join at this position.
 fn draw(generator: &mut Lcg64Xsh32, position: u64, entries: u64) -> Ask {
-    if generator.next_word() % REQUESTS_FOR_A_LOOK_BACK == 0 {
-        Ask::look_back(generator, entries)
+    if generator.next_word() % REQUESTS_FOR_A_LOOK_BACK != 0 {
+        return Ask::draw(generator, position);
+    }
+    if generator.next_word() % LOOKS_BACK_FOR_A_FEED == 0 {
+        Ask::feed(draw_position(generator, entries.saturating_add(2)))
     } else {
-        Ask::draw(generator, position)
+        Ask::look_back(generator, entries)
     }
 }
 

@@ -122,6 +122,8 @@ enum Act {
     ScanAt(u64),
     /// What changed in what is scanned since so many entries.
     Changes(u64),
+    /// The entries after so many.
+    Feed(u64),
 }
 
 /// The kinds as they are drawn, each as often as it stands here, beside scans, declarations and drops.
@@ -307,6 +309,11 @@ impl Ask {
         }
     }
 
+    /// A request for the entries after so many.
+    pub fn feed(position: u64) -> Ask {
+        Ask::of(Act::Feed(position), View::Timeline)
+    }
+
     /// A request that is drawn and asks for an earlier position, where there are so many entries. The position may lie just ahead.
     pub fn look_back(generator: &mut Lcg64Xsh32, entries: u64) -> Ask {
         let position = draw_position(generator, entries.saturating_add(2));
@@ -378,6 +385,7 @@ impl Ask {
             Act::Scan => Request::Scan(self.range(rt, alloc)),
             Act::ScanAt(position) => Request::ScanAt(self.range(rt, alloc), position),
             Act::Changes(position) => Request::Changes(self.range(rt, alloc), position),
+            Act::Feed(position) => Request::Feed(position),
         }
     }
 

@@ -24,7 +24,8 @@ impl Answered {
             | Reply::Refused(position, _)
             | Reply::Gone(position)
             | Reply::Ahead(position)
-            | Reply::Changes(_, position, _) => *position,
+            | Reply::Changes(_, position, _)
+            | Reply::Entries(_, position, _) => *position,
             Reply::Written(scan) => scan.position(),
             _ => panic!(rt; "a reply that names no position"),
         }

@@ -7,7 +7,7 @@ use Rattle.serde_json.specs.Data.{Data, null, boolean, number, string, array, ob
 use Rattle.semantics.specs.Texts.{Text, same}
 use Rattle.semantics.specs.Histories.{drop_join}
 use Rattle.semantics.proofs.PieceLemmas.{equal_by_same}
-use Rattle.protocol.specs.Requests.{write, LineFault, form, text_of, position_of, with_text, last_item, texts_and_position, form_of, request_of_form, request_of_value, request_of_two}
+use Rattle.protocol.specs.Requests.{write, earlier, feed_from, LineFault, form, text_of, position_of, with_text, last_item, texts_and_position, form_of, request_of_form, request_of_value, request_of_two}
 use Rattle.core_events.specs.Events.{Event}
 use Rattle.core_events.specs.Scripts.{number_of, or_form, append_written, append_texts}
 use Rattle.request_codec.proofs.FormLemmas.{HoldsOfFour, four_or_more}
@@ -33,16 +33,18 @@ text_behind : (client : ℕ) (t u : Text) (b : Bool) → (b || same t (codes "dr
 text_behind client t u true h = refl
 text_behind client t u false h = let is_drop : t ≡ codes "drop" = equal_by_same t (codes "drop") h in rw is_drop refl
 
--- a position behind it: `drop` alone has one
-position_behind : (client n : ℕ) (b : Bool) →
-    (if b then append_written client (if b then Ok (write (drop_join n)) else Err form) else Err form) ≡ append_written client (if b then Ok (write (drop_join n)) else Err form)
-position_behind client n true = refl
-position_behind client n false = refl
+-- a position behind it: of those that write `drop` alone has one
+position_behind : (client n : ℕ) (b f : Bool) →
+    (if b then append_written client (if b then Ok (write (drop_join n)) else (if f then Ok (earlier (feed_from n)) else Err form)) else Err form)
+    ≡ append_written client (if b then Ok (write (drop_join n)) else (if f then Ok (earlier (feed_from n)) else Err form))
+position_behind client n true f = refl
+position_behind client n false true = refl
+position_behind client n false false = refl
 
 last_behind : (client : ℕ) (t : Text) (text : Option Text) (position : Option ℕ) → is_of_two t ≡ true →
     append_items client (option_map (with_text t) (last_item text position)) ≡ append_request client (option_map (with_text t) (last_item text position))
 last_behind client t (Some u) position h = text_behind client t u (same t (codes "remove") || same t (codes "join")) h
-last_behind client t None (Some n) h = position_behind client n (same t (codes "drop"))
+last_behind client t None (Some n) h = position_behind client n (same t (codes "drop")) (same t (codes "feed"))
 last_behind client t None None h = refl
 
 -- two items

@@ -29,6 +29,7 @@ fn read_written(alloc: Global, client: u32, request: &Value) -> Result<Event, Li
         | Request::Scan(_)
         | Request::ScanAt(_, _)
         | Request::Changes(_, _)
+        | Request::Feed(_)
         | Request::Quit => return Err(LineFault::Form),
     };
     Ok(Event::Append { client, write })

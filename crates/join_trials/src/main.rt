@@ -1,5 +1,5 @@
 // Runs rows of text over the public calls that joins and lines go through: joins as values, their texts, the sets that they stand
-// in, files of joins, lines of requests and replies, links that are served, events and the load. Each line names what it tries
+// in, files of joins, lines of requests, replies and feeds, links that are served, events and the load. Each line names what it tries
 // and gives it its arguments, between `;`, and is printed again with its answer: the file `stdout` has the answers that are
 // wanted. A line that begins with `#` is a heading. A row costs no proof.
 //
@@ -9,6 +9,7 @@
 
 mod answer;
 mod events;
+mod feeds;
 mod files;
 mod links;
 mod load;
@@ -36,6 +37,7 @@ fn run(alloc: Global, fields: &mut Fields<'_>, answer: &mut Answer) -> Option<()
         "file" => files::run(alloc, kind, fields, answer),
         "request" => requests::run(alloc, kind, fields, answer),
         "reply" => replies::run(alloc, kind, fields, answer),
+        "feed" => feeds::run(alloc, kind, fields, answer),
         "piece" => pieces::run(alloc, kind, fields, answer),
         "link" => links::run(alloc, kind, fields, answer),
         "event" => events::run(alloc, kind, fields, answer),

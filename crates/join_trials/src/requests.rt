@@ -42,6 +42,10 @@ fn tell_request(request: &Request, answer: &mut Answer) {
             answer.say(range.hi());
             answer.tell(from);
         }
+        Request::Feed(from) => {
+            answer.say("feed");
+            answer.tell(from);
+        }
         Request::Declare(join) => {
             answer.say("join of");
             answer.tell(&join.sources.len());

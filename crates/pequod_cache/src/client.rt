@@ -2,7 +2,7 @@
 ghost use Rattle.std.specs.Prelude.{◌≡◌, ◌≢◌, ◌<◌, ◌∷◌, [], IfOk, IsOkAnd};
 ghost use Rattle.semantics.specs.Histories.{put, remove, declare, drop_join};
 ghost use Rattle.semantics.specs.Answers.{get, scan};
-ghost use Rattle.protocol.specs.Requests.{write, read, earlier, scan_at, changes_since};
+ghost use Rattle.protocol.specs.Requests.{write, read, earlier, scan_at, changes_since, feed_from};
 ghost use Rattle.protocol.specs.Told.{Told};
 ghost use Rattle.join_types.specs.Writes.{plain_write};
 ghost use Rattle.request_codec.specs.Plain.{plain_reply, plain_request};
@@ -389,6 +389,41 @@ impl<'g, N: Naming, G: Gate> Client<'g, N, G> {
         self.ask(rt, range, Question::Changes, from)
     }
 
+    /// Asks for the entries after a position: it looks, is pinned there while they are copied, and lets go of the pin.
+    fn look_and_feed<R: Wait>(&mut self, rt: &R, from: u64) -> Result<Reply, OutOfMemory>
+        ensures replied { IfOk result (λ reply. IsReplied self.old self.new (feed_from from) (plain_reply reply)) }
+        ensures goes_on { GoesOn self.old self.new }
+        ensures own { own self.new ≡ own self.old }
+    {
+        let Some(mut pass) = self.pass.take() else {
+            unreachable!()
+        };
+        let seen = self.cache.look(rt, &mut pass, &mut self.joins);
+        let position = match seen {
+            Err(memory) => {
+                self.pass = Some(pass);
+                return Err(memory);
+            }
+            Ok(position) => position,
+        };
+        let reply = self.cache.feed(rt, self.alloc, &mut pass, position, from);
+        self.cache.history.unpin(rt, &mut pass);
+        self.pass = Some(pass);
+        reply
+    }
+
+    /// The first entries after the first so many, as many as one line has room for: `Entries` with that number, the number of all
+    /// entries and those, or `Gone`, `Ahead` or `Memory` as `scan_at`. Linear in the texts of at most 1,000 entries.
+    pub fn feed<R: Wait>(&mut self, rt: &R, from: u64) -> Reply
+        ensures told { Told self.old.view self.new.view self.old.number (earlier (feed_from from) ∷ []) (plain_reply result ∷ []) }
+        ensures goes_on { GoesOn self.old self.new }
+    {
+        match self.look_and_feed(rt, from) {
+            Ok(reply) => reply,
+            Err(memory) => Reply::Memory(memory),
+        }
+    }
+
     /// Answers a request other than `Quit`, as the call for it does.
     pub fn answer<R: Wait>(&mut self, rt: &R, request: Request) -> Reply
         requires { request ≢ Request.Quit }
@@ -404,6 +439,7 @@ impl<'g, N: Naming, G: Gate> Client<'g, N, G> {
             Request::Scan(range) => self.scan(rt, &range),
             Request::ScanAt(range, at) => self.scan_at(rt, &range, at),
             Request::Changes(range, from) => self.changes(rt, &range, from),
+            Request::Feed(from) => self.feed(rt, from),
             Request::Quit => unreachable!(),
         }
     }

@@ -49,7 +49,7 @@ pub(crate) struct ToldBack {
 
 /// Why a position cannot be asked for where there are so many entries: it lies ahead, or too far back. None where it lies within
 /// reach.
-fn out_of_reach(at: u64, position: u64) -> Option<Reply>
+pub(crate) fn out_of_reach(at: u64, position: u64) -> Option<Reply>
     ensures { TellsReach at position result }
 {
     if position < at {

@@ -13,6 +13,7 @@ pub mod alone;
 pub mod cache;
 pub mod client;
 mod earlier;
+mod feeding;
 pub mod meeting;
 mod scanning;
 pub mod seats;

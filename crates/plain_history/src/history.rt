@@ -1,10 +1,10 @@
 // Entries that entered one after another, and what stands after any beginning of them.
-ghost use Rattle.std.specs.Prelude.{◌≡◌, ◌≢◌, ◌≤◌, ◌∷◌, [], OnErr, IfOk, length, take};
+ghost use Rattle.std.specs.Prelude.{◌≡◌, ◌≢◌, ◌-◌, ◌≤◌, ◌∷◌, [], OnErr, IfOk, length, take, drop};
 ghost use Rattle.semantics.specs.Texts.{pairs_within};
 ghost use Rattle.semantics.specs.States.{state};
 ghost use Rattle.semantics.specs.Verdicts.{AllEntered};
 ghost use Rattle.semantics.specs.Answers.{get, scan, answer};
-ghost use Rattle.protocol.specs.Requests.{write, scan_at, changes_since};
+ghost use Rattle.protocol.specs.Requests.{write, scan_at, changes_since, feed_from};
 ghost use Rattle.protocol.specs.Replies.{answered};
 ghost use Rattle.protocol.specs.Earlier.{earlier_reply};
 ghost use Rattle.protocol.specs.Told.{IsWithinReach, Told};
@@ -18,12 +18,24 @@ use join_model::{Entry, Standing, Write, afresh, state, value_afresh};
 use join_types::Pair;
 use key_space::{Key, Range};
 use out_of_memory::OutOfMemory;
-use request_codec::{Reply, Request};
+use request_codec::{Reply, Request, far_enough, feed_reply};
 use std::alloc::Global;
 use std::marker::Model;
 
 /// How many entries back a request may reach.
 const REACH: u64 = 65_536;
+
+/// Equal entries.
+fn copy_entries(alloc: Global, entries: &[Entry]) -> Result<Vec<Entry>, OutOfMemory>
+    ensures { IfOk result (λ copies. copies.items ≡ entries.now) }
+{
+    let mut copies = Vec::new(alloc);
+    for entry in entries {
+        let copy = entry.copy(alloc)?;
+        copies.push(copy)?;
+    }
+    Ok(copies)
+}
 
 /// A history whose entries are all of the client with the number 0, and entered with no cause against them. Contracts see it as its
 /// entries.
@@ -151,6 +163,36 @@ impl PlainHistory {
         }
     }
 
+    /// Returns the entries after the first so many, up to another number of them.
+    fn between(&self, from: u64, to: u64) -> &[Entry]
+        requires order { from ≤ to }
+        requires within { to ≤ length self.now }
+        ensures { result.now ≡ take (to - from) (drop from self.now) }
+    {
+        &self.entries.as_slice()[from as usize..to as usize]
+    }
+
+    /// The first entries after the first so many, which lie within reach, as many as one line has room for.
+    fn feed_within(&self, from: u64) -> Result<Reply, OutOfMemory>
+        requires { IsWithinReach (length self.now) from }
+        ensures { IfOk result (λ reply. plain_reply reply ≡ earlier_reply (feed_from from) self.now) }
+    {
+        let position = self.len();
+        let to = far_enough(from, position);
+        let entries = copy_entries(self.alloc, self.between(from, to))?;
+        feed_reply(self.alloc, from, position, entries)
+    }
+
+    /// The first entries after the first so many, as many as one line has room for.
+    fn feed(&self, from: u64) -> Result<Reply, OutOfMemory>
+        ensures { IfOk result (λ reply. plain_reply reply ≡ earlier_reply (feed_from from) self.now) }
+    {
+        match self.out_of_reach(from) {
+            Some(reply) => Ok(reply),
+            None => self.feed_within(from),
+        }
+    }
+
     /// Enters a write where there is no cause against it: `Done` with its position, or `Refused` with the number of entries and the
     /// cause. The room for the entry is there before anything changes. It costs what `Standing` takes to judge and to enter it.
     ///
@@ -192,6 +234,7 @@ impl PlainHistory {
             Request::Scan(range) => self.scan(&range),
             Request::ScanAt(range, at) => self.scan_at(&range, at),
             Request::Changes(range, from) => self.changes(&range, from),
+            Request::Feed(from) => self.feed(from),
             Request::Quit => unreachable!(),
         }
     }

@@ -11,15 +11,17 @@ use Rattle.semantics.specs.Texts.{Text, Range}
 use Rattle.semantics.specs.States.{state}
 use Rattle.semantics.specs.Answers.{Read, Answer, scan, answer}
 use Rattle.growing_history.specs.StateChanges.{Change, changes_between, changes}
-use Rattle.protocol.specs.Requests.{Request, write, read, earlier, quit, Earlier, scan_at, changes_since, LineFault, request_of}
-use Rattle.protocol.specs.Replies.{Reply, done, answered, refused, gone, ahead, changed, unread, long, memory, bye}
-use Rattle.protocol.specs.Earlier.{reach_back, asked_position, told_back, earlier_reply}
-use Rattle.protocol.specs.Told.{IsWithinReach, AnswersScanAt, AnswersChangesSince, answer_position, Answers, Place, own_entry, after_entries, reaching, anywhere, place_of, places, InOrder, done_positions, own_positions}
+use Rattle.protocol.specs.Requests.{Request, write, read, earlier, quit, Earlier, scan_at, changes_since, feed_from, LineFault, request_of}
+use Rattle.protocol.specs.Replies.{Reply, done, answered, refused, gone, ahead, changed, fed, unread, long, memory, bye}
+use Rattle.protocol.specs.Feeds.{run}
+use Rattle.protocol.specs.Earlier.{reach_back, asked_position, earlier_reply}
+use Rattle.protocol.specs.Told.{IsWithinReach, answer_position, Answers, Place, own_entry, after_entries, reaching, anywhere, place_of, places, InOrder, done_positions, own_positions}
 use Rattle.protocol.specs.Own.{AreOwn}
 use Rattle.protocol.specs.Transcript.{Reading, Step, write_step, step_of, memory_step, line_step, onto_replies, after_step, outcome_from}
 use Rattle.protocol.specs.Session.{AnswersLine, told_pairs, is_bye}
 use Rattle.protocol.proofs.WrittenLines.{is_memory}
 use Rattle.protocol.proofs.EarlierLemmas.{earlier_reply-within, earlier_reply-gone, earlier_reply-ahead}
+use Rattle.protocol.proofs.Telling.{run-append}
 
 -- every form of a request is read, whatever the history is
 abbrev pub every_form : Reading
@@ -79,6 +81,7 @@ first_above low high m ((request, refused n cause) ∷ pairs) ms ordered first =
 first_above low high m ((request, gone n) ∷ pairs) ms ordered first = let above = first_above n high m pairs ms ordered.2 first in omega (arith, ordered.0)
 first_above low high m ((request, ahead n) ∷ pairs) ms ordered first = let above = first_above n high m pairs ms ordered.2 first in omega (arith, ordered.0)
 first_above low high m ((request, changed start n listed) ∷ pairs) ms ordered first = let above = first_above n high m pairs ms ordered.2 first in omega (arith, ordered.0)
+first_above low high m ((request, fed start n listed) ∷ pairs) ms ordered first = let above = first_above n high m pairs ms ordered.2 first in omega (arith, ordered.0)
 first_above low high m ((request, unread fault) ∷ pairs) ms ordered first = first_above low high m pairs ms ordered first
 first_above low high m ((request, long) ∷ pairs) ms ordered first = first_above low high m pairs ms ordered first
 first_above low high m ((request, memory) ∷ pairs) ms ordered first = first_above low high m pairs ms ordered first
@@ -287,6 +290,7 @@ module _ (view : History) (line : Text) (lines : List Text) (replies : List Repl
   write_first h rest w (gone n) is g = absurd g.answers.0
   write_first h rest w (ahead n) is g = absurd g.answers.0
   write_first h rest w (changed start n listed) is g = absurd g.answers.0
+  write_first h rest w (fed start n listed) is g = absurd g.answers.0
   write_first h rest w (unread fault) is g = absurd g.answers.0
   write_first h rest w long is g = absurd g.answers.0
   write_first h rest w memory is g = no_memory_first h rest _ g (unanswered h rest (write w) g)
@@ -300,6 +304,7 @@ module _ (view : History) (line : Text) (lines : List Text) (replies : List Repl
   read_first h rest r (gone n) is g = absurd g.answers.0
   read_first h rest r (ahead n) is g = absurd g.answers.0
   read_first h rest r (changed start n listed) is g = absurd g.answers.0
+  read_first h rest r (fed start n listed) is g = absurd g.answers.0
   read_first h rest r (unread fault) is g = absurd g.answers.0
   read_first h rest r long is g = absurd g.answers.0
   read_first h rest r memory is g = no_memory_first h rest _ g (unanswered h rest (read r) g)
@@ -353,6 +358,7 @@ module _ (view : History) (line : Text) (lines : List Text) (replies : List Repl
       ∙ ap (λ prefix. answered (answer (scan range) prefix)) (sym (shorter_prefix h rest p g.whole within.not_ahead)) ∙ ap answered (sym g.answers.0))
       (subst (λ m. InOrder m (length view) (pair_places told_later)) here g.ordered.4) refl
   scan_at_first h rest (changes_since range from) a is g = absurd g.answers.0
+  scan_at_first h rest (feed_from from) a is g = absurd g.answers.0
 
   -- what changed since a position up to another is told by the history so far
   changes_so_far : (h rest : History) (range : Range) (q : ℕ) → view ≡ h ++ rest → q ≤ length h → changes range h q (length h) ≡ changes range view q (length h)
@@ -374,6 +380,26 @@ module _ (view : History) (line : Text) (lines : List Text) (replies : List Repl
       (earlier_reply-within (changes_since range from) h within ∙ ap (changed from (length h)) same
       ∙ ap₂ (λ first last. changed first last listed) (sym g.answers.0.0) (sym here))
       (subst (λ m. InOrder m (length view) (pair_places told_later)) here g.ordered.2) refl
+  changes_since_first h rest (feed_from from) start n listed is g = absurd g.answers.0
+
+  -- the first entries after a position up to another are told by the history so far
+  run_so_far : (h rest : History) (q : ℕ) → view ≡ h ++ rest → q ≤ length h → run h q (length h) ≡ run view q (length h)
+  run_so_far h rest q whole order = run-append h rest q (length h) order (omega arith) ∙ ap (λ v. run v q (length h)) (sym whole)
+
+  -- the first entries after an earlier position
+  feed_from_first : (h rest : History) (e : Earlier) (start n : ℕ) (listed : History) → request_of line ≡ Ok (earlier e) →
+      First h rest (fed start n listed) ((earlier e, fed start n listed) ∷ told_pairs lines replies) → Shown h (fed start n listed)
+  feed_from_first h rest (scan_at range p) start n listed is g = absurd g.answers.0
+  feed_from_first h rest (changes_since range from) start n listed is g = absurd g.answers.0
+  feed_from_first h rest (feed_from from) start n listed is g =
+      let here : n ≡ length h = position_is view h rest n told_later g.whole g.own g.ordered.0 g.ordered.1 g.ordered.2 g.positions in
+      let within : IsWithinReach (length h) from = subst (λ m. IsWithinReach m from) here g.answers.0.1 in
+      let same : run h from (length h) ≡ listed =
+      run_so_far h rest from g.whole within.not_ahead ∙ ap (run view from) (sym here) ∙ sym g.answers.0.2 in
+      earlier_goes_on h rest (feed_from from) (fed start n listed) is g refl refl
+      (earlier_reply-within (feed_from from) h within ∙ ap (fed from (length h)) same
+      ∙ ap₂ (λ first last. fed first last listed) (sym g.answers.0.0) (sym here))
+      (subst (λ m. InOrder m (length view) (pair_places told_later)) here g.ordered.2) refl
 
   -- a line that asks about an earlier position
   earlier_first : (h rest : History) (e : Earlier) (reply : Reply) → request_of line ≡ Ok (earlier e) → First h rest reply ((earlier e, reply) ∷ told_pairs lines replies) → Shown h reply
@@ -383,6 +409,7 @@ module _ (view : History) (line : Text) (lines : List Text) (replies : List Repl
   earlier_first h rest e (gone n) is g = gone_first h rest e n is g
   earlier_first h rest e (ahead n) is g = ahead_first h rest e n is g
   earlier_first h rest e (changed start n listed) is g = changes_since_first h rest e start n listed is g
+  earlier_first h rest e (fed start n listed) is g = feed_from_first h rest e start n listed is g
   earlier_first h rest e (unread fault) is g = absurd g.answers.0
   earlier_first h rest e long is g = absurd g.answers.0
   earlier_first h rest e memory is g = no_memory_first h rest _ g (unanswered h rest (earlier e) g)

@@ -7,8 +7,9 @@ use Rattle.semantics.specs.Histories.{History}
 use Rattle.semantics.specs.States.{state}
 use Rattle.semantics.specs.Answers.{pairs, answer}
 use Rattle.growing_history.specs.StateChanges.{Change, changes}
-use Rattle.protocol.specs.Requests.{Earlier, scan_at, changes_since}
-use Rattle.protocol.specs.Replies.{Reply, answered, gone, ahead, changed}
+use Rattle.protocol.specs.Requests.{Earlier, scan_at, changes_since, feed_from}
+use Rattle.protocol.specs.Replies.{Reply, answered, gone, ahead, changed, fed}
+use Rattle.protocol.specs.Feeds.{run}
 use Rattle.protocol.specs.Earlier.{reach_back, asked_position, told_back, earlier_reply}
 use Rattle.protocol.specs.Told.{IsWithinReach}
 use Rattle.protocol.proofs.WrittenLines.{is_memory}
@@ -49,12 +50,19 @@ pub changes_told : (range : Range) (from position : ℕ) (h : History) (listed :
 changes_told range from position h listed within whole is =
     ap (changed from position) is ∙ ap (λ n. changed from n (changes range h from n)) whole ∙ sym (earlier_reply-within (changes_since range from) h within)
 
+-- the first entries after it
+pub feed_told : (from position : ℕ) (h listed : History) → IsWithinReach (length h) from → position ≡ length h → listed ≡ run h from position →
+    fed from position listed ≡ earlier_reply (feed_from from) h
+feed_told from position h listed within whole is =
+    ap (fed from position) is ∙ ap (λ n. fed from n (run h from n)) whole ∙ sym (earlier_reply-within (feed_from from) h within)
+
 -- none of these is `memory`
 no_memory_by : (far past : Bool) (e : Earlier) (h : History) → is_memory (reply_by far past e h) ≡ false
 no_memory_by true past e h = refl
 no_memory_by false true e h = refl
 no_memory_by false false (scan_at range at) h = refl
 no_memory_by false false (changes_since range from) h = refl
+no_memory_by false false (feed_from from) h = refl
 
 pub earlier_no_memory : (e : Earlier) (h : History) → is_memory (earlier_reply e h) ≡ false
 unfolding earlier_reply

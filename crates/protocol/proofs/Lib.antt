@@ -12,3 +12,4 @@ pub mod TellingSteps
 pub mod RunSteps
 pub mod Alone
 pub mod AloneRuns
+pub mod FeedRuns

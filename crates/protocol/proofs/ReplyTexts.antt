@@ -6,13 +6,14 @@ use Rattle.serde_json.specs.Data.{string}
 use Rattle.serde_json.specs.View.{items_of}
 use Rattle.serde_json.specs.Written.{compact_text}
 use Rattle.semantics.specs.Texts.{Text, Table}
+use Rattle.semantics.specs.Histories.{Write, put, remove, declare, drop_join, History}
 use Rattle.semantics.specs.Verdicts.{Cause, computed, full, nojoin, slots, sources, clash, cycle, deep, many}
 use Rattle.semantics.specs.Answers.{Answer, found, absent, pairs}
 use Rattle.growing_history.specs.StateChanges.{Change}
 use Rattle.protocol.specs.Rows.{whole_number, list_of}
 use Rattle.protocol.specs.Requests.{LineFault, json, form, key, value, range, syntax}
-use Rattle.protocol.specs.Replies.{Reply, done, answered, refused, gone, ahead, changed, unread, long, memory, bye, fault_items, cause_items, pair_item, answer_items, value_items, change_item, reply_items, reply_text}
-use Rattle.protocol.specs.ReplyLaws.{IsSmall, HasSmallCause, HasSmallFault, HasSmallAnswer, HasSmallNumbers}
+use Rattle.protocol.specs.Replies.{Reply, done, answered, refused, gone, ahead, changed, fed, unread, long, memory, bye, fault_items, cause_items, pair_item, answer_items, value_items, change_item, write_items, entry_item, reply_items, reply_text}
+use Rattle.protocol.specs.ReplyLaws.{IsSmall, HasSmallCause, HasSmallFault, HasSmallAnswer, HasSmallWrite, HasSmallEntry, HasSmallNumbers}
 use Rattle.protocol.proofs.OneLine.{has_feed, has_feed-compact_text}
 use Rattle.protocol.proofs.CompactTexts.{IsSmallData, compact_text_injective, items_of_injective, AreSmallItems-items_of, AllByRecursion-map}
 use Rattle.protocol.proofs.ReplyReading.{reply_items_injective}
@@ -74,6 +75,18 @@ small_changes : (changes : List Change) → AllByRecursion IsSmallData (map chan
 small_changes [] = tt
 small_changes (change ∷ changes) = (small_change change.key change.value, small_changes changes)
 
+-- a write is small, where its number is
+small_write : (w : Write) → HasSmallWrite w → IsSmallData (list_of (write_items w))
+small_write (put k v) h = (tt, (tt, (tt, tt)))
+small_write (remove k) h = (tt, (tt, tt))
+small_write (declare j) h = (tt, (tt, tt))
+small_write (drop_join n) h = (tt, (h, tt))
+
+-- entries are small
+small_entries : (es : History) → AllByRecursion HasSmallEntry es → AllByRecursion IsSmallData (map entry_item es)
+small_entries [] h = tt
+small_entries (e ∷ es) h = ((h.0.0, (small_write e.write h.0.1, tt)), small_entries es h.1)
+
 -- the items of a reply are small
 small_items : (reply : Reply) → HasSmallNumbers reply → AllByRecursion IsSmallData (reply_items reply)
 small_items (done n) h = (tt, (h, tt))
@@ -82,6 +95,7 @@ small_items (refused n cause) h = (tt, (tt, (h.0, small_cause cause h.1)))
 small_items (gone n) h = (tt, (tt, (h, tt)))
 small_items (ahead n) h = (tt, (tt, (h, tt)))
 small_items (changed from n changes) h = (tt, (h.0, (h.1, (AreSmallItems-items_of _ (small_changes changes), tt))))
+small_items (fed from n es) h = (tt, (h.0, (h.1, (AreSmallItems-items_of _ (small_entries es h.2), tt))))
 small_items (unread fault) h = (tt, (tt, small_fault fault h))
 small_items long h = (tt, (tt, tt))
 small_items memory h = (tt, (tt, tt))
@@ -96,7 +110,7 @@ pub reply_front_injective : (reply other : Reply) → HasSmallNumbers reply → 
 reply_front_injective reply other h k same =
     let lists : list_of (reply_items reply) ≡ list_of (reply_items other) = compact_text_injective _ _ (small_reply reply h) (small_reply other k) same in
     let items : items_of (reply_items reply) ≡ items_of (reply_items other) = cc in
-    reply_items_injective reply other (items_of_injective _ _ items)
+    reply_items_injective reply other h k (items_of_injective _ _ items)
 
 -- replies with the same text are the same, where their numbers are small
 pub reply_text_injective : (reply other : Reply) → HasSmallNumbers reply → HasSmallNumbers other → reply_text reply ≡ reply_text other → reply ≡ other

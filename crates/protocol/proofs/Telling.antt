@@ -2,7 +2,7 @@
 use Rattle.std.proofs.Common.{◌≡◌, ℕ, zero, suc, ◌+◌, ◌-◌, ◌<◌, ◌≤◌, ◌==◌, List, [], ◌∷◌, ◌++◌, length, take, drop, map, Some, None, refl, sym, ap, ap₂, ◌∙◌, subst, arith, append_assoc, length-append}
 use Rattle.std.specs.Prelude.{⊤, slice_get, filter}
 use Rattle.std.specs.List.{AllZip, enumerate_from}
-use Rattle.std.proofs.lemmas.List.{take-append-le, map-append}
+use Rattle.std.proofs.lemmas.List.{take-append-le, drop-append-le, length-drop, map-append}
 use Rattle.std.proofs.Math.Seq.{drop-append_seam}
 use Rattle.std.proofs.lemmas.List.Elements.{filter_map-append, filter-append}
 use Rattle.semantics.specs.Texts.{Range}
@@ -11,10 +11,11 @@ use Rattle.semantics.specs.States.{state}
 use Rattle.semantics.specs.Verdicts.{verdict}
 use Rattle.semantics.specs.Answers.{Answer, scan, answer}
 use Rattle.growing_history.specs.StateChanges.{Change, changes_between, changes}
-use Rattle.protocol.specs.Requests.{Request, write, read, earlier, quit, Earlier, scan_at, changes_since}
-use Rattle.protocol.specs.Replies.{Reply, done, answered, refused, gone, ahead, changed, unread, long, memory, bye}
+use Rattle.protocol.specs.Requests.{Request, write, read, earlier, quit, Earlier, scan_at, changes_since, feed_from}
+use Rattle.protocol.specs.Replies.{Reply, done, answered, refused, gone, ahead, changed, fed, unread, long, memory, bye}
+use Rattle.protocol.specs.Feeds.{longest, most_entries, run}
 use Rattle.protocol.specs.Earlier.{asked_position}
-use Rattle.protocol.specs.Told.{answer_position, AnswersScanAt, AnswersChangesSince, AnswersEarlier, Answers, Place, own_entry, after_entries, reaching, anywhere, place_of, places, InOrder, own_positions, Told}
+use Rattle.protocol.specs.Told.{answer_position, AnswersScanAt, AnswersChangesSince, AnswersFeedFrom, AnswersEarlier, Answers, Place, own_entry, after_entries, reaching, anywhere, place_of, places, InOrder, own_positions, Told}
 
 -- a place does not pass a bound, and what it reaches back to does not
 abbrev IsWithin : ℕ → Place → Type 0
@@ -43,6 +44,7 @@ changes-append view more range q n order inside =
 scan_at-append : (view more : History) (e : Earlier) (a : Answer) → asked_position e ≤ length view → AnswersScanAt view e a → AnswersScanAt (view ++ more) e a
 scan_at-append view more (scan_at range p) a inside h = subst (λ prefix. a ≡ answer (scan range) prefix) (prefix-append view more p inside) h
 scan_at-append view more (changes_since range from) a inside h = h
+scan_at-append view more (feed_from from) a inside h = h
 
 -- the same of what changed since one
 changes_since-append : (view more : History) (e : Earlier) (start n : ℕ) (listed : List Change) → n ≤ length view →
@@ -50,6 +52,25 @@ changes_since-append : (view more : History) (e : Earlier) (start n : ℕ) (list
 changes_since-append view more (scan_at range p) start n listed inside h = h
 changes_since-append view more (changes_since range from) start n listed inside h =
     (h.0, h.1, h.2 ∙ changes-append view more range from n h.1.not_ahead inside)
+changes_since-append view more (feed_from from) start n listed inside h = h
+
+-- the entries between two positions of a view are those between them in a longer one
+between-append : (view more : History) (q n : ℕ) → q ≤ n → n ≤ length view → take (n - q) (drop q view) ≡ take (n - q) (drop q (view ++ more))
+between-append view more q n order inside =
+    let fits : n - q ≤ length (drop q view) = omega (arith, length-drop q view) in
+    sym (ap (take (n - q)) (drop-append-le q view more (omega arith)) ∙ take-append-le (n - q) (drop q view) more fits)
+
+-- and so are the first of them that one line has room for
+pub run-append : (view more : History) (q n : ℕ) → q ≤ n → n ≤ length view → run view q n ≡ run (view ++ more) q n
+unfolding run
+run-append view more q n order inside = ap (λ es. longest q n es most_entries) (between-append view more q n order inside)
+
+-- the same of the first entries after a position
+feed_from-append : (view more : History) (e : Earlier) (start n : ℕ) (listed : History) → n ≤ length view →
+    AnswersFeedFrom view e start n listed → AnswersFeedFrom (view ++ more) e start n listed
+feed_from-append view more (scan_at range p) start n listed inside h = h
+feed_from-append view more (changes_since range from) start n listed inside h = h
+feed_from-append view more (feed_from from) start n listed inside h = (h.0, h.1, h.2 ∙ run-append view more from n h.1.not_ahead inside)
 
 -- a reply to a question about an earlier position over a view is one over a longer view, where its place does not pass the first
 earlier-append : (view more : History) (e : Earlier) (reply : Reply) →
@@ -60,6 +81,7 @@ earlier-append view more e (refused n cause) inside h = h
 earlier-append view more e (gone n) inside h = h
 earlier-append view more e (ahead n) inside h = h
 earlier-append view more e (changed start n listed) inside h = changes_since-append view more e start n listed inside h
+earlier-append view more e (fed start n listed) inside h = feed_from-append view more e start n listed inside h
 earlier-append view more e (unread fault) inside h = h
 earlier-append view more e long inside h = h
 earlier-append view more e memory inside h = h
@@ -77,6 +99,7 @@ answers-append view more client (write w) (refused n cause) inside h = subst (λ
 answers-append view more client (write w) (gone n) inside h = h
 answers-append view more client (write w) (ahead n) inside h = h
 answers-append view more client (write w) (changed start n listed) inside h = h
+answers-append view more client (write w) (fed start n listed) inside h = h
 answers-append view more client (write w) (unread fault) inside h = h
 answers-append view more client (write w) long inside h = h
 answers-append view more client (write w) memory inside h = h
@@ -87,6 +110,7 @@ answers-append view more client (read r) (refused n cause) inside h = h
 answers-append view more client (read r) (gone n) inside h = h
 answers-append view more client (read r) (ahead n) inside h = h
 answers-append view more client (read r) (changed start n listed) inside h = h
+answers-append view more client (read r) (fed start n listed) inside h = h
 answers-append view more client (read r) (unread fault) inside h = h
 answers-append view more client (read r) long inside h = h
 answers-append view more client (read r) memory inside h = h

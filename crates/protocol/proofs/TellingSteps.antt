@@ -9,7 +9,7 @@ use Rattle.semantics.specs.Histories.{Write, Entry, History}
 use Rattle.semantics.specs.States.{state}
 use Rattle.semantics.specs.Verdicts.{Cause, verdict}
 use Rattle.semantics.specs.Answers.{Read, get, scan, answer}
-use Rattle.protocol.specs.Requests.{write, read, earlier, Earlier, scan_at, changes_since}
+use Rattle.protocol.specs.Requests.{write, read, earlier, Earlier, scan_at, changes_since, feed_from}
 use Rattle.protocol.specs.Replies.{done, answered, refused, gone, ahead, memory}
 use Rattle.protocol.specs.Earlier.{reach_back, asked_position, told_back, earlier_reply}
 use Rattle.protocol.specs.Told.{IsWithinReach, answer_position, own_positions, Told}
@@ -58,6 +58,12 @@ told_back_to view client (scan_at range p) within = record {
   own = own_none view client;
 }
 told_back_to view client (changes_since range from) within = record {
+  grows = ([], sym (append-nil view));
+  answers = ((refl, within, refl), tt);
+  ordered = (omega arith, omega arith, tt);
+  own = own_none view client;
+}
+told_back_to view client (feed_from from) within = record {
   grows = ([], sym (append-nil view));
   answers = ((refl, within, refl), tt);
   ordered = (omega arith, omega arith, tt);

@@ -13,7 +13,7 @@ use Rattle.semantics.specs.Verdicts.{computed, full, nojoin, slots, sources, cla
 use Rattle.semantics.specs.Answers.{found, absent, pairs}
 use Rattle.protocol.specs.Lines.{whole_lines}
 use Rattle.protocol.specs.Requests.{json, form, key, value, range, syntax}
-use Rattle.protocol.specs.Replies.{Reply, done, answered, refused, gone, ahead, changed, unread, long, memory, bye, reply_text}
+use Rattle.protocol.specs.Replies.{Reply, done, answered, refused, gone, ahead, changed, fed, unread, long, memory, bye, reply_text}
 use Rattle.protocol.specs.Transcript.{reply_texts, is_memory_line, memory_lines}
 use Rattle.protocol.proofs.Cuts.{first_piece, pieces-first}
 use Rattle.protocol.proofs.ReplyTexts.{reply_front, reply_text-front, has_feed-reply_front}
@@ -26,6 +26,7 @@ is_memory (refused n cause) = false
 is_memory (gone n) = false
 is_memory (ahead n) = false
 is_memory (changed from n changes) = false
+is_memory (fed from n es) = false
 is_memory (unread fault) = false
 is_memory long = false
 is_memory memory = true
@@ -39,6 +40,7 @@ equal_by_is_memory (refused n cause) h = absurd (cc)
 equal_by_is_memory (gone n) h = absurd (cc)
 equal_by_is_memory (ahead n) h = absurd (cc)
 equal_by_is_memory (changed from n changes) h = absurd (cc)
+equal_by_is_memory (fed from n es) h = absurd (cc)
 equal_by_is_memory (unread fault) h = absurd (cc)
 equal_by_is_memory long h = absurd (cc)
 equal_by_is_memory memory h = refl
@@ -89,6 +91,7 @@ is_memory_line-reply_front (refused n many) = refl
 is_memory_line-reply_front (gone n) = refl
 is_memory_line-reply_front (ahead n) = refl
 is_memory_line-reply_front (changed from n changes) = refl
+is_memory_line-reply_front (fed from n es) = refl
 is_memory_line-reply_front (unread json) = refl
 is_memory_line-reply_front (unread form) = refl
 is_memory_line-reply_front (unread key) = refl

@@ -4,6 +4,8 @@ pub mod JoinsFile
 pub mod Lines
 pub mod Requests
 pub mod Replies
+pub mod Feeds
+pub mod Batches
 pub mod Earlier
 pub mod Told
 pub mod Own

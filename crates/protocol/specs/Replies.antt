@@ -2,9 +2,11 @@
 use Rattle.std.specs.Prelude.{ℕ, List, [], ◌∷◌, map, codes, Option, Some, None}
 use Rattle.serde_json.specs.Data.{Data, string}
 use Rattle.semantics.specs.Texts.{Text}
+use Rattle.semantics.specs.Histories.{Write, put, remove, declare, drop_join, Entry, History}
 use Rattle.semantics.specs.Verdicts.{Cause, computed, full, nojoin, slots, sources, clash, cycle, deep, many}
 use Rattle.semantics.specs.Answers.{Answer, found, absent, pairs}
 use Rattle.growing_history.specs.StateChanges.{Change}
+use Rattle.protocol.specs.JoinText.{canonical_text}
 use Rattle.protocol.specs.Rows.{whole_number, list_of, row}
 use Rattle.protocol.specs.JoinsFile.{cause_name}
 use Rattle.protocol.specs.Requests.{LineFault, json, form, key, value, range, syntax}
@@ -16,6 +18,7 @@ pub data Reply : Type 0 where
   gone : ℕ → Reply
   ahead : ℕ → Reply
   changed : ℕ → ℕ → List Change → Reply
+  fed : ℕ → ℕ → History → Reply
   unread : LineFault → Reply
   long : Reply
   memory : Reply
@@ -72,6 +75,21 @@ change_item change = list_of (string change.key ∷ value_items change.value)
 abbrev pub changed_items : ℕ → ℕ → List Change → List Data
 changed_items from n changes = string (codes "changes") ∷ whole_number from ∷ whole_number n ∷ list_of (map change_item changes) ∷ []
 
+-- the request that a write is
+abbrev pub write_items : Write → List Data
+write_items (put k v) = string (codes "put") ∷ string k ∷ string v ∷ []
+write_items (remove k) = string (codes "remove") ∷ string k ∷ []
+write_items (declare j) = string (codes "join") ∷ string (canonical_text j) ∷ []
+write_items (drop_join n) = string (codes "drop") ∷ whole_number n ∷ []
+
+-- an entry is an array of its client's number and its write
+abbrev pub entry_item : Entry → Data
+entry_item e = list_of (whole_number e.client ∷ list_of (write_items e.write) ∷ [])
+
+-- the position after which entries are listed, the number of all, and the entries
+abbrev pub entries_items : ℕ → ℕ → History → List Data
+entries_items from n es = string (codes "entries") ∷ whole_number from ∷ whole_number n ∷ list_of (map entry_item es) ∷ []
+
 abbrev pub error_items : Text → List Data → List Data
 error_items name others = string (codes "error") ∷ string name ∷ others
 
@@ -83,6 +101,7 @@ reply_items (refused n cause) = error_items (cause_name cause) (whole_number n �
 reply_items (gone n) = error_items (codes "gone") (whole_number n ∷ [])
 reply_items (ahead n) = error_items (codes "ahead") (whole_number n ∷ [])
 reply_items (changed from n changes) = changed_items from n changes
+reply_items (fed from n es) = entries_items from n es
 reply_items (unread fault) = error_items (fault_name fault) (fault_items fault)
 reply_items long = error_items (codes "long") []
 reply_items memory = error_items (codes "memory") []

@@ -10,10 +10,11 @@ use Rattle.semantics.specs.Answers.{Read, get, scan}
 use Rattle.protocol.specs.JoinText.{read_join}
 use Rattle.protocol.specs.Lines.{Bytes}
 
--- a question that names a position of the history: the pairs of a range there, or what changed in a range since
+-- a question that names a position of the history: the pairs of a range there, what changed in a range since, or the entries after it
 pub data Earlier : Type 0 where
   scan_at : Range → ℕ → Earlier
   changes_since : Range → ℕ → Earlier
+  feed_from : ℕ → Earlier
 
 -- a request writes, reads after all entries, asks about an earlier position, or ends the session
 pub data Request : Type 0 where
@@ -129,8 +130,10 @@ request_of_texts (word ∷ a ∷ b ∷ c ∷ others) = Err form
 abbrev pub earlier_request : (Range → ℕ → Earlier) → Text → Text → ℕ → Result Request LineFault
 earlier_request question low high n = if is_range low high then Ok (earlier (question (record { low = low; high = high }) n)) else Err range
 
-abbrev pub drop_request : Text → ℕ → Result Request LineFault
-drop_request word n = if same word (codes "drop") then Ok (write (drop_join n)) else Err form
+abbrev pub numbered_request : Text → ℕ → Result Request LineFault
+numbered_request word n =
+    if same word (codes "drop") then Ok (write (drop_join n))
+    else (if same word (codes "feed") then Ok (earlier (feed_from n)) else Err form)
 
 abbrev pub bounds_request : Text → Text → Text → ℕ → Result Request LineFault
 bounds_request word a b n =
@@ -140,7 +143,7 @@ bounds_request word a b n =
 -- the request that texts with a position behind them are
 abbrev pub request_at : List Text → ℕ → Result Request LineFault
 request_at [] n = Err form
-request_at (word ∷ []) n = drop_request word n
+request_at (word ∷ []) n = numbered_request word n
 request_at (word ∷ a ∷ []) n = Err form
 request_at (word ∷ a ∷ b ∷ []) n = bounds_request word a b n
 request_at (word ∷ a ∷ b ∷ c ∷ others) n = Err form

@@ -4,7 +4,7 @@ use Rattle.std.specs.List.{AllZip, list_any}
 use Rattle.semantics.specs.Histories.{History}
 use Rattle.protocol.specs.Lines.{Bytes, lines_of}
 use Rattle.protocol.specs.Requests.{Request, write, read, earlier, quit, LineFault, request_of}
-use Rattle.protocol.specs.Replies.{Reply, done, answered, refused, gone, ahead, changed, unread, long, memory, bye, reply_text}
+use Rattle.protocol.specs.Replies.{Reply, done, answered, refused, gone, ahead, changed, fed, unread, long, memory, bye, reply_text}
 use Rattle.protocol.specs.Told.{Told}
 use Rattle.protocol.specs.Transcript.{reply_texts}
 
@@ -46,6 +46,7 @@ is_bye (refused n cause) = false
 is_bye (gone n) = false
 is_bye (ahead n) = false
 is_bye (changed from n changes) = false
+is_bye (fed from n es) = false
 is_bye (unread fault) = false
 is_bye long = false
 is_bye memory = false

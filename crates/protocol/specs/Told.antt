@@ -5,8 +5,9 @@ use Rattle.semantics.specs.Histories.{History, IsPrefix}
 use Rattle.semantics.specs.Verdicts.{verdict}
 use Rattle.semantics.specs.Answers.{Answer, found, absent, pairs, scan, answer}
 use Rattle.growing_history.specs.StateChanges.{Change, changes}
-use Rattle.protocol.specs.Requests.{Request, write, read, earlier, quit, Earlier, scan_at, changes_since}
-use Rattle.protocol.specs.Replies.{Reply, done, answered, refused, gone, ahead, changed, unread, long, memory, bye}
+use Rattle.protocol.specs.Requests.{Request, write, read, earlier, quit, Earlier, scan_at, changes_since, feed_from}
+use Rattle.protocol.specs.Replies.{Reply, done, answered, refused, gone, ahead, changed, fed, unread, long, memory, bye}
+use Rattle.protocol.specs.Feeds.{run}
 use Rattle.protocol.specs.Earlier.{reach_back, asked_position}
 
 -- the position of an answer is its first number
@@ -26,11 +27,19 @@ pub record IsWithinReach (n at : ℕ) : Type 0 where
 abbrev pub AnswersScanAt : History → Earlier → Answer → Type 0
 AnswersScanAt view (scan_at range at) a = a ≡ answer (scan range) (take at view)
 AnswersScanAt view (changes_since range from) a = ⊥
+AnswersScanAt view (feed_from from) a = ⊥
 
 -- these changed from the position that the question names, which lies within reach, to another
 abbrev pub AnswersChangesSince : History → Earlier → ℕ → ℕ → List Change → Type 0
 AnswersChangesSince view (scan_at range at) start n listed = ⊥
 AnswersChangesSince view (changes_since range from) start n listed = (start ≡ from) × IsWithinReach n from × (listed ≡ changes range view from n)
+AnswersChangesSince view (feed_from from) start n listed = ⊥
+
+-- these are the first entries after the position that the question names, which lies within reach, up to another
+abbrev pub AnswersFeedFrom : History → Earlier → ℕ → ℕ → History → Type 0
+AnswersFeedFrom view (scan_at range at) start n listed = ⊥
+AnswersFeedFrom view (changes_since range from) start n listed = ⊥
+AnswersFeedFrom view (feed_from from) start n listed = (start ≡ from) × IsWithinReach n from × (listed ≡ run view from n)
 
 -- the reply answers the question about an earlier position over the view
 abbrev pub AnswersEarlier : History → Earlier → Reply → Type 0
@@ -40,6 +49,7 @@ AnswersEarlier view e (refused n cause) = ⊥
 AnswersEarlier view e (gone n) = asked_position e + reach_back < n
 AnswersEarlier view e (ahead n) = n < asked_position e
 AnswersEarlier view e (changed start n listed) = AnswersChangesSince view e start n listed
+AnswersEarlier view e (fed start n listed) = AnswersFeedFrom view e start n listed
 AnswersEarlier view e (unread fault) = ⊥
 AnswersEarlier view e long = ⊥
 AnswersEarlier view e memory = ⊤
@@ -53,6 +63,7 @@ Answers view client (write w) (refused n cause) = verdict w (take n view) ≡ So
 Answers view client (write w) (gone n) = ⊥
 Answers view client (write w) (ahead n) = ⊥
 Answers view client (write w) (changed start n listed) = ⊥
+Answers view client (write w) (fed start n listed) = ⊥
 Answers view client (write w) (unread fault) = ⊥
 Answers view client (write w) long = ⊥
 Answers view client (write w) memory = ⊤
@@ -63,6 +74,7 @@ Answers view client (read r) (refused n cause) = ⊥
 Answers view client (read r) (gone n) = ⊥
 Answers view client (read r) (ahead n) = ⊥
 Answers view client (read r) (changed start n listed) = ⊥
+Answers view client (read r) (fed start n listed) = ⊥
 Answers view client (read r) (unread fault) = ⊥
 Answers view client (read r) long = ⊥
 Answers view client (read r) memory = ⊤
@@ -86,7 +98,7 @@ answer_place (read r) a = after_entries (answer_position a)
 answer_place (earlier e) a = reaching (asked_position e)
 answer_place quit a = after_entries (answer_position a)
 
--- a reply stands after its first number, that of changes after its second; one without a number stands anywhere
+-- a reply stands after its first number, that of changes or entries after its second; one without a number stands anywhere
 abbrev pub place_of : Request → Reply → Place
 place_of request (done n) = own_entry n
 place_of request (answered a) = answer_place request a
@@ -94,6 +106,7 @@ place_of request (refused n cause) = after_entries n
 place_of request (gone n) = after_entries n
 place_of request (ahead n) = after_entries n
 place_of request (changed start n listed) = after_entries n
+place_of request (fed start n listed) = after_entries n
 place_of request (unread fault) = anywhere
 place_of request long = anywhere
 place_of request memory = anywhere
@@ -123,6 +136,7 @@ done_position (refused n cause) = None
 done_position (gone n) = None
 done_position (ahead n) = None
 done_position (changed start n listed) = None
+done_position (fed start n listed) = None
 done_position (unread fault) = None
 done_position long = None
 done_position memory = None

@@ -5,3 +5,5 @@ pub mod WrittenLemmas
 pub mod FormLemmas
 pub mod JsonLemmas
 pub mod ReachLemmas
+pub mod FittingLemmas
+pub mod BatchLemmas

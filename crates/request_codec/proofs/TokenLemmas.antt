@@ -40,6 +40,15 @@ Appends-list_of r old begun written closed items opened kept middle end =
       before = end.room.0 ∙ middle.before ∙ kept;
     }) end.ok
 
+-- the same, where nothing failed
+pub Appends-between : (old begun written closed : Written) (items : List Data)
+    → begun.tokens ≡ old.tokens ++ begin_array ∷ [] → begun.before ≡ old.before → Appends begun written items
+    → closed.tokens ≡ written.tokens ++ end_array ∷ [] → closed.before ≡ written.before → Appends old closed (list_of items ∷ [])
+Appends-between old begun written closed items opened kept middle ended same = record {
+  tokens = tokens-list_of old.tokens begun.tokens written.tokens closed.tokens items opened middle.tokens ended;
+  before = same ∙ middle.before ∙ kept;
+}
+
 -- an item that is written from nothing is printed as its compact text
 pub print-item : (old new : Written) (item : Data) → old.before ≡ [] → old.tokens ≡ [] → Appends old new (item ∷ []) → new.before ++ print new.tokens ≡ compact_text item
 print-item old new item no_bytes no_tokens written =

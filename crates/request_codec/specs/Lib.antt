@@ -6,3 +6,4 @@ pub mod Written
 pub mod AppendsLaws
 pub mod Items
 pub mod Reach
+pub mod FeedFaults

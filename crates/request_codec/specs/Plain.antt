@@ -7,11 +7,11 @@ use Rattle.protocol.specs.Requests as plain
 use Rattle.protocol.specs.Replies as replies
 use Rattle.join_types.specs.Causes.{plain_cause}
 use Rattle.request_codec.specs.declared.request.Request.{Request}
-use Rattle.request_codec.specs.declared.request.Request.TheVariants.{Put, Remove, Get, Scan, ScanAt, Changes as ChangesSince, Declare, Drop, Quit}
+use Rattle.request_codec.specs.declared.request.Request.TheVariants.{Put, Remove, Get, Scan, ScanAt, Changes as ChangesSince, Feed, Declare, Drop, Quit}
 use Rattle.request_codec.specs.declared.request.LineFault.{LineFault}
 use Rattle.request_codec.specs.declared.request.LineFault.TheVariants.{Json, Form, Key, Value, Range, Syntax, OutOfMemory}
 use Rattle.request_codec.specs.declared.reply.Reply.{Reply}
-use Rattle.request_codec.specs.declared.reply.Reply.TheVariants.{Done, Found, Absent, Pairs, Written, Refused, Gone, Ahead, Changes, Unread, Long, Memory, Bye}
+use Rattle.request_codec.specs.declared.reply.Reply.TheVariants.{Done, Found, Absent, Pairs, Written, Refused, Gone, Ahead, Changes, Entries, Unread, Long, Memory, Bye}
 
 -- a request as a write, a read, a question about an earlier position, or the end of the session
 abbrev pub plain_request : Request → plain.Request
@@ -21,6 +21,7 @@ plain_request (Get key) = plain.read (answers.get key)
 plain_request (Scan range) = plain.read (answers.scan range)
 plain_request (ScanAt range at) = plain.earlier (plain.scan_at range at)
 plain_request (ChangesSince range from) = plain.earlier (plain.changes_since range from)
+plain_request (Feed from) = plain.earlier (plain.feed_from from)
 plain_request (Declare join) = plain.write (writes.declare join)
 plain_request (Drop position) = plain.write (writes.drop_join position)
 plain_request Quit = plain.quit
@@ -68,12 +69,13 @@ plain_reply (Refused position cause) = replies.refused position (plain_cause cau
 plain_reply (Gone position) = replies.gone position
 plain_reply (Ahead position) = replies.ahead position
 plain_reply (Changes from position changes) = replies.changed from position changes.items
+plain_reply (Entries from position entries) = replies.fed from position entries.items
 plain_reply (Unread fault) = unread_or_memory (plain_fault fault)
 plain_reply Long = replies.long
 plain_reply (Memory _) = replies.memory
 plain_reply Bye = replies.bye
 
--- the reply's line is not there yet
+-- the reply's line is not there yet, and asks for no more memory than the line's own
 abbrev pub IsUnwritten : Reply → Type 0
 IsUnwritten (Done position) = Unit {0}
 IsUnwritten (Found position value) = Unit {0}
@@ -84,6 +86,7 @@ IsUnwritten (Refused position cause) = Unit {0}
 IsUnwritten (Gone position) = Unit {0}
 IsUnwritten (Ahead position) = Unit {0}
 IsUnwritten (Changes from position changes) = Unit {0}
+IsUnwritten (Entries from position entries) = ⊥
 IsUnwritten (Unread fault) = Unit {0}
 IsUnwritten Long = Unit {0}
 IsUnwritten (Memory memory) = Unit {0}

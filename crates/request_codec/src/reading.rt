@@ -130,6 +130,8 @@ fn read_numbered(word: &str, last: &Json) -> Result<Request, LineFault>
     };
     if word == "drop" {
         Ok(Request::Drop(position))
+    } else if word == "feed" {
+        Ok(Request::Feed(position))
     } else {
         Err(LineFault::Form)
     }

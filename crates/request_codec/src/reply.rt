@@ -1,7 +1,7 @@
 // Replies.
 use crate::request::LineFault;
 use crate::written::WrittenPairs;
-use join_types::{Cause, Change, Pair};
+use join_types::{Cause, Change, Entry, Pair};
 use key_space::Value;
 use out_of_memory::OutOfMemory;
 
@@ -26,6 +26,8 @@ pub enum Reply {
     Ahead(u64),
     /// What changed in the range from the first position to the second, in key order.
     Changes(u64, u64, Vec<Change>),
+    /// The first entries after the first position, of so many as the second says: as many as a line has room for.
+    Entries(u64, u64, Vec<Entry>),
     /// The line is no request.
     Unread(LineFault),
     /// The line is too long.

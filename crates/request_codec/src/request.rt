@@ -21,6 +21,8 @@ pub enum Request {
     ScanAt(Range, u64),
     /// What changed in a range since the first so many entries.
     Changes(Range, u64),
+    /// The entries after the first so many.
+    Feed(u64),
     /// The join stands from now on.
     Declare(Join),
     /// The join that was declared at the position stands no more.

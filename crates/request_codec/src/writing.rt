@@ -8,6 +8,7 @@ ghost use Rattle.join_types.specs.Causes.{plain_cause};
 ghost use Rattle.request_codec.specs.Plain.{IsUnwritten, plain_reply};
 ghost use Rattle.request_codec.specs.Tokens.{Appends};
 
+use crate::entries::write_entries_line;
 use crate::lines::LINE_END;
 use crate::reply::Reply;
 use crate::request::LineFault;
@@ -17,7 +18,7 @@ use out_of_memory::OutOfMemory;
 use std::alloc::{AllocError, Global};
 
 /// Room for what a line has around its texts: its words, numbers and brackets.
-const FRAME_ROOM: usize = 64;
+pub(crate) const FRAME_ROOM: usize = 64;
 
 /// Room for what a pair or a change has around its texts: brackets, quotes and commas.
 const PAIR_FRAME_ROOM: usize = 8;
@@ -232,7 +233,7 @@ fn write_items(writer: &mut Writer, reply: &Reply) -> Result<(), AllocError>
             write_numbered(writer, "pairs", *position)?;
             write_pairs(writer, pairs.as_slice())
         }
-        Reply::Written(_) => unreachable!(),
+        Reply::Written(_) | Reply::Entries(_, _, _) => unreachable!(),
         Reply::Refused(position, cause) => write_cause(writer, *position, cause),
         Reply::Gone(position) => write_refusal(writer, "gone", *position),
         Reply::Ahead(position) => write_refusal(writer, "ahead", *position),
@@ -290,6 +291,9 @@ pub fn write(alloc: Global, reply: &Reply) -> Result<Vec<u8>, OutOfMemory>
 {
     match reply {
         Reply::Written(scan) => copy_of(alloc, scan.line()),
+        Reply::Entries(from, position, entries) => {
+            write_entries_line(alloc, *from, *position, entries.as_slice())
+        }
         reply => write_line(alloc, reply),
     }
 }

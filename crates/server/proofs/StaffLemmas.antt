@@ -10,14 +10,14 @@ use Rattle.semantics.specs.Joins.{Join}
 use Rattle.semantics.specs.Histories.{declare, Entry, History, IsPrefix}
 use Rattle.semantics.specs.Verdicts.{Cause, verdict}
 use Rattle.protocol.specs.Requests.{write}
-use Rattle.protocol.specs.Replies.{Reply as PlainReply, done, answered, refused, gone, ahead, changed, unread, long, memory, bye}
+use Rattle.protocol.specs.Replies.{Reply as PlainReply, done, answered, refused, gone, ahead, changed, fed, unread, long, memory, bye}
 use Rattle.protocol.specs.Own.{AreOwn}
 use Rattle.protocol.specs.Told.{Told, own_positions}
 use Rattle.growing_history.proofs.ElementLemmas.{all_left, all_right}
 use Rattle.growing_history.proofs.PrefixLemmas.{by_first}
 use Rattle.request_codec.specs.Plain.{plain_reply}
 use Rattle.request_codec.specs.declared.reply.Reply.{Reply}
-use Rattle.request_codec.specs.declared.reply.Reply.TheVariants.{Done, Found, Absent, Pairs, Written, Refused, Gone, Ahead, Changes, Unread, Long, Memory, Bye}
+use Rattle.request_codec.specs.declared.reply.Reply.TheVariants.{Done, Found, Absent, Pairs, Written, Refused, Gone, Ahead, Changes, Entries, Unread, Long, Memory, Bye}
 use Rattle.request_codec.specs.declared.request.LineFault.{LineFault}
 use Rattle.request_codec.specs.declared.request.LineFault.TheVariants.{Json, Form, Key, Value, Range, Syntax, OutOfMemory}
 use Rattle.write_history.specs.Entries.{written_by}
@@ -52,6 +52,7 @@ no_other_reply (Refused n cause) says not_done not_memory not_unread = says
 no_other_reply (Gone n) says not_done not_memory not_unread = says
 no_other_reply (Ahead n) says not_done not_memory not_unread = says
 no_other_reply (Changes start n changes) says not_done not_memory not_unread = says
+no_other_reply (Entries from n entries) says not_done not_memory not_unread = says
 no_other_reply (Unread fault) says not_done not_memory not_unread = not_unread fault refl
 no_other_reply Long says not_done not_memory not_unread = says
 no_other_reply (Memory m) says not_done not_memory not_unread = not_memory m refl
@@ -117,6 +118,7 @@ enters old now j (refused n cause) numbered is mine free =
 enters old now j (gone n) numbered is mine free = absurd is.answers.0
 enters old now j (ahead n) numbered is mine free = absurd is.answers.0
 enters old now j (changed start n changes) numbered is mine free = absurd is.answers.0
+enters old now j (fed start n changes) numbered is mine free = absurd is.answers.0
 enters old now j (unread fault) numbered is mine free = absurd is.answers.0
 enters old now j long numbered is mine free = absurd is.answers.0
 enters old now j memory numbered is mine free = tt

@@ -3,7 +3,7 @@ use Rattle.std.specs.Prelude.{◌≡◌, ℕ, ◌+◌, ◌<◌, List, [], length
 use Rattle.semantics.specs.Joins.{Join}
 use Rattle.semantics.specs.Histories.{declare, History, IsPrefix}
 use Rattle.semantics.specs.Verdicts.{AllEntered}
-use Rattle.protocol.specs.Replies.{Reply, done, answered, refused, gone, ahead, changed, unread, long, memory, bye}
+use Rattle.protocol.specs.Replies.{Reply, done, answered, refused, gone, ahead, changed, fed, unread, long, memory, bye}
 use Rattle.write_history.specs.Passes.{HistoryId, PassView, own}
 
 -- the declarations of joins, in order, by the client with the number 0
@@ -22,6 +22,7 @@ IsDoneOrMemory (refused n cause) = ⊥
 IsDoneOrMemory (gone n) = ⊥
 IsDoneOrMemory (ahead n) = ⊥
 IsDoneOrMemory (changed from n changes) = ⊥
+IsDoneOrMemory (fed from n changes) = ⊥
 IsDoneOrMemory (unread fault) = ⊥
 IsDoneOrMemory long = ⊥
 IsDoneOrMemory memory = ⊤

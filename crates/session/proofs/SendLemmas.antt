@@ -9,7 +9,7 @@ use Rattle.semantics.specs.Texts.{Text}
 use Rattle.semantics.specs.Histories.{Write, Entry, History}
 use Rattle.semantics.specs.Verdicts.{Cause, full, verdict, write_cause, first_cause}
 use Rattle.protocol.specs.Requests.{Request, write, read, earlier, quit, LineFault, request_of}
-use Rattle.protocol.specs.Replies.{Reply, done, answered, refused, gone, ahead, changed, unread, long, memory, bye, reply_text}
+use Rattle.protocol.specs.Replies.{Reply, done, answered, refused, gone, ahead, changed, fed, unread, long, memory, bye, reply_text}
 use Rattle.protocol.specs.Told.{Told}
 use Rattle.protocol.specs.Session.{AnswersLine, Serves, is_bye, told_pairs}
 use Rattle.pq_io.specs.Streams.{Took, TookProperPrefix}
@@ -49,6 +49,7 @@ sent_as_itself (refused n cause) = inl refl
 sent_as_itself (gone n) = inl refl
 sent_as_itself (ahead n) = inl refl
 sent_as_itself (changed from n listed) = inl refl
+sent_as_itself (fed from n listed) = inl refl
 sent_as_itself (unread fault) = inl refl
 sent_as_itself long = inl refl
 sent_as_itself memory = refl
@@ -61,6 +62,7 @@ sent_as_memory (refused n cause) plain = inr refl
 sent_as_memory (gone n) plain = inr refl
 sent_as_memory (ahead n) plain = inr refl
 sent_as_memory (changed from n listed) plain = inr refl
+sent_as_memory (fed from n listed) plain = inr refl
 sent_as_memory (unread fault) plain = inr refl
 sent_as_memory long plain = inr refl
 sent_as_memory memory plain = refl
@@ -73,6 +75,7 @@ is_bye-plain (refused n cause) plain = refl
 is_bye-plain (gone n) plain = refl
 is_bye-plain (ahead n) plain = refl
 is_bye-plain (changed from n listed) plain = refl
+is_bye-plain (fed from n listed) plain = refl
 is_bye-plain (unread fault) plain = refl
 is_bye-plain long plain = refl
 is_bye-plain memory plain = refl
@@ -157,6 +160,7 @@ small_done before after client line (refused n cause) served = tt
 small_done before after client line (gone n) served = tt
 small_done before after client line (ahead n) served = tt
 small_done before after client line (changed from n listed) served = tt
+small_done before after client line (fed from n listed) served = tt
 small_done before after client line (unread fault) served = tt
 small_done before after client line long served = tt
 small_done before after client line memory served = tt

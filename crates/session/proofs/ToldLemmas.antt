@@ -7,7 +7,7 @@ use Rattle.std.proofs.lemmas.Slice.Zip.{AllZip-long}
 use Rattle.semantics.specs.Texts.{Text}
 use Rattle.semantics.specs.Histories.{History}
 use Rattle.protocol.specs.Requests.{Request, write, read, earlier, quit}
-use Rattle.protocol.specs.Replies.{Reply, done, answered, refused, gone, ahead, changed, unread, long, memory, bye}
+use Rattle.protocol.specs.Replies.{Reply, done, answered, refused, gone, ahead, changed, fed, unread, long, memory, bye}
 use Rattle.protocol.specs.Told.{Told, own_positions}
 use Rattle.protocol.specs.Session.{told_pairs, Serves, NoBye, is_bye}
 use Rattle.protocol.proofs.Telling.{told-append, AllZip-append}
@@ -77,8 +77,11 @@ told_sent_as before after client request (ahead n) sent (inl e) told = subst (λ
 told_sent_as before after client request (ahead n) sent (inr e) told =
     subst (λ r. Told before after client (request ∷ []) (r ∷ [])) (sym e) (told_memory_of before after client request (ahead n) told.own told)
 told_sent_as before after client request (changed from n listed) sent (inl e) told = subst (λ r. Told before after client (request ∷ []) (r ∷ [])) (sym e) told
+told_sent_as before after client request (fed from n listed) sent (inl e) told = subst (λ r. Told before after client (request ∷ []) (r ∷ [])) (sym e) told
 told_sent_as before after client request (changed from n listed) sent (inr e) told =
     subst (λ r. Told before after client (request ∷ []) (r ∷ [])) (sym e) (told_memory_of before after client request (changed from n listed) told.own told)
+told_sent_as before after client request (fed from n listed) sent (inr e) told =
+    subst (λ r. Told before after client (request ∷ []) (r ∷ [])) (sym e) (told_memory_of before after client request (fed from n listed) told.own told)
 told_sent_as before after client request (unread fault) sent (inl e) told = subst (λ r. Told before after client (request ∷ []) (r ∷ [])) (sym e) told
 told_sent_as before after client request (unread fault) sent (inr e) told =
     subst (λ r. Told before after client (request ∷ []) (r ∷ [])) (sym e) (told_memory_of before after client request (unread fault) told.own told)

@@ -4,7 +4,7 @@ use Rattle.std.specs.List.{list_any}
 use Rattle.semantics.specs.Texts.{Text}
 use Rattle.semantics.specs.Histories.{History}
 use Rattle.protocol.specs.Lines.{line_limit, Cut, lines_of}
-use Rattle.protocol.specs.Replies.{Reply, done, answered, refused, gone, ahead, changed, unread, long, memory, bye, reply_text}
+use Rattle.protocol.specs.Replies.{Reply, done, answered, refused, gone, ahead, changed, fed, unread, long, memory, bye, reply_text}
 use Rattle.protocol.specs.Transcript.{reply_texts}
 use Rattle.protocol.specs.Session.{Serves, NoBye, is_bye, Link, Served, closed, quit_line, long_line, write_fault}
 use Rattle.pq_io.specs.Streams.{Took, TookProperPrefix}
@@ -48,6 +48,7 @@ IsSentAs (refused n cause) sent = (sent ≡ refused n cause) ⊎ (sent ≡ memor
 IsSentAs (gone n) sent = (sent ≡ gone n) ⊎ (sent ≡ memory)
 IsSentAs (ahead n) sent = (sent ≡ ahead n) ⊎ (sent ≡ memory)
 IsSentAs (changed from n listed) sent = (sent ≡ changed from n listed) ⊎ (sent ≡ memory)
+IsSentAs (fed from n listed) sent = (sent ≡ fed from n listed) ⊎ (sent ≡ memory)
 IsSentAs (unread fault) sent = (sent ≡ unread fault) ⊎ (sent ≡ memory)
 IsSentAs long sent = (sent ≡ long) ⊎ (sent ≡ memory)
 IsSentAs memory sent = sent ≡ memory
@@ -61,6 +62,7 @@ HasSmallPosition (refused n cause) = ⊤
 HasSmallPosition (gone n) = ⊤
 HasSmallPosition (ahead n) = ⊤
 HasSmallPosition (changed from n listed) = ⊤
+HasSmallPosition (fed from n listed) = ⊤
 HasSmallPosition (unread fault) = ⊤
 HasSmallPosition long = ⊤
 HasSmallPosition memory = ⊤
@@ -74,6 +76,7 @@ IsPlain (refused n cause) = ⊤
 IsPlain (gone n) = ⊤
 IsPlain (ahead n) = ⊤
 IsPlain (changed from n listed) = ⊤
+IsPlain (fed from n listed) = ⊤
 IsPlain (unread fault) = ⊤
 IsPlain long = ⊤
 IsPlain memory = ⊤

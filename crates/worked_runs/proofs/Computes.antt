@@ -11,13 +11,14 @@ use Rattle.semantics.specs.States.{reading, below, state}
 use Rattle.semantics.specs.Verdicts.{join_cause, verdict}
 use Rattle.semantics.specs.Answers.{answer}
 use Rattle.growing_history.specs.StateChanges.{changes}
-use Rattle.protocol.specs.JoinText.{read_pattern, read_join}
+use Rattle.protocol.specs.JoinText.{read_pattern, read_join, canonical_text}
 use Rattle.protocol.specs.Lines.{lines_of}
 use Rattle.protocol.specs.Requests.{request_of}
 use Rattle.protocol.specs.Replies.{reply_text}
+use Rattle.protocol.specs.Feeds.{longest, run}
 use Rattle.protocol.specs.Earlier.{earlier_reply}
 use Rattle.protocol.specs.Transcript.{outcome_of, transcript_by}
 
 unfoldable pub definitions_on_literals : ⊤
-unfolding is_utf8 chars digits escape_byte serde_json_on_literals no_slots matches canonical_integer contributions gathered out rank least_cycle reading below state join_cause verdict answer changes read_pattern read_join lines_of request_of reply_text earlier_reply outcome_of transcript_by
+unfolding is_utf8 chars digits escape_byte serde_json_on_literals no_slots matches canonical_integer contributions gathered out rank least_cycle reading below state join_cause verdict answer changes read_pattern read_join canonical_text lines_of request_of reply_text longest run earlier_reply outcome_of transcript_by
 definitions_on_literals = tt

@@ -122,3 +122,25 @@ BadPositions = Replies
     ∷ codes "[\"error\",\"form\"]"
     ∷ codes "[\"error\",\"form\"]"
     ∷ [])
+
+-- the entries after a position are listed as the requests that they are, and from the end on there is none
+abbrev pub EntriesAfter : Type 0
+EntriesAfter = Replies
+    (codes "[\"join\",\"b|<x> = push copy a|<x>\"]"
+    ∷ codes "[\"put\",\"a|1\",\"Hi\"]"
+    ∷ codes "[\"feed\",0]"
+    ∷ codes "[\"feed\",1]"
+    ∷ codes "[\"feed\",2]"
+    ∷ codes "[\"feed\",3]"
+    ∷ codes "[\"feed\",-1]"
+    ∷ codes "[\"feed\"]"
+    ∷ [])
+    (codes "[\"ok\",1]"
+    ∷ codes "[\"ok\",2]"
+    ∷ codes "[\"entries\",0,2,[[0,[\"join\",\"b|<x> = copy a|<x>\"]],[0,[\"put\",\"a|1\",\"Hi\"]]]]"
+    ∷ codes "[\"entries\",1,2,[[0,[\"put\",\"a|1\",\"Hi\"]]]]"
+    ∷ codes "[\"entries\",2,2,[]]"
+    ∷ codes "[\"error\",\"ahead\",2]"
+    ∷ codes "[\"error\",\"form\"]"
+    ∷ codes "[\"error\",\"form\"]"
+    ∷ [])

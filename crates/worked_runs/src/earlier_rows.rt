@@ -1,5 +1,5 @@
 // Runs that ask about earlier positions.
-ghost use Rattle.worked_runs.specs.EarlierRows.{ScansAt, Feeds, FeedsOfGone, AcrossJoins, BadPositions};
+ghost use Rattle.worked_runs.specs.EarlierRows.{ScansAt, Feeds, FeedsOfGone, AcrossJoins, BadPositions, EntriesAfter};
 
 /// A scan at a position has what stood there; one at a position that there is not yet is told how many entries there are.
 pub fn scans_at()
@@ -24,4 +24,9 @@ pub fn across_joins()
 /// A position is a whole number below 2^48, and is looked at before the range.
 pub fn bad_positions()
     ensures { BadPositions }
+{}
+
+/// The entries after a position are listed as the requests that they are, and from the end on there is none.
+pub fn entries_after()
+    ensures { EntriesAfter }
 {}

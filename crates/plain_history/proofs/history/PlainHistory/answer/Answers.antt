@@ -1,6 +1,6 @@
 use Rattle.std.proofs.Common.{◌∷◌, [], IfOk, sym, subst}
 use Rattle.semantics.specs.Answers.{get, scan, answer}
-use Rattle.protocol.specs.Requests.{read, earlier, scan_at, changes_since}
+use Rattle.protocol.specs.Requests.{read, earlier, scan_at, changes_since, feed_from}
 use Rattle.protocol.specs.Replies.{answered}
 use Rattle.protocol.specs.Earlier.{earlier_reply}
 use Rattle.protocol.specs.Told.{Told}
@@ -30,3 +30,8 @@ pub returns-in-Changes-clause-told : goal.returns-in-Changes-clause-told
 returns-in-Changes-clause-told c =
     subst (λ (q : Request). IfOk c.changes.result (λ (r : Reply). Told c.args.self.now c.args.self.now 0 (plain_request q ∷ []) (plain_reply r ∷ []))) (sym c.in-Changes.is)
     (told_as c.args.self.now (earlier (changes_since c.in-Changes.range c.in-Changes.from)) (earlier_reply (changes_since c.in-Changes.range c.in-Changes.from) c.args.self.now) c.changes.result (told_earlier c.args.self.now 0 (changes_since c.in-Changes.range c.in-Changes.from)) c.changes.ensures)
+
+pub returns-in-Feed-clause-told : goal.returns-in-Feed-clause-told
+returns-in-Feed-clause-told c =
+    subst (λ (q : Request). IfOk c.feed.result (λ (r : Reply). Told c.args.self.now c.args.self.now 0 (plain_request q ∷ []) (plain_reply r ∷ []))) (sym c.in-Feed.is)
+    (told_as c.args.self.now (earlier (feed_from c.in-Feed.from)) (earlier_reply (feed_from c.in-Feed.from) c.args.self.now) c.feed.result (told_earlier c.args.self.now 0 (feed_from c.in-Feed.from)) c.feed.ensures)

@@ -10,7 +10,6 @@ use join_types::Change;
 use key_space::Range;
 use pequod_cache::Seats;
 use pq_io::OpenGate;
-use range_cells::Feed;
 use std::alloc::Global;
 use std::marker::Brand;
 use std::process::Abort;
@@ -53,8 +52,9 @@ pub fn feed_since<N: Naming, L: Ledger, R: Wait + Abort>(
     let new = joins_near(rt, history, &mut pass, p, p).expect(rt, "memory");
     let mut steps: Steps<L> = Steps::open(blank);
     let cells = &kept.cells;
-    let feed = cells.changes(rt, pass, &old, &new, q, p, range, &OpenGate, &mut steps);
-    let Feed { pass, found } = feed;
+    let found = cells.changes(
+        rt, &mut pass, &old, &new, q, p, range, &OpenGate, &mut steps,
+    );
     let fed = Fed {
         changes: found.expect(rt, "memory"),
         steps: steps.taken(),

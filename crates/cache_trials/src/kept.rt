@@ -17,7 +17,7 @@ use key_space::{Key, Range, Value};
 use out_of_memory::OutOfMemory;
 use pequod_cache::Seats;
 use pq_io::{Gate, OpenGate};
-use range_cells::{RangeCells, Reading, Turn, Turned};
+use range_cells::{RangeCells, Turn};
 use std::alloc::Global;
 use std::marker::Brand;
 use std::process::Abort;
@@ -190,8 +190,7 @@ pub fn read_at<N: Naming, G: Gate, L: Ledger, R: Wait + Abort>(
     let joins = joins_near(rt, history, &mut pass, p, at).expect(rt, "memory");
     let mut steps: Steps<L> = Steps::open(blank);
     let cells = &kept.cells;
-    let reading = cells.read(rt, pass, &joins, p, range, gate, &mut steps);
-    let Reading { pass, found } = reading;
+    let found = cells.read(rt, &mut pass, &joins, p, range, gate, &mut steps);
     let seen = Seen {
         pairs: found.expect(rt, "memory"),
         steps: steps.taken(),
@@ -217,8 +216,8 @@ pub fn turn_at_end<N: Naming, G: Gate, L: Ledger, R: Wait + Abort>(
     let p = pin(rt, history, &mut pass);
     let joins = joins_near(rt, history, &mut pass, p, p).expect(rt, "memory");
     let mut steps: Steps<L> = Steps::open(blank);
-    let turned = kept.cells.turn(rt, pass, &joins, p, gate, &mut steps);
-    let Turned { pass, turn } = turned;
+    let cells = &kept.cells;
+    let turn = cells.turn(rt, &mut pass, &joins, p, gate, &mut steps);
     (unpin(rt, history, pass, p), turn)
 }
 

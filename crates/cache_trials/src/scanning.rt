@@ -8,7 +8,6 @@ use join_types::{Pair, RowSink};
 use key_space::Range;
 use out_of_memory::OutOfMemory;
 use pq_io::Gate;
-use range_cells::Scanned;
 use std::alloc::Global;
 use std::process::Abort;
 use std::sync::Wait;
@@ -92,8 +91,9 @@ pub fn scan_at<N: Naming, G: Gate, L: Ledger, R: Wait + Abort>(
         text: String::new(alloc),
     };
     let cells = &kept.cells;
-    let scanned = cells.scan(rt, pass, &joins, *p, range, gate, &mut sink, &mut steps);
-    let Scanned { pass, found } = scanned;
+    let found = cells.scan(
+        rt, &mut pass, &joins, *p, range, gate, &mut sink, &mut steps,
+    );
     let rows = match found.expect(rt, "memory") {
         None => sink.text,
         Some(pairs) => show_pairs(alloc, pairs.as_slice()).expect(rt, "memory"),

@@ -15,7 +15,7 @@ use Rattle.write_history.specs.Entries.{IsRecorded}
 use Rattle.base_shards.specs.Reading.{ReadsOn}
 use Rattle.base_shards.proofs.ReadingLemmas.{reads_on-refl}
 use Rattle.join_set.specs.Sets.{Joins}
-use Rattle.pequod_cache.specs.Clients.{KeepsJoins, IsSeated, IsClient, pass_of}
+use Rattle.pequod_cache.specs.Clients.{KeepsJoins, IsSeated, IsClient}
 use Rattle.pequod_cache.specs.Sitting.{AreWriters, IsFresh}
 use Rattle.pequod_cache.proofs.JoinsLemmas.{keeps_longer}
 
@@ -62,26 +62,15 @@ pinned_goes_on old looked new n free goes on = record {
 
 -- ---- a pass and joins between calls
 
--- the pass is not pinned
-pub is_free : (history : HistoryId) (pass : Option PassView) (old : PassView) (joins : Joins) → IsSeated history pass joins → pass ≡ Some old → old.mark ≡ Free
-is_free history pass old joins seated is = subst (λ (p : PassView). p.mark ≡ Free) (same_Some seated.has old (sym seated.is ∙ is)) seated.free
-
--- and may have seen what it has
-pub is_recorded : (history : HistoryId) (pass : Option PassView) (old : PassView) (joins : Joins) → IsSeated history pass joins → pass ≡ Some old → IsRecorded old.writers old.view
-is_recorded history pass old joins seated is = subst (λ (p : PassView). IsRecorded p.writers p.view) (same_Some seated.has old (sym seated.is ∙ is)) seated.recorded
-
 -- so it goes on where nothing is done
-pub goes_nowhere : (history : HistoryId) (pass : Option PassView) (old : PassView) (joins : Joins) → IsSeated history pass joins → pass ≡ Some old → GoesOn old old
-goes_nowhere history pass old joins seated is = free_goes_on old old (is_free history pass old joins seated is) (is_recorded history pass old joins seated is) (reads_on-refl old)
+pub goes_nowhere : (history : HistoryId) (pass : PassView) (joins : Joins) → IsSeated history pass joins → GoesOn pass pass
+goes_nowhere history pass joins seated = free_goes_on pass pass seated.free seated.recorded (reads_on-refl pass)
 
 -- a pass that has gone on, and joins up to a declaration or drop in what it has seen since
-pub seated_still : (history : HistoryId) (pass : Option PassView) (old new : PassView) (before joins : Joins) → IsSeated history pass before → pass ≡ Some old → GoesOn old new → KeepsJoins joins new.view →
-    IsSeated history (Some new) joins
-seated_still history pass old new before joins seated is goes kept = record {
-  has = new;
-  is = refl;
-  same_history = goes.same_history ∙ sym (ap (λ (p : PassView). p.history) (same_Some seated.has old (sym seated.is ∙ is))) ∙ seated.same_history;
-  free = goes.same_mark ∙ is_free history pass old before seated is;
+pub seated_still : (history : HistoryId) (old new : PassView) (before joins : Joins) → IsSeated history old before → GoesOn old new → KeepsJoins joins new.view → IsSeated history new joins
+seated_still history old new before joins seated goes kept = record {
+  same_history = goes.same_history ∙ seated.same_history;
+  free = goes.same_mark ∙ seated.free;
   recorded = goes.recorded;
   kept = kept;
 }
@@ -92,49 +81,38 @@ pub record IsBack (history : HistoryId) (now looked new : PassView) (joins : Joi
   pub own : own new ≡ own now
   pub before : IsPrefix now.view looked.view
   pub after : IsPrefix looked.view new.view
-  pub seated : IsSeated history (Some new) joins
+  pub seated : IsSeated history new joins
 
 -- it is true of such a pass with the joins that were brought where it looked
-pub returned : (history : HistoryId) (pass : Option PassView) (now had looked done new : PassView) (n : ℕ) (before joins : Joins) → IsSeated history pass before → pass ≡ Some had → pass_of history pass ≡ now →
+pub returned : (history : HistoryId) (had now looked done new : PassView) (n : ℕ) (before joins : Joins) → IsSeated history had before → had ≡ now →
     GoesOn (record had { mark = Pinned n }) looked → own looked ≡ own had → KeepsJoins joins looked.view → ReadsOn looked done → new ≡ record done { mark = Free } → IsBack history now looked new joins
-returned history pass now had looked done new n before joins seated is view goes mine kept on unpinned =
-    let same : had ≡ now = sym (ap (λ (o : Option PassView). pass_of history o) is) ∙ view in
-    let gone : GoesOn had new =
-    subst (λ (p : PassView). GoesOn had p) (sym unpinned) (pinned_goes_on had looked done n (is_free history pass had before seated is) goes on) in
+returned history had now looked done new n before joins seated same goes mine kept on unpinned =
+    let gone : GoesOn had new = subst (λ (p : PassView). GoesOn had p) (sym unpinned) (pinned_goes_on had looked done n seated.free goes on) in
     record {
       goes_on = subst (λ (p : PassView). GoesOn p new) same gone;
       own = ap (λ (p : PassView). own p) unpinned ∙ on.own ∙ mine ∙ ap (λ (p : PassView). own p) same;
       before = subst (λ (p : PassView). IsPrefix p.view looked.view) same goes.begins;
       after = subst (λ (p : PassView). IsPrefix looked.view p.view) (sym unpinned) on.begins;
-      seated = seated_still history pass had new before joins seated is gone
+      seated = seated_still history had new before joins seated gone
           (subst (λ (p : PassView). KeepsJoins joins p.view) (sym unpinned) (keeps_longer joins looked.view done.view on.begins kept));
     }
 
 -- ---- a client between calls
 
 -- its pass may write still, once it has gone on
-pub client_still : (history : HistoryId) (pass : Option PassView) (now new : PassView) (before joins : Joins) → IsClient history pass before → pass_of history pass ≡ now → GoesOn now new →
-    IsSeated history (Some new) joins → IsClient history (Some new) joins
-client_still history pass now new before joins client view goes seated =
-    let had : client.seated.has ≡ now = sym (ap (λ (o : Option PassView). pass_of history o) client.seated.is) ∙ view in
-    let has : seated.has ≡ new = same_Some seated.has new (sym seated.is) in
-    record {
-      seated = seated;
-      writer = omega (arith, client.writer, goes.same_number, goes.same_writers, ap (λ (p : PassView). p.number) had, ap (λ (p : PassView). p.writers) had, ap (λ (p : PassView). p.number) has, ap (λ (p : PassView). p.writers) has);
-    }
+pub client_still : (history : HistoryId) (old now new : PassView) (before joins : Joins) → IsClient history old before → old ≡ now → GoesOn now new → IsSeated history new joins → IsClient history new joins
+client_still history old now new before joins client same goes seated = record {
+  seated = seated;
+  writer = omega (arith, client.writer, goes.same_number, goes.same_writers, ap (λ (p : PassView). p.number) same, ap (λ (p : PassView). p.writers) same);
+}
 
 -- with a pass that looked alone, and with joins that it has seen
-pub client_stays : (history : HistoryId) (pass : Option PassView) (old new : PassView) (before joins : Joins) → IsClient history pass before → pass ≡ Some old → GoesOn old new → KeepsJoins joins new.view →
-    IsClient history (Some new) joins
-client_stays history pass old new before joins client is goes kept =
-    client_still history pass old new before joins client (ap (λ (o : Option PassView). pass_of history o) is) goes (seated_still history pass old new before joins client.seated is goes kept)
+pub client_stays : (history : HistoryId) (old new : PassView) (before joins : Joins) → IsClient history old before → GoesOn old new → KeepsJoins joins new.view → IsClient history new joins
+client_stays history old new before joins client goes kept = client_still history old old new before joins client refl goes (seated_still history old new before joins client.seated goes kept)
 
 -- with a pass that has gone on, and with the same joins
-pub client_goes_on : (history : HistoryId) (pass : Option PassView) (old new : PassView) (joins : Joins) → IsClient history pass joins → pass ≡ Some old → GoesOn old new → IsClient history (Some new) joins
-client_goes_on history pass old new joins client is goes =
-    let same : client.seated.has ≡ old = same_Some client.seated.has old (sym client.seated.is ∙ is) in
-    client_stays history pass old new joins joins client is goes
-    (keeps_longer joins old.view new.view goes.begins (subst (λ (p : PassView). KeepsJoins joins p.view) same client.seated.kept))
+pub client_goes_on : (history : HistoryId) (old new : PassView) (joins : Joins) → IsClient history old joins → GoesOn old new → IsClient history new joins
+client_goes_on history old new joins client goes = client_stays history old new joins joins client goes (keeps_longer joins old.view new.view goes.begins client.seated.kept)
 
 -- ---- what is made of what was found
 

@@ -1,22 +1,17 @@
 -- A client as contracts see it, and what is true of it.
-use Rattle.std.specs.Prelude.{◌≡◌, ℕ, ◌<◌, ◌≤◌, length, take, Option, Some, None}
+use Rattle.std.specs.Prelude.{◌≡◌, ℕ, ◌<◌, ◌≤◌, length, take}
 use Rattle.semantics.specs.Texts.{Range, Table, pairs_within}
 use Rattle.semantics.specs.Histories.{History, IsPrefix}
 use Rattle.semantics.specs.States.{state}
 use Rattle.join_set.specs.Sets.{Joins, AreJoins}
 use Rattle.write_history.specs.Entries.{IsRecorded}
 use Rattle.write_history.specs.Marks.{before}
-use Rattle.write_history.specs.Passes.{HistoryId, PassView, new_pass}
+use Rattle.write_history.specs.Passes.{HistoryId, PassView}
 use Rattle.write_history.specs.declared.known.Mark.TheVariants.{Free}
 use Rattle.protocol.specs.Requests.{Earlier}
 use Rattle.semantics.specs.Answers.{pairs}
 use Rattle.protocol.specs.Replies.{Reply, answered}
 use Rattle.protocol.specs.Earlier.{earlier_reply}
-
--- the pass that a client has, while it lends it to none
-abbrev pub pass_of : HistoryId → Option PassView → PassView
-pass_of history (Some pass) = pass
-pass_of history None = new_pass history 0
 
 -- the joins are those that stood when the last of them had been declared or dropped, which the pass has seen; from the position
 -- 65,536 below what it has seen on they tell which tables are bare
@@ -24,19 +19,17 @@ pub record KeepsJoins (joins : Joins) (view : History) : Type 0 where
   pub within : joins.changed ≤ length view
   pub are : AreJoins (before (length view)) joins (take joins.changed view)
 
--- there is a pass of the history, which is not pinned and may have seen what it has, and the joins up to a declaration or drop in that
-pub record IsSeated (history : HistoryId) (pass : Option PassView) (joins : Joins) : Type 0 where
-  pub has : PassView
-  pub is : pass ≡ Some has
-  pub same_history : has.history ≡ history
-  pub free : has.mark ≡ Free
-  pub recorded : IsRecorded has.writers has.view
-  pub kept : KeepsJoins joins has.view
+-- a pass of the history, which is not pinned and may have seen what it has, and the joins up to a declaration or drop in that
+pub record IsSeated (history : HistoryId) (pass : PassView) (joins : Joins) : Type 0 where
+  pub same_history : pass.history ≡ history
+  pub free : pass.mark ≡ Free
+  pub recorded : IsRecorded pass.writers pass.view
+  pub kept : KeepsJoins joins pass.view
 
 -- the pass of a client may write besides
-pub record IsClient (history : HistoryId) (pass : Option PassView) (joins : Joins) : Type 0 where
+pub record IsClient (history : HistoryId) (pass : PassView) (joins : Joins) : Type 0 where
   pub seated : IsSeated history pass joins
-  pub writer : seated.has.number < seated.has.writers
+  pub writer : pass.number < pass.writers
 
 -- a range was read after all entries that the client had seen, and others that it saw then
 pub record IsFound (before after : PassView) (range : Range) (position : ℕ) (pairs : Table) : Type 0 where

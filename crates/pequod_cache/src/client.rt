@@ -13,14 +13,13 @@ ghost use Rattle.pequod_cache.specs.Clients.{IsFound, IsReplied, IsScanned};
 ghost use Rattle.pequod_cache.specs.Questions.{asked};
 
 use crate::cache::Cache;
-use crate::earlier::{Question, ToldBack};
+use crate::earlier::Question;
 use base_shards::Naming;
 use join_set::JoinSet;
 use join_types::{Join, Pair, Write};
 use key_space::{Key, Range, Value};
 use out_of_memory::OutOfMemory;
 use pq_io::Gate;
-use range_cells::Reading;
 use request_codec::{Reply, Request};
 use std::alloc::Global;
 use std::marker::{Brand, Model};
@@ -66,18 +65,17 @@ pub struct Client<'g, N: Naming, G> {
     alloc: Global,
     cache: Arc<Cache<N>>,
     gate: &'g G,
-    /// None while the pass is lent to a read.
-    pass: Option<Pass>,
+    pass: Pass,
     joins: JoinSet,
 }
 
 impl<'g, N: Naming, G> Model for Client<'g, N, G> {
     ghost use Rattle.write_history.specs.Passes.{PassView};
-    ghost use Rattle.pequod_cache.specs.Clients.{IsClient, pass_of};
+    ghost use Rattle.pequod_cache.specs.Clients.{IsClient};
 
     ghost Value = { PassView };
 
-    ghost view = { λ c. pass_of N.history c.pass };
+    ghost view = { λ c. c.pass };
 
     ghost invariant = { λ c. IsClient N.history c.pass c.joins };
 }
@@ -100,7 +98,7 @@ impl<'g, N: Naming, G> Client<'g, N, G> {
             alloc,
             cache,
             gate,
-            pass: Some(pass),
+            pass,
             joins: JoinSet::new(alloc),
         }
     }
@@ -112,10 +110,7 @@ impl<'g, N: Naming, G: Gate> Client<'g, N, G> {
         ensures told { Told self.old.view self.new.view self.old.number (write (plain_write change) ∷ []) (plain_reply result ∷ []) }
         ensures goes_on { GoesOn self.old self.new }
     {
-        let Some(pass) = &mut self.pass else {
-            unreachable!()
-        };
-        match self.cache.history.append(rt, pass, change) {
+        match self.cache.history.append(rt, &mut self.pass, change) {
             Ok(position) => Reply::Done(position),
             Err(AppendFault::Refused(position, cause)) => Reply::Refused(position, cause),
             Err(AppendFault::OutOfMemory(memory)) => Reply::Memory(memory),
@@ -127,13 +122,9 @@ impl<'g, N: Naming, G: Gate> Client<'g, N, G> {
         ensures goes_on { GoesOn self.old self.new }
         ensures own { own self.new ≡ own self.old }
     {
-        let Some(pass) = &mut self.pass else {
-            unreachable!()
-        };
-        if !settles(reply) {
-            return;
+        if settles(reply) {
+            self.cache.shards.settle(rt, &mut self.pass);
         }
-        self.cache.shards.settle(rt, pass);
     }
 
     /// Appends the write to the history, or says why it may not enter: `Done` with its position, `Refused` with the number of
@@ -211,27 +202,15 @@ impl<'g, N: Naming, G: Gate> Client<'g, N, G> {
         ensures goes_on { GoesOn self.old self.new }
         ensures own { own self.new ≡ own self.old }
     {
-        let Some(mut pass) = self.pass.take() else {
-            unreachable!()
-        };
-        let looked = self.cache.look(rt, &mut pass, &mut self.joins);
-        let position = match looked {
-            Err(memory) => {
-                self.pass = Some(pass);
-                return Err(memory);
-            }
-            Ok(position) => position,
-        };
+        let cache = &self.cache;
+        let position = cache.look(rt, &mut self.pass, &mut self.joins)?;
         let mut steps: Steps<L> = Steps::open(blank);
-        let joins = &self.joins;
-        let cells = &self.cache.cells;
-        let reading = cells.read(rt, pass, joins, position, range, self.gate, &mut steps);
-        let Reading { pass, found } = reading;
-        let found = found_at(position, found);
-        let mut pass = pass;
-        self.cache.history.unpin(rt, &mut pass);
-        self.pass = Some(pass);
-        found
+        let (pass, joins) = (&mut self.pass, &self.joins);
+        let found = cache
+            .cells
+            .read(rt, pass, joins, position, range, self.gate, &mut steps);
+        cache.history.unpin(rt, &mut self.pass);
+        found_at(position, found)
     }
 
     /// The pair at the key in the state after all entries that the history has now: `Found` or `Absent` with their number, or
@@ -275,28 +254,14 @@ impl<'g, N: Naming, G: Gate> Client<'g, N, G> {
         ensures goes_on { GoesOn self.old self.new }
         ensures own { own self.new ≡ own self.old }
     {
-        let Some(mut pass) = self.pass.take() else {
-            unreachable!()
-        };
-        let seen = self.cache.look(rt, &mut pass, &mut self.joins);
-        let position = match seen {
-            Err(memory) => {
-                self.pass = Some(pass);
-                return Err(memory);
-            }
-            Ok(position) => position,
-        };
+        let (alloc, cache) = (self.alloc, &self.cache);
+        let position = cache.look(rt, &mut self.pass, &mut self.joins)?;
         let mut steps: Steps<L> = Steps::open(blank);
-        let alloc = self.alloc;
-        let joins = &self.joins;
-        let cache = &self.cache;
-        let told = cache.scan(
+        let (pass, joins) = (&mut self.pass, &self.joins);
+        let reply = cache.scan(
             rt, alloc, pass, joins, position, range, self.gate, &mut steps,
         );
-        let ToldBack { pass, reply } = told;
-        let mut pass = pass;
-        self.cache.history.unpin(rt, &mut pass);
-        self.pass = Some(pass);
+        cache.history.unpin(rt, &mut self.pass);
         reply
     }
 
@@ -333,27 +298,14 @@ impl<'g, N: Naming, G: Gate> Client<'g, N, G> {
         ensures goes_on { GoesOn self.old self.new }
         ensures own { own self.new ≡ own self.old }
     {
-        let Some(mut pass) = self.pass.take() else {
-            unreachable!()
-        };
-        let seen = self.cache.look(rt, &mut pass, &mut self.joins);
-        let position = match seen {
-            Err(memory) => {
-                self.pass = Some(pass);
-                return Err(memory);
-            }
-            Ok(position) => position,
-        };
-        let mut steps: Steps<L> = Steps::open(blank);
-        let joins = &self.joins;
         let cache = &self.cache;
-        let told = cache.ask(
+        let position = cache.look(rt, &mut self.pass, &mut self.joins)?;
+        let mut steps: Steps<L> = Steps::open(blank);
+        let (pass, joins) = (&mut self.pass, &self.joins);
+        let reply = cache.ask(
             rt, pass, joins, position, question, at, range, self.gate, &mut steps,
         );
-        let ToldBack { pass, reply } = told;
-        let mut pass = pass;
-        self.cache.history.unpin(rt, &mut pass);
-        self.pass = Some(pass);
+        cache.history.unpin(rt, &mut self.pass);
         reply
     }
 
@@ -395,20 +347,10 @@ impl<'g, N: Naming, G: Gate> Client<'g, N, G> {
         ensures goes_on { GoesOn self.old self.new }
         ensures own { own self.new ≡ own self.old }
     {
-        let Some(mut pass) = self.pass.take() else {
-            unreachable!()
-        };
-        let seen = self.cache.look(rt, &mut pass, &mut self.joins);
-        let position = match seen {
-            Err(memory) => {
-                self.pass = Some(pass);
-                return Err(memory);
-            }
-            Ok(position) => position,
-        };
-        let reply = self.cache.feed(rt, self.alloc, &mut pass, position, from);
-        self.cache.history.unpin(rt, &mut pass);
-        self.pass = Some(pass);
+        let cache = &self.cache;
+        let position = cache.look(rt, &mut self.pass, &mut self.joins)?;
+        let reply = cache.feed(rt, self.alloc, &mut self.pass, position, from);
+        cache.history.unpin(rt, &mut self.pass);
         reply
     }
 
@@ -458,12 +400,6 @@ impl<'g, N: Naming, G: Gate> Client<'g, N, G> {
         ensures same { self.new.view ≡ other.new.view }
         ensures own { (own self.new ≡ own self.old) × (own other.new ≡ own other.old) }
     {
-        let Some(one) = &mut self.pass else {
-            unreachable!()
-        };
-        let Some(two) = &mut other.pass else {
-            unreachable!()
-        };
-        self.cache.history.meet(rt, one, two);
+        self.cache.history.meet(rt, &mut self.pass, &mut other.pass);
     }
 }

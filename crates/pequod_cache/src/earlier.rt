@@ -19,7 +19,6 @@ use join_types::{Change, Pair};
 use key_space::Range;
 use out_of_memory::OutOfMemory;
 use pq_io::Gate;
-use range_cells::{Feed, Reading};
 use request_codec::Reply;
 use std::sync::Wait;
 use std::sync::ledger::Ledger;
@@ -36,15 +35,6 @@ pub(crate) enum Question {
     Pairs,
     /// What changed in it since.
     Changes,
-}
-
-/// The pass that was given, and the reply.
-#[derive(Drop)]
-pub(crate) struct ToldBack {
-    /// The pass. It is the same, has written nothing, and may have seen more.
-    pub(crate) pass: Pass,
-    /// The reply, or that no memory was found.
-    pub(crate) reply: Result<Reply, OutOfMemory>,
 }
 
 /// Why a position cannot be asked for where there are so many entries: it lies ahead, or too far back. None where it lies within
@@ -85,7 +75,7 @@ impl<N: Naming> Cache<N> {
     fn tell<R: Wait, G: Gate, L: Ledger>(
         &self,
         rt: &R,
-        pass: Pass,
+        pass: &mut Pass,
         old: &JoinSet,
         new: &JoinSet,
         position: u64,
@@ -94,33 +84,29 @@ impl<N: Naming> Cache<N> {
         range: &Range,
         gate: &G,
         steps: &mut Steps<L>,
-    ) -> ToldBack
-        requires same_history { pass.history ≡ N.history }
-        requires recorded { IsRecorded pass.writers pass.view }
+    ) -> Result<Reply, OutOfMemory>
+        requires same_history { pass.old.history ≡ N.history }
+        requires recorded { IsRecorded pass.old.writers pass.old.view }
         requires order { at ≤ position }
-        requires whole { position ≡ length pass.view }
-        requires near { length pass.view ≤ at + 65536 }
-        requires pinned { ReachesBack pass at }
-        requires old_joins { AreJoins (reach pass.mark) old.now (take at pass.view) }
-        requires new_joins { AreJoins (reach pass.mark) new.now (take position pass.view) }
-        ensures replied { IfOk result.reply (λ reply. plain_reply reply ≡ earlier_reply (asked question range.now at) pass.view) }
-        ensures reads_on { ReadsOn pass result.pass }
+        requires whole { position ≡ length pass.old.view }
+        requires near { length pass.old.view ≤ at + 65536 }
+        requires pinned { ReachesBack pass.old at }
+        requires old_joins { AreJoins (reach pass.old.mark) old.now (take at pass.old.view) }
+        requires new_joins { AreJoins (reach pass.old.mark) new.now (take position pass.old.view) }
+        ensures replied { IfOk result (λ reply. plain_reply reply ≡ earlier_reply (asked question range.now at) pass.old.view) }
+        ensures reads_on { ReadsOn pass.old pass.new }
         ensures counted { steps.old ≤ steps.new }
     {
         match question {
             Question::Pairs => {
-                let reading = self.cells.read(rt, pass, old, at, range, gate, steps);
-                let Reading { pass, found } = reading;
-                let reply = pairs_reply(at, found);
-                ToldBack { pass, reply }
+                let found = self.cells.read(rt, pass, old, at, range, gate, steps);
+                pairs_reply(at, found)
             }
             Question::Changes => {
-                let feed = self
+                let found = self
                     .cells
                     .changes(rt, pass, old, new, at, position, range, gate, steps);
-                let Feed { pass, found } = feed;
-                let reply = changes_reply(at, position, found);
-                ToldBack { pass, reply }
+                changes_reply(at, position, found)
             }
         }
     }
@@ -131,7 +117,7 @@ impl<N: Naming> Cache<N> {
     pub(crate) fn ask<R: Wait, G: Gate, L: Ledger>(
         &self,
         rt: &R,
-        pass: Pass,
+        pass: &mut Pass,
         joins: &JoinSet,
         position: u64,
         question: Question,
@@ -139,34 +125,27 @@ impl<N: Naming> Cache<N> {
         range: &Range,
         gate: &G,
         steps: &mut Steps<L>,
-    ) -> ToldBack
-        requires same_history { pass.history ≡ N.history }
-        requires recorded { IsRecorded pass.writers pass.view }
-        requires pinned { pass.mark ≡ Pinned position }
-        requires whole { position ≡ length pass.view }
-        requires joins { AreJoins (reach pass.mark) joins.now pass.view }
-        ensures replied { IfOk result.reply (λ reply. plain_reply reply ≡ earlier_reply (asked question range.now at) pass.view) }
-        ensures reads_on { ReadsOn pass result.pass }
+    ) -> Result<Reply, OutOfMemory>
+        requires same_history { pass.old.history ≡ N.history }
+        requires recorded { IsRecorded pass.old.writers pass.old.view }
+        requires pinned { pass.old.mark ≡ Pinned position }
+        requires whole { position ≡ length pass.old.view }
+        requires joins { AreJoins (reach pass.old.mark) joins.now pass.old.view }
+        ensures replied { IfOk result (λ reply. plain_reply reply ≡ earlier_reply (asked question range.now at) pass.old.view) }
+        ensures reads_on { ReadsOn pass.old pass.new }
         ensures counted { steps.old ≤ steps.new }
     {
         if let Some(reply) = out_of_reach(at, position) {
-            let reply = Ok(reply);
-            return ToldBack { pass, reply };
+            return Ok(reply);
         }
         if joins.changed_at() <= at {
             return self.tell(
                 rt, pass, joins, joins, position, question, at, range, gate, steps,
             );
         }
-        let mut pass = pass;
-        match self.history.joins_at(rt, &mut pass, at) {
-            Ok(old) => self.tell(
-                rt, pass, &old, joins, position, question, at, range, gate, steps,
-            ),
-            Err(memory) => {
-                let reply = Err(memory);
-                ToldBack { pass, reply }
-            }
-        }
+        let old = self.history.joins_at(rt, pass, at)?;
+        self.tell(
+            rt, pass, &old, joins, position, question, at, range, gate, steps,
+        )
     }
 }

@@ -13,14 +13,12 @@ ghost use Rattle.request_codec.specs.Plain.{plain_reply};
 ghost use Rattle.pequod_cache.specs.Scanning.{HasFound};
 
 use crate::cache::Cache;
-use crate::earlier::ToldBack;
 use base_shards::Naming;
 use join_set::JoinSet;
 use join_types::Pair;
 use key_space::Range;
 use out_of_memory::OutOfMemory;
 use pq_io::Gate;
-use range_cells::Scanned;
 use request_codec::{PairsWriter, Reply};
 use std::alloc::Global;
 use std::sync::Wait;
@@ -55,35 +53,26 @@ impl<N: Naming> Cache<N> {
         &self,
         rt: &R,
         alloc: Global,
-        pass: Pass,
+        pass: &mut Pass,
         joins: &JoinSet,
         position: u64,
         range: &Range,
         gate: &G,
         steps: &mut Steps<L>,
-    ) -> ToldBack
-        requires same_history { pass.history ≡ N.history }
-        requires recorded { IsRecorded pass.writers pass.view }
-        requires pinned { pass.mark ≡ Pinned position }
-        requires whole { position ≡ length pass.view }
-        requires joins { AreJoins (reach pass.mark) joins.now pass.view }
-        ensures replied { IfOk result.reply (λ reply. plain_reply reply ≡ answered (pairs position (pairs_within range.now (state pass.view)))) }
-        ensures reads_on { ReadsOn pass result.pass }
+    ) -> Result<Reply, OutOfMemory>
+        requires same_history { pass.old.history ≡ N.history }
+        requires recorded { IsRecorded pass.old.writers pass.old.view }
+        requires pinned { pass.old.mark ≡ Pinned position }
+        requires whole { position ≡ length pass.old.view }
+        requires joins { AreJoins (reach pass.old.mark) joins.now pass.old.view }
+        ensures replied { IfOk result (λ reply. plain_reply reply ≡ answered (pairs position (pairs_within range.now (state pass.old.view)))) }
+        ensures reads_on { ReadsOn pass.old pass.new }
         ensures counted { steps.old ≤ steps.new }
     {
-        let begun = PairsWriter::begin(alloc, position);
-        let mut line = match begun {
-            Ok(line) => line,
-            Err(memory) => {
-                let reply = Err(memory);
-                return ToldBack { pass, reply };
-            }
-        };
-        let scanned = self
+        let mut line = PairsWriter::begin(alloc, position)?;
+        let found = self
             .cells
             .scan(rt, pass, joins, position, range, gate, &mut line, steps);
-        let Scanned { pass, found } = scanned;
-        let reply = scan_reply(position, found, line);
-        ToldBack { pass, reply }
+        scan_reply(position, found, line)
     }
 }

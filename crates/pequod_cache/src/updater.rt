@@ -9,7 +9,7 @@ use crate::cache::Cache;
 use base_shards::Naming;
 use join_set::JoinSet;
 use pq_io::Gate;
-use range_cells::{Turn, Turned};
+use range_cells::Turn;
 use std::alloc::Global;
 use std::marker::{Brand, Model};
 use std::sync::ledger::{Blank, Ledger};
@@ -24,18 +24,17 @@ use write_history::Pass;
 pub struct Updater<'g, N: Naming, G> {
     cache: Arc<Cache<N>>,
     gate: &'g G,
-    /// None while the pass is lent to a turn.
-    pass: Option<Pass>,
+    pass: Pass,
     joins: JoinSet,
 }
 
 impl<'g, N: Naming, G> Model for Updater<'g, N, G> {
     ghost use Rattle.write_history.specs.Passes.{PassView};
-    ghost use Rattle.pequod_cache.specs.Clients.{IsSeated, pass_of};
+    ghost use Rattle.pequod_cache.specs.Clients.{IsSeated};
 
     ghost Value = { PassView };
 
-    ghost view = { λ u. pass_of N.history u.pass };
+    ghost view = { λ u. u.pass };
 
     ghost invariant = { λ u. IsSeated N.history u.pass u.joins };
 }
@@ -56,7 +55,7 @@ impl<'g, N: Naming, G> Updater<'g, N, G> {
         Updater {
             cache,
             gate,
-            pass: Some(pass),
+            pass,
             joins: JoinSet::new(alloc),
         }
     }
@@ -85,25 +84,17 @@ impl<'g, N: Naming, G: Gate> Updater<'g, N, G> {
         ensures goes_on { GoesOn self.old self.new }
         ensures own { own self.new ≡ own self.old }
     {
-        let Some(mut pass) = self.pass.take() else {
-            unreachable!()
-        };
-        let looked = self.cache.look(rt, &mut pass, &mut self.joins);
-        let position = match looked {
-            Err(memory) => {
-                self.pass = Some(pass);
-                return Turn::OutOfMemory(memory);
-            }
+        let cache = &self.cache;
+        let position = match cache.look(rt, &mut self.pass, &mut self.joins) {
+            Err(memory) => return Turn::OutOfMemory(memory),
             Ok(position) => position,
         };
         let mut steps: Steps<L> = Steps::open(blank);
-        let joins = &self.joins;
-        let cells = &self.cache.cells;
-        let turned = cells.turn(rt, pass, joins, position, self.gate, &mut steps);
-        let Turned { pass, turn } = turned;
-        let mut pass = pass;
-        self.cache.history.unpin(rt, &mut pass);
-        self.pass = Some(pass);
+        let (pass, joins) = (&mut self.pass, &self.joins);
+        let turn = cache
+            .cells
+            .turn(rt, pass, joins, position, self.gate, &mut steps);
+        cache.history.unpin(rt, &mut self.pass);
         turn
     }
 }

@@ -2,7 +2,7 @@
 ghost use Rattle.std.specs.Prelude.{◌≡◌, ◌⊎◌, ◌≤◌, length, take, IfOk};
 ghost use Rattle.semantics.specs.States.{state};
 ghost use Rattle.write_history.specs.Marks.{reach};
-ghost use Rattle.base_shards.specs.Reading.{ReadsOn};
+ghost use Rattle.shared_reader.specs.Lent.{LentReadsOn};
 ghost use Rattle.range_cells.specs.Asked.{TellsTouched, pairs_asked, pairs_at};
 
 use crate::stack::Stack;
@@ -50,10 +50,10 @@ fn read_keys<'a, N: Naming, W: Wait, G: Gate, L: Ledger>(
     keys: &[Key],
     steps: &mut Steps<L>,
 ) -> Result<Vec<Pair>, OutOfMemory>
-    requires within { p ≤ length stack.old.view }
-    requires above { reach stack.old.mark ≤ p }
-    ensures exact { IfOk result (λ pairs. pairs.items ≡ pairs_at keys.now (state (take p stack.old.view))) }
-    ensures reads_on { ReadsOn stack.old stack.new }
+    requires within { p ≤ length stack.old.pass.view }
+    requires above { reach stack.old.pass.mark ≤ p }
+    ensures exact { IfOk result (λ pairs. pairs.items ≡ pairs_at keys.now (state (take p stack.old.pass.view))) }
+    ensures reads_on { LentReadsOn stack.old stack.new }
     ensures counted { steps.old ≤ steps.new }
 {
     let mut pairs = Vec::new(alloc);
@@ -75,10 +75,10 @@ pub fn read_asked<'a, N: Naming, W: Wait, G: Gate, L: Ledger>(
     touched: &Changed,
     steps: &mut Steps<L>,
 ) -> Result<Vec<Pair>, OutOfMemory>
-    requires within { p ≤ length stack.old.view }
-    requires above { reach stack.old.mark ≤ p }
-    ensures exact { IfOk result (λ pairs. pairs.items ≡ pairs_asked touched.now range.now (state (take p stack.old.view))) }
-    ensures reads_on { ReadsOn stack.old stack.new }
+    requires within { p ≤ length stack.old.pass.view }
+    requires above { reach stack.old.pass.mark ≤ p }
+    ensures exact { IfOk result (λ pairs. pairs.items ≡ pairs_asked touched.now range.now (state (take p stack.old.pass.view))) }
+    ensures reads_on { LentReadsOn stack.old stack.new }
     ensures counted { steps.old ≤ steps.new }
 {
     match touched {
@@ -98,11 +98,11 @@ pub fn ask<'a, N: Naming, W: Wait, G: Gate, L: Ledger>(
     steps: &mut Steps<L>,
 ) -> Result<Touched, OutOfMemory>
     requires order { q ≤ p }
-    requires within { p ≤ length stack.old.view }
-    requires above { reach stack.old.mark ≤ q }
-    ensures touched { IfOk result (λ asked. TellsTouched stack.old.view q p range.now asked.touched) }
-    ensures exact { IfOk result (λ asked. asked.pairs.items ≡ pairs_asked asked.touched range.now (state (take p stack.old.view))) }
-    ensures reads_on { ReadsOn stack.old stack.new }
+    requires within { p ≤ length stack.old.pass.view }
+    requires above { reach stack.old.pass.mark ≤ q }
+    ensures touched { IfOk result (λ asked. TellsTouched stack.old.pass.view q p range.now asked.touched) }
+    ensures exact { IfOk result (λ asked. asked.pairs.items ≡ pairs_asked asked.touched range.now (state (take p stack.old.pass.view))) }
+    ensures reads_on { LentReadsOn stack.old stack.new }
     ensures counted { steps.old ≤ steps.new }
 {
     let told = stack.changed(q, p, range, steps)?;

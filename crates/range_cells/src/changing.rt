@@ -10,7 +10,7 @@ ghost use Rattle.range_cells.specs.Asked.{TellsTouched, pairs_asked};
 
 use crate::asked::{Touched, ask};
 use crate::comparing::compare;
-use crate::range_cells::{RangeCells, Reading};
+use crate::range_cells::RangeCells;
 use base_shards::Naming;
 use join_set::JoinSet;
 use join_types::Change;
@@ -22,22 +22,6 @@ use std::sync::ledger::Ledger;
 use steps::Steps;
 use write_history::Pass;
 
-/// What a feed gives back: the pass that it was given, and what it found.
-#[derive(Drop)]
-pub struct Feed {
-    /// The pass. It is the same, has written nothing, and may have seen more.
-    pub pass: Pass,
-    /// The changes, in key order, or that no memory was found.
-    pub found: Result<Vec<Change>, OutOfMemory>,
-}
-
-/// The pass, and what was read at the later position.
-#[derive(Drop)]
-struct Later {
-    pass: Pass,
-    found: Result<Touched, OutOfMemory>,
-}
-
 impl<N: Naming> RangeCells<N> {
     /// Which keys of the range may have changed between the first q and the first p entries that the pass has seen, where they are
     /// few, and the pairs after p entries at these, or else all of the range: by one stack of readers. These are the joins after p
@@ -45,32 +29,33 @@ impl<N: Naming> RangeCells<N> {
     fn read_later<W: Wait, G: Gate, L: Ledger>(
         &self,
         rt: &W,
-        pass: Pass,
+        pass: &mut Pass,
         joins: &JoinSet,
         q: u64,
         p: u64,
         range: &Range,
         gate: &G,
         steps: &mut Steps<L>,
-    ) -> Later
-        requires same_history { pass.history ≡ N.history }
-        requires recorded { IsRecorded pass.writers pass.view }
+    ) -> Result<Touched, OutOfMemory>
+        requires same_history { pass.old.history ≡ N.history }
+        requires recorded { IsRecorded pass.old.writers pass.old.view }
         requires order { q ≤ p }
-        requires within { p ≤ length pass.view }
-        requires pinned { ReachesBack pass q }
-        requires joins { AreJoins (reach pass.mark) joins.now (take p pass.view) }
-        ensures touched { IfOk result.found (λ asked. TellsTouched pass.view q p range.now asked.touched) }
-        ensures exact { IfOk result.found (λ asked. asked.pairs.items ≡ pairs_asked asked.touched range.now (state (take p pass.view))) }
-        ensures reads_on { ReadsOn pass result.pass }
+        requires within { p ≤ length pass.old.view }
+        requires pinned { ReachesBack pass.old q }
+        requires joins { AreJoins (reach pass.old.mark) joins.now (take p pass.old.view) }
+        ensures touched { IfOk result (λ asked. TellsTouched pass.old.view q p range.now asked.touched) }
+        ensures exact { IfOk result (λ asked. asked.pairs.items ≡ pairs_asked asked.touched range.now (state (take p pass.old.view))) }
+        ensures reads_on { ReadsOn pass.old pass.new }
         ensures counted { steps.old ≤ steps.new }
     {
         self.cells.follow(rt, &self.shards, joins);
         let room = self.room(rt, gate);
         let mut stack = self.stack(&room, joins, p, pass);
         let found = ask(self.alloc, &mut stack, q, p, range, steps);
-        let (pass, used) = stack.into_parts();
+        let used = stack.take_used();
+        let _pass = stack.into_pass();
         self.cells.settle(rt, &self.shards, used.as_slice());
-        Later { pass, found }
+        found
     }
 
     /// What changed in the range of the state from the first q entries that the pass has seen to the first p: each key of it that
@@ -85,7 +70,7 @@ impl<N: Naming> RangeCells<N> {
     pub fn changes<W: Wait, G: Gate, L: Ledger>(
         &self,
         rt: &W,
-        pass: Pass,
+        pass: &mut Pass,
         old: &JoinSet,
         new: &JoinSet,
         q: u64,
@@ -93,42 +78,23 @@ impl<N: Naming> RangeCells<N> {
         range: &Range,
         gate: &G,
         steps: &mut Steps<L>,
-    ) -> Feed
-        requires same_history { pass.history ≡ N.history }
-        requires recorded { IsRecorded pass.writers pass.view }
+    ) -> Result<Vec<Change>, OutOfMemory>
+        requires same_history { pass.old.history ≡ N.history }
+        requires recorded { IsRecorded pass.old.writers pass.old.view }
         requires order { q ≤ p }
-        requires within { p ≤ length pass.view }
-        requires pinned { ReachesBack pass q }
-        requires old_joins { AreJoins (reach pass.mark) old.now (take q pass.view) }
-        requires new_joins { AreJoins (reach pass.mark) new.now (take p pass.view) }
-        ensures exact { IfOk result.found (λ found. found.items ≡ changes range.now pass.view q p) }
-        ensures reads_on { ReadsOn pass result.pass }
+        requires within { p ≤ length pass.old.view }
+        requires pinned { ReachesBack pass.old q }
+        requires old_joins { AreJoins (reach pass.old.mark) old.now (take q pass.old.view) }
+        requires new_joins { AreJoins (reach pass.old.mark) new.now (take p pass.old.view) }
+        ensures exact { IfOk result (λ found. found.items ≡ changes range.now pass.old.view q p) }
+        ensures reads_on { ReadsOn pass.old pass.new }
         ensures counted { steps.old ≤ steps.new }
     {
         if q == p {
-            let none = Vec::new(self.alloc);
-            let found = Ok(none);
-            return Feed { pass, found };
+            return Ok(Vec::new(self.alloc));
         }
-        let later = self.read_later(rt, pass, new, q, p, range, gate, steps);
-        let Later { pass, found } = later;
-        let asked = match found {
-            Ok(asked) => asked,
-            Err(memory) => {
-                let found = Err(memory);
-                return Feed { pass, found };
-            }
-        };
-        let earlier = self.read_asked(rt, pass, old, q, range, &asked.touched, gate, steps);
-        let Reading { pass, found } = earlier;
-        let before = match found {
-            Ok(before) => before,
-            Err(memory) => {
-                let found = Err(memory);
-                return Feed { pass, found };
-            }
-        };
-        let found = compare(self.alloc, before.as_slice(), asked.pairs.as_slice());
-        Feed { pass, found }
+        let asked = self.read_later(rt, pass, new, q, p, range, gate, steps)?;
+        let before = self.read_asked(rt, pass, old, q, range, &asked.touched, gate, steps)?;
+        compare(self.alloc, before.as_slice(), asked.pairs.as_slice())
     }
 }

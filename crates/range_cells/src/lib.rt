@@ -10,6 +10,5 @@ pub mod range_cells;
 pub mod stack;
 pub mod turning;
 
-pub use changing::Feed;
-pub use range_cells::{RangeCells, Reading, Scanned};
-pub use turning::{Turn, Turned};
+pub use range_cells::RangeCells;
+pub use turning::Turn;

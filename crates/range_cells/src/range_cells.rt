@@ -27,24 +27,6 @@ use std::sync::{Arc, Wait};
 use steps::Steps;
 use write_history::{History, Pass};
 
-/// What a read gives back: the pass that it was given, and what it found.
-#[derive(Drop)]
-pub struct Reading {
-    /// The pass. It is the same, has written nothing, and may have seen more.
-    pub pass: Pass,
-    /// The pairs, in key order, or that no memory was found.
-    pub found: Result<Vec<Pair>, OutOfMemory>,
-}
-
-/// What a scan gives back: the pass that it was given, and what it found.
-#[derive(Drop)]
-pub struct Scanned {
-    /// The pass. It is the same, has written nothing, and may have seen more.
-    pub pass: Pass,
-    /// The pairs, in key order, none where the sink was handed them, or that no memory was found.
-    pub found: Result<Option<Vec<Pair>>, OutOfMemory>,
-}
-
 /// Reads the state of a history at any position that a pinned pass has seen, up to 65,536 entries before its pin, and keeps ranges
 /// of the joins' outputs in cells. Threads share it.
 ///
@@ -104,20 +86,20 @@ impl<N: Naming> RangeCells<N> {
     pub fn read<W: Wait, G: Gate, L: Ledger>(
         &self,
         rt: &W,
-        pass: Pass,
+        pass: &mut Pass,
         joins: &JoinSet,
         p: u64,
         range: &Range,
         gate: &G,
         steps: &mut Steps<L>,
-    ) -> Reading
-        requires same_history { pass.history ≡ N.history }
-        requires recorded { IsRecorded pass.writers pass.view }
-        requires within { p ≤ length pass.view }
-        requires pinned { ReachesBack pass p }
-        requires joins { AreJoins (reach pass.mark) joins.now (take p pass.view) }
-        ensures exact { IfOk result.found (λ pairs. pairs.items ≡ pairs_within range.now (state (take p pass.view))) }
-        ensures reads_on { ReadsOn pass result.pass }
+    ) -> Result<Vec<Pair>, OutOfMemory>
+        requires same_history { pass.old.history ≡ N.history }
+        requires recorded { IsRecorded pass.old.writers pass.old.view }
+        requires within { p ≤ length pass.old.view }
+        requires pinned { ReachesBack pass.old p }
+        requires joins { AreJoins (reach pass.old.mark) joins.now (take p pass.old.view) }
+        ensures exact { IfOk result (λ pairs. pairs.items ≡ pairs_within range.now (state (take p pass.old.view))) }
+        ensures reads_on { ReadsOn pass.old pass.new }
         ensures counted { steps.old ≤ steps.new }
     {
         let all = Changed::All;
@@ -129,22 +111,22 @@ impl<N: Naming> RangeCells<N> {
     pub fn scan<W: Wait, G: Gate, K: RowSink, L: Ledger>(
         &self,
         rt: &W,
-        pass: Pass,
+        pass: &mut Pass,
         joins: &JoinSet,
         p: u64,
         range: &Range,
         gate: &G,
         sink: &mut K,
         steps: &mut Steps<L>,
-    ) -> Scanned
-        requires same_history { pass.history ≡ N.history }
-        requires recorded { IsRecorded pass.writers pass.view }
-        requires within { p ≤ length pass.view }
-        requires pinned { ReachesBack pass p }
-        requires joins { AreJoins (reach pass.mark) joins.now (take p pass.view) }
-        ensures exact { IfOk result.found (λ found. MatchOption found (K.got sink.old sink.new (pairs_within range.now (state (take p pass.view))))
-            (λ pairs. pairs.items ≡ pairs_within range.now (state (take p pass.view)))) }
-        ensures reads_on { ReadsOn pass result.pass }
+    ) -> Result<Option<Vec<Pair>>, OutOfMemory>
+        requires same_history { pass.old.history ≡ N.history }
+        requires recorded { IsRecorded pass.old.writers pass.old.view }
+        requires within { p ≤ length pass.old.view }
+        requires pinned { ReachesBack pass.old p }
+        requires joins { AreJoins (reach pass.old.mark) joins.now (take p pass.old.view) }
+        ensures exact { IfOk result (λ found. MatchOption found (K.got sink.old sink.new (pairs_within range.now (state (take p pass.old.view))))
+            (λ pairs. pairs.items ≡ pairs_within range.now (state (take p pass.old.view)))) }
+        ensures reads_on { ReadsOn pass.old pass.new }
         ensures counted { steps.old ≤ steps.new }
     {
         self.cells.follow(rt, &self.shards, joins);
@@ -152,9 +134,10 @@ impl<N: Naming> RangeCells<N> {
         let common = self.room(rt, gate);
         let mut stack = self.stack(&common, joins, p, pass);
         let found = stack.scan(p, range, only, sink, steps);
-        let (pass, used) = stack.into_parts();
+        let used = stack.take_used();
+        let _pass = stack.into_pass();
         self.cells.settle(rt, &self.shards, used.as_slice());
-        Scanned { pass, found }
+        found
     }
 
     /// What all layers of readers have in common that wait with this one and pass this gate.
@@ -175,14 +158,15 @@ impl<N: Naming> RangeCells<N> {
         room: &'a Room<'a, N, W, G>,
         joins: &'a JoinSet,
         p: u64,
-        pass: Pass,
+        pass: &'a mut Pass,
     ) -> Stack<'a, N, W, G>
-        requires same_history { pass.history ≡ N.history }
-        requires recorded { IsRecorded pass.writers pass.view }
-        requires within { p ≤ length pass.view }
-        requires pinned { ReachesBack pass p }
-        requires joins { AreJoins (reach pass.mark) joins.now (take p pass.view) }
-        ensures { result ≡ pass }
+        requires same_history { pass.old.history ≡ N.history }
+        requires recorded { IsRecorded pass.old.writers pass.old.view }
+        requires within { p ≤ length pass.old.view }
+        requires pinned { ReachesBack pass.old p }
+        requires joins { AreJoins (reach pass.old.mark) joins.now (take p pass.old.view) }
+        ensures lent { result.lent ≡ pass.entry.ghost_name }
+        ensures pass { result.pass ≡ pass.old }
     {
         let rt = room.rt;
         let lowest = SharedReader::new(self.alloc, rt, &self.history, &self.shards, joins, p, pass);
@@ -194,30 +178,31 @@ impl<N: Naming> RangeCells<N> {
     pub(crate) fn read_asked<W: Wait, G: Gate, L: Ledger>(
         &self,
         rt: &W,
-        pass: Pass,
+        pass: &mut Pass,
         joins: &JoinSet,
         p: u64,
         range: &Range,
         touched: &Changed,
         gate: &G,
         steps: &mut Steps<L>,
-    ) -> Reading
-        requires same_history { pass.history ≡ N.history }
-        requires recorded { IsRecorded pass.writers pass.view }
-        requires within { p ≤ length pass.view }
-        requires pinned { ReachesBack pass p }
-        requires joins { AreJoins (reach pass.mark) joins.now (take p pass.view) }
-        ensures exact { IfOk result.found (λ pairs. pairs.items ≡ pairs_asked touched.now range.now (state (take p pass.view))) }
-        ensures reads_on { ReadsOn pass result.pass }
+    ) -> Result<Vec<Pair>, OutOfMemory>
+        requires same_history { pass.old.history ≡ N.history }
+        requires recorded { IsRecorded pass.old.writers pass.old.view }
+        requires within { p ≤ length pass.old.view }
+        requires pinned { ReachesBack pass.old p }
+        requires joins { AreJoins (reach pass.old.mark) joins.now (take p pass.old.view) }
+        ensures exact { IfOk result (λ pairs. pairs.items ≡ pairs_asked touched.now range.now (state (take p pass.old.view))) }
+        ensures reads_on { ReadsOn pass.old pass.new }
         ensures counted { steps.old ≤ steps.new }
     {
         self.cells.follow(rt, &self.shards, joins);
         let room = self.room(rt, gate);
         let mut stack = self.stack(&room, joins, p, pass);
         let found = read_asked(self.alloc, &mut stack, p, range, touched, steps);
-        let (pass, used) = stack.into_parts();
+        let used = stack.take_used();
+        let _pass = stack.into_pass();
         self.cells.settle(rt, &self.shards, used.as_slice());
-        Reading { pass, found }
+        found
     }
 
     /// Evicts the cell with a number, if there is one: what it keeps is let go, and it is not marked. While another thread has

@@ -5,7 +5,6 @@ ghost use Rattle.semantics.specs.Texts.{pairs_within};
 ghost use Rattle.semantics.specs.Histories.{joins_of};
 ghost use Rattle.semantics.specs.States.{state};
 ghost use Rattle.write_history.specs.Marks.{reach};
-ghost use Rattle.base_shards.specs.Reading.{ReadsOn};
 ghost use Rattle.join_eval.specs.Answers.{AnswersChanges};
 ghost use Rattle.join_eval.specs.Bounds.{OnTooWide};
 ghost use Rattle.join_eval.specs.Moves.{Moves};
@@ -13,6 +12,7 @@ ghost use Rattle.cell_slots.specs.Slots.{IsRankAt};
 ghost use Rattle.base_reader.specs.Reaching.{IsOnlyReached};
 ghost use Rattle.shared_cells.specs.Advancing.{AdvancesCell};
 ghost use Rattle.shared_cells.specs.Cells.{IsWideCell};
+ghost use Rattle.shared_reader.specs.Lent.{LentReadsOn};
 ghost use Rattle.range_cells.specs.Turns.{AdvancesLittle};
 
 use base_shards::Naming;
@@ -30,7 +30,7 @@ use steps::Steps;
 use write_history::Pass;
 
 /// Reads what a pass has seen with the joins of all ranks, and keeps what they give in cells that threads share. Contracts
-/// see it as the pass.
+/// see it as the pass that it was lent.
 #[derive(Drop)]
 pub struct Stack<'a, N: Naming, W, G> {
     room: &'a Room<'a, N, W, G>,
@@ -38,9 +38,9 @@ pub struct Stack<'a, N: Naming, W, G> {
 }
 
 impl<'a, N: Naming, W, G> Model for Stack<'a, N, W, G> {
-    ghost use Rattle.write_history.specs.Passes.{PassView};
+    ghost use Rattle.shared_reader.specs.Lent.{LentPass};
 
-    ghost Value = { PassView };
+    ghost Value = { LentPass };
 
     ghost view = { λ s. s.lowest };
 }
@@ -85,11 +85,19 @@ impl<'a, N: Naming, W, G> Stack<'a, N, W, G> {
         Stack { room, lowest }
     }
 
-    /// The pass, and which cells were used, in order.
-    pub fn into_parts(self) -> (Pass, Vec<Use>)
-        ensures { result.0 ≡ self.entry }
+    /// Takes out which cells were used, in order.
+    pub fn take_used(&mut self) -> Vec<Use>
+        ensures { self.new ≡ self.old }
     {
-        self.lowest.into_parts()
+        self.lowest.take_used()
+    }
+
+    /// Gives the pass back that it was lent, so that its lender knows what it has seen.
+    pub fn into_pass(self) -> &'a mut Pass
+        ensures lent { result.ghost_name ≡ self.entry.lent }
+        ensures pass { result.now ≡ self.entry.pass }
+    {
+        self.lowest.into_pass()
     }
 }
 
@@ -101,10 +109,10 @@ impl<'a, N: Naming, W: Wait, G: Gate> Stack<'a, N, W, G> {
         range: &Range,
         steps: &mut Steps<L>,
     ) -> Result<Vec<Pair>, OutOfMemory>
-        requires within { p ≤ length self.old.view }
-        requires above { reach self.old.mark ≤ p }
-        ensures exact { IfOk result (λ pairs. pairs.items ≡ pairs_within range.now (state (take p self.old.view))) }
-        ensures reads_on { ReadsOn self.old self.new }
+        requires within { p ≤ length self.old.pass.view }
+        requires above { reach self.old.pass.mark ≤ p }
+        ensures exact { IfOk result (λ pairs. pairs.items ≡ pairs_within range.now (state (take p self.old.pass.view))) }
+        ensures reads_on { LentReadsOn self.old self.new }
         ensures counted { steps.old ≤ steps.new }
     {
         AllRanks::pairs(self.room, &mut self.lowest, p, range, 8, steps)
@@ -121,12 +129,12 @@ impl<'a, N: Naming, W: Wait, G: Gate> Stack<'a, N, W, G> {
         sink: &mut K,
         steps: &mut Steps<L>,
     ) -> Result<bool, OutOfMemory>
-        requires within { p ≤ length self.old.view }
-        requires above { reach self.old.mark ≤ p }
-        requires only { IsOnlyReached (joins_of (take p self.old.view)) range.now at rank }
+        requires within { p ≤ length self.old.pass.view }
+        requires above { reach self.old.pass.mark ≤ p }
+        requires only { IsOnlyReached (joins_of (take p self.old.pass.view)) range.now at rank }
         requires shallow { rank ≤ 7 }
-        ensures handed { IfOk result (λ gave. OnTrue gave (K.got sink.old sink.new (pairs_within range.now (state (take p self.old.view))))) }
-        ensures reads_on { ReadsOn self.old self.new }
+        ensures handed { IfOk result (λ gave. OnTrue gave (K.got sink.old sink.new (pairs_within range.now (state (take p self.old.pass.view))))) }
+        ensures reads_on { LentReadsOn self.old self.new }
         ensures counted { steps.old ≤ steps.new }
     {
         let mut reader: RankReader<'_, 'a, N, W, G, SharedReader<'a, N, W>, AllRanks> = RankReader {
@@ -146,12 +154,12 @@ impl<'a, N: Naming, W: Wait, G: Gate> Stack<'a, N, W, G> {
         sink: &mut K,
         steps: &mut Steps<L>,
     ) -> Result<bool, OutOfMemory>
-        requires within { p ≤ length self.old.view }
-        requires above { reach self.old.mark ≤ p }
-        requires only { IfSome only (λ one. IsOnlyReached (joins_of (take p self.old.view)) range.now one.0 one.1) }
+        requires within { p ≤ length self.old.pass.view }
+        requires above { reach self.old.pass.mark ≤ p }
+        requires only { IfSome only (λ one. IsOnlyReached (joins_of (take p self.old.pass.view)) range.now one.0 one.1) }
         requires shallow { IfSome only (λ one. one.1 ≤ 7) }
-        ensures handed { IfOk result (λ gave. OnTrue gave (K.got sink.old sink.new (pairs_within range.now (state (take p self.old.view))))) }
-        ensures reads_on { ReadsOn self.old self.new }
+        ensures handed { IfOk result (λ gave. OnTrue gave (K.got sink.old sink.new (pairs_within range.now (state (take p self.old.pass.view))))) }
+        ensures reads_on { LentReadsOn self.old self.new }
         ensures counted { steps.old ≤ steps.new }
     {
         match only {
@@ -172,13 +180,13 @@ impl<'a, N: Naming, W: Wait, G: Gate> Stack<'a, N, W, G> {
         sink: &mut K,
         steps: &mut Steps<L>,
     ) -> Result<Option<Vec<Pair>>, OutOfMemory>
-        requires within { p ≤ length self.old.view }
-        requires above { reach self.old.mark ≤ p }
-        requires only { IfSome only (λ one. IsOnlyReached (joins_of (take p self.old.view)) range.now one.0 one.1) }
+        requires within { p ≤ length self.old.pass.view }
+        requires above { reach self.old.pass.mark ≤ p }
+        requires only { IfSome only (λ one. IsOnlyReached (joins_of (take p self.old.pass.view)) range.now one.0 one.1) }
         requires shallow { IfSome only (λ one. one.1 ≤ 7) }
-        ensures exact { IfOk result (λ found. MatchOption found (K.got sink.old sink.new (pairs_within range.now (state (take p self.old.view))))
-            (λ pairs. pairs.items ≡ pairs_within range.now (state (take p self.old.view)))) }
-        ensures reads_on { ReadsOn self.old self.new }
+        ensures exact { IfOk result (λ found. MatchOption found (K.got sink.old sink.new (pairs_within range.now (state (take p self.old.pass.view))))
+            (λ pairs. pairs.items ≡ pairs_within range.now (state (take p self.old.pass.view)))) }
+        ensures reads_on { LentReadsOn self.old self.new }
         ensures counted { steps.old ≤ steps.new }
     {
         let handed = self.try_hand(p, range, only, sink, steps)?;
@@ -199,10 +207,10 @@ impl<'a, N: Naming, W: Wait, G: Gate> Stack<'a, N, W, G> {
         steps: &mut Steps<L>,
     ) -> Result<Changed, OutOfMemory>
         requires order { q ≤ p }
-        requires within { p ≤ length self.old.view }
-        requires above { reach self.old.mark ≤ q }
-        ensures exact { IfOk result (AnswersChanges self.old.view q p 8 range.now) }
-        ensures reads_on { ReadsOn self.old self.new }
+        requires within { p ≤ length self.old.pass.view }
+        requires above { reach self.old.pass.mark ≤ q }
+        ensures exact { IfOk result (AnswersChanges self.old.pass.view q p 8 range.now) }
+        ensures reads_on { LentReadsOn self.old self.new }
         ensures counted { steps.old ≤ steps.new }
     {
         AllRanks::changed(self.room, &mut self.lowest, q, p, range, 8, steps)
@@ -226,15 +234,15 @@ impl<'a, N: Naming, W: Wait, G: Gate> Stack<'a, N, W, G> {
         gate: &G,
         steps: &mut Steps<L>,
     ) -> Result<(), KeepFault<TooMany>>
-        requires within { p ≤ length self.old.view }
-        requires above { reach self.old.mark ≤ p }
-        requires rank { IsRankAt self.old.view p cell.old.at rank }
+        requires within { p ≤ length self.old.pass.view }
+        requires above { reach self.old.pass.mark ≤ p }
+        requires rank { IsRankAt self.old.pass.view p cell.old.at rank }
         requires ranked { IfSome rank (λ r. r ≤ 7) }
-        ensures advances { AdvancesCell (reach self.old.mark) p rank result cell.old cell.new }
-        ensures little { AdvancesLittle self.old.view (reach self.old.mark) p rank result cell.old cell.new steps.old steps.new }
-        ensures wide { IfErr result (OnTooWide (IsWideCell most self.old.view p cell.new)) }
-        ensures met { cell.new.pass.view ≡ self.new.view }
-        ensures reads_on { ReadsOn self.old self.new }
+        ensures advances { AdvancesCell (reach self.old.pass.mark) p rank result cell.old cell.new }
+        ensures little { AdvancesLittle self.old.pass.view (reach self.old.pass.mark) p rank result cell.old cell.new steps.old steps.new }
+        ensures wide { IfErr result (OnTooWide (IsWideCell most self.old.pass.view p cell.new)) }
+        ensures met { cell.new.pass.view ≡ self.new.pass.view }
+        ensures reads_on { LentReadsOn self.old self.new }
         ensures counted { steps.old ≤ steps.new }
     {
         let mut reader: RankReader<'_, 'a, N, W, G, SharedReader<'a, N, W>, AllRanks> = RankReader {

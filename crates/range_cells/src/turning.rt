@@ -46,15 +46,6 @@ pub enum Turn {
     OutOfMemory(OutOfMemory),
 }
 
-/// What a turn gives back: the pass that it was given, and what it did.
-#[derive(Drop)]
-pub struct Turned {
-    /// The pass. It is the same, has written nothing, and may have seen more.
-    pub pass: Pass,
-    /// What was done.
-    pub turn: Turn,
-}
-
 impl<N: Naming> RangeCells<N> {
     /// Advances each part of the base pairs to where the first p entries stand, so that cells are marked for them.
     ///
@@ -80,7 +71,7 @@ impl<N: Naming> RangeCells<N> {
     fn advance_cell<W: Wait, G: Gate, L: Ledger>(
         &self,
         rt: &W,
-        pass: Pass,
+        pass: &mut Pass,
         joins: &JoinSet,
         p: u64,
         rank: Option<u8>,
@@ -88,39 +79,31 @@ impl<N: Naming> RangeCells<N> {
         steps: &mut Steps<L>,
         id: u32,
         cell: &mut Cell<N>,
-    ) -> (Turned, Vec<Use>)
-        requires same_history { pass.history ≡ N.history }
-        requires recorded { IsRecorded pass.writers pass.view }
-        requires within { p ≤ length pass.view }
-        requires pinned { ReachesBack pass p }
-        requires joins { AreJoins (reach pass.mark) joins.now (take p pass.view) }
-        requires rank { IsRankAt pass.view p cell.old.at rank }
+    ) -> (Turn, Vec<Use>)
+        requires same_history { pass.old.history ≡ N.history }
+        requires recorded { IsRecorded pass.old.writers pass.old.view }
+        requires within { p ≤ length pass.old.view }
+        requires pinned { ReachesBack pass.old p }
+        requires joins { AreJoins (reach pass.old.mark) joins.now (take p pass.old.view) }
+        requires rank { IsRankAt pass.old.view p cell.old.at rank }
         requires ranked { IfSome rank (λ r. r ≤ 7) }
-        ensures told { TellsCell self.now.most pass.view p id cell.new result.0.turn }
-        ensures advances { AdvancesCell (reach pass.mark) p rank (done result.0.turn) cell.old cell.new }
-        ensures little { AdvancesLittle pass.view (reach pass.mark) p rank (done result.0.turn) cell.old cell.new steps.old steps.new }
-        ensures within { IsWithinView result.0.turn result.0.pass.view }
-        ensures reads_on { ReadsOn pass result.0.pass }
+        ensures told { TellsCell self.now.most pass.old.view p id cell.new result.0 }
+        ensures advances { AdvancesCell (reach pass.old.mark) p rank (done result.0) cell.old cell.new }
+        ensures little { AdvancesLittle pass.old.view (reach pass.old.mark) p rank (done result.0) cell.old cell.new steps.old steps.new }
+        ensures within { IsWithinView result.0 pass.new.view }
+        ensures reads_on { ReadsOn pass.old pass.new }
         ensures counted { steps.old ≤ steps.new }
     {
         let room = self.room(rt, gate);
         let mut stack = self.stack(&room, joins, p, pass);
         let advanced = stack.advance_to(cell, id, p, rank, self.most, gate, steps);
-        let (pass, used) = stack.into_parts();
+        let used = stack.take_used();
+        let _pass = stack.into_pass();
         let position = cell.position();
         match advanced {
-            Ok(()) => {
-                let turn = Turn::Brought { id, position };
-                (Turned { pass, turn }, used)
-            }
-            Err(KeepFault::TooWide(_many)) => {
-                let turn = Turn::TooWide { id };
-                (Turned { pass, turn }, used)
-            }
-            Err(KeepFault::OutOfMemory(memory)) => {
-                let turn = Turn::OutOfMemory(memory);
-                (Turned { pass, turn }, used)
-            }
+            Ok(()) => (Turn::Brought { id, position }, used),
+            Err(KeepFault::TooWide(_many)) => (Turn::TooWide { id }, used),
+            Err(KeepFault::OutOfMemory(memory)) => (Turn::OutOfMemory(memory), used),
         }
     }
 
@@ -130,21 +113,21 @@ impl<N: Naming> RangeCells<N> {
     fn advance_locked<W: Wait, G: Gate, L: Ledger>(
         &self,
         rt: &W,
-        pass: Pass,
+        pass: &mut Pass,
         joins: &JoinSet,
         p: u64,
         gate: &G,
         steps: &mut Steps<L>,
         id: u32,
         shared: &SharedCell<N>,
-    ) -> (Turned, Vec<Use>)
-        requires same_history { pass.history ≡ N.history }
-        requires recorded { IsRecorded pass.writers pass.view }
-        requires within { p ≤ length pass.view }
-        requires pinned { ReachesBack pass p }
-        requires joins { AreJoins (reach pass.mark) joins.now (take p pass.view) }
-        ensures within { IsWithinView result.0.turn result.0.pass.view }
-        ensures reads_on { ReadsOn pass result.0.pass }
+    ) -> (Turn, Vec<Use>)
+        requires same_history { pass.old.history ≡ N.history }
+        requires recorded { IsRecorded pass.old.writers pass.old.view }
+        requires within { p ≤ length pass.old.view }
+        requires pinned { ReachesBack pass.old p }
+        requires joins { AreJoins (reach pass.old.mark) joins.now (take p pass.old.view) }
+        ensures within { IsWithinView result.0 pass.new.view }
+        ensures reads_on { ReadsOn pass.old pass.new }
         ensures counted { steps.old ≤ steps.new }
     {
         let mut guard = shared.lock(rt);
@@ -155,8 +138,7 @@ impl<N: Naming> RangeCells<N> {
             }
             None => {
                 let position = None;
-                let turn = Turn::Brought { id, position };
-                (Turned { pass, turn }, Vec::new(self.alloc))
+                (Turn::Brought { id, position }, Vec::new(self.alloc))
             }
         }
     }
@@ -167,40 +149,36 @@ impl<N: Naming> RangeCells<N> {
     fn advance_marked<W: Wait, G: Gate, L: Ledger>(
         &self,
         rt: &W,
-        pass: Pass,
+        pass: &mut Pass,
         joins: &JoinSet,
         p: u64,
         gate: &G,
         steps: &mut Steps<L>,
         id: u32,
-    ) -> Turned
-        requires same_history { pass.history ≡ N.history }
-        requires recorded { IsRecorded pass.writers pass.view }
-        requires within { p ≤ length pass.view }
-        requires pinned { ReachesBack pass p }
-        requires joins { AreJoins (reach pass.mark) joins.now (take p pass.view) }
-        ensures within { IsWithinView result.turn result.pass.view }
-        ensures reads_on { ReadsOn pass result.pass }
+    ) -> Turn
+        requires same_history { pass.old.history ≡ N.history }
+        requires recorded { IsRecorded pass.old.writers pass.old.view }
+        requires within { p ≤ length pass.old.view }
+        requires pinned { ReachesBack pass.old p }
+        requires joins { AreJoins (reach pass.old.mark) joins.now (take p pass.old.view) }
+        ensures within { IsWithinView result pass.new.view }
+        ensures reads_on { ReadsOn pass.old pass.new }
         ensures counted { steps.old ≤ steps.new }
     {
         let found = match self.cells.find(rt, id) {
             Ok(found) => found,
-            Err(memory) => {
-                let turn = Turn::OutOfMemory(memory);
-                return Turned { pass, turn };
-            }
+            Err(memory) => return Turn::OutOfMemory(memory),
         };
         let Some(shared) = found else {
             let position = None;
-            let turn = Turn::Brought { id, position };
-            return Turned { pass, turn };
+            return Turn::Brought { id, position };
         };
-        let (turned, used) = self.advance_locked(rt, pass, joins, p, gate, steps, id, &shared);
+        let (turn, used) = self.advance_locked(rt, pass, joins, p, gate, steps, id, &shared);
         self.cells.settle(rt, &self.shards, used.as_slice());
-        if matches!(turned.turn, Turn::TooWide { .. }) {
+        if matches!(turn, Turn::TooWide { .. }) {
             self.cells.evict(rt, &self.shards, id);
         }
-        turned
+        turn
     }
 
     /// Brings a marked cell forward: each part of the base pairs is brought to the end of what the pass has seen, that is, to
@@ -220,33 +198,28 @@ impl<N: Naming> RangeCells<N> {
     pub fn turn<W: Wait, G: Gate, L: Ledger>(
         &self,
         rt: &W,
-        pass: Pass,
+        pass: &mut Pass,
         joins: &JoinSet,
         p: u64,
         gate: &G,
         steps: &mut Steps<L>,
-    ) -> Turned
-        requires same_history { pass.history ≡ N.history }
-        requires recorded { IsRecorded pass.writers pass.view }
-        requires whole { p ≡ length pass.view }
-        requires pinned { pass.mark ≡ Pinned p }
-        requires joins { AreJoins (reach pass.mark) joins.now (take p pass.view) }
-        ensures within { IsWithinView result.turn result.pass.view }
-        ensures reads_on { ReadsOn pass result.pass }
+    ) -> Turn
+        requires same_history { pass.old.history ≡ N.history }
+        requires recorded { IsRecorded pass.old.writers pass.old.view }
+        requires whole { p ≡ length pass.old.view }
+        requires pinned { pass.old.mark ≡ Pinned p }
+        requires joins { AreJoins (reach pass.old.mark) joins.now (take p pass.old.view) }
+        ensures within { IsWithinView result pass.new.view }
+        ensures reads_on { ReadsOn pass.old pass.new }
         ensures counted { steps.old ≤ steps.new }
     {
         self.cells.follow(rt, &self.shards, joins);
-        let mut pass = pass;
-        if let Err(memory) = self.advance_parts(rt, &mut pass, p) {
-            let turn = Turn::OutOfMemory(memory);
-            return Turned { pass, turn };
+        if let Err(memory) = self.advance_parts(rt, pass, p) {
+            return Turn::OutOfMemory(memory);
         }
         match self.shards.next_marked(rt) {
             Some(id) => self.advance_marked(rt, pass, joins, p, gate, steps, id),
-            None => Turned {
-                pass,
-                turn: Turn::Idle,
-            },
+            None => Turn::Idle,
         }
     }
 }

@@ -8,9 +8,11 @@ use Rattle.write_history.specs.Passes.{HistoryId, PassView}
 use Rattle.write_history.specs.declared.known.Mark.TheVariants.{Pinned}
 use Rattle.write_history.proofs.Marking.{before_is}
 use Rattle.base_shards.specs.Reading.{ReachesBack, ReadsOn}
-use Rattle.base_shards.proofs.ReadingLemmas.{reads_on-refl, reaches_still, sees_still}
+use Rattle.base_shards.proofs.ReadingLemmas.{reaches_still, sees_still}
 use Rattle.join_eval.specs.Moves.{Moves}
+use Rattle.shared_reader.specs.Lent.{LentPass, LentReadsOn}
 use Rattle.shared_reader.specs.Readable.{IsReadable}
+use Rattle.shared_reader.proofs.LentLemmas.{lent_reads_on-refl}
 
 -- after the first entries for which it was made they are the joins
 pub given_joins : (name history : HistoryId) (joins : Joins) (own p : ℕ) (pass now : PassView) → IsReadable name history joins own pass → pass ≡ now → p ≡ own → AreJoins (reach now.mark) joins (take p now.view)
@@ -29,14 +31,17 @@ still_readable name history joins p old new readable on = record {
   pinned = reaches_still old new p on readable.pinned;
 }
 
--- a pass that reads on, where the one that it was may have seen what it had
-pub reads_moves : (old now new : PassView) → IsRecorded old.writers old.view → old ≡ now → ReadsOn old new → Moves (λ (v : PassView). v.view) (λ v. reach v.mark) ReadsOn now new
-reads_moves old now new recorded same on =
-    subst (λ (v : PassView). Moves (λ (v : PassView). v.view) (λ v. reach v.mark) ReadsOn v new) same (record { kept = on.begins; entered = λ e. (on.recorded recorded).entered; same_floor = ap reach on.same_mark; on = on })
+-- a lent pass that reads on, where the one that it was may have seen what it had
+pub reads_moves : (old now new : LentPass) → IsRecorded old.pass.writers old.pass.view → old ≡ now → LentReadsOn old new →
+    Moves (λ (v : LentPass). v.pass.view) (λ v. reach v.pass.mark) LentReadsOn now new
+reads_moves old now new recorded same reads =
+    subst (λ (v : LentPass). Moves (λ (v : LentPass). v.pass.view) (λ v. reach v.pass.mark) LentReadsOn v new) same
+    (record { kept = reads.on.begins; entered = λ e. (reads.on.recorded recorded).entered; same_floor = ap reach reads.on.same_mark; on = reads })
 
 -- so does one that has stayed as it was
-pub stays_moves : (old now new : PassView) → IsRecorded old.writers old.view → old ≡ now → new ≡ old → Moves (λ (v : PassView). v.view) (λ v. reach v.mark) ReadsOn now new
-stays_moves old now new recorded same stays = reads_moves old now new recorded same (subst (ReadsOn old) (sym stays) (reads_on-refl old))
+pub stays_moves : (old now new : LentPass) → IsRecorded old.pass.writers old.pass.view → old ≡ now → new ≡ old →
+    Moves (λ (v : LentPass). v.pass.view) (λ v. reach v.pass.mark) LentReadsOn now new
+stays_moves old now new recorded same stays = reads_moves old now new recorded same (subst (LentReadsOn old) (sym stays) (lent_reads_on-refl old))
 
 -- a position that is not below where a pinned pass reaches to is one that it reaches back to
 pub reaches_back : (old now : PassView) (pin p : ℕ) → old.mark ≡ Pinned pin → old ≡ now → reach now.mark ≤ p → ReachesBack old p

@@ -1,3 +1,4 @@
+pub mod LentLemmas
 pub mod GivenLemmas
 pub mod FollowedLemmas
 pub mod KnownLemmas

@@ -3,3 +3,4 @@ pub mod Keeping
 pub mod Following
 pub mod Noting
 pub mod Known
+pub mod Lent

@@ -1,12 +1,12 @@
 // The lowest reader of a history that threads share.
 ghost use Rattle.std.specs.Prelude.{◌≡◌, ◌+◌, ◌≤◌, true, IfOk, Some, length};
-ghost use Rattle.std.proofs.Common.{rules};
+ghost use Rattle.std.proofs.Common.{rules, refl, ◌∙◌};
 ghost use Rattle.semantics.specs.Joins.{Join as PlainJoin, push};
 ghost use Rattle.base_versions.specs.Valued.{base_changes};
 ghost use Rattle.write_history.specs.Marks.{reach};
 ghost use Rattle.base_reader.specs.Reaching.{IsJoinIn};
-ghost use Rattle.base_shards.specs.Reading.{ReadsOn};
 ghost use Rattle.base_shards.proofs.ReadingLemmas.{reads_on-refl, reads_on-trans};
+ghost use Rattle.shared_reader.specs.Lent.{LentReadsOn};
 ghost use Rattle.shared_reader.specs.Readable.{IsReadable};
 
 use crate::followed::Followed;
@@ -26,6 +26,7 @@ use key_space::Range;
 use out_of_memory::OutOfMemory;
 use std::alloc::Global;
 use std::marker::Model;
+use std::mem::replace;
 use std::sync::Wait;
 use std::sync::ledger::Ledger;
 use steps::Steps;
@@ -77,7 +78,7 @@ pub struct SharedReader<'a, N: Naming, W> {
     shards: &'a BaseShards<N>,
     joins: &'a JoinSet,
     p: u64,
-    pass: Pass,
+    pass: &'a mut Pass,
     floor: u64,
     used: Vec<Use>,
     noted: Noted,
@@ -88,15 +89,15 @@ pub struct SharedReader<'a, N: Naming, W> {
 impl<'a, N: Naming, W> Model for SharedReader<'a, N, W> {
     ghost use Rattle.std.specs.Prelude.{◌≡◌};
     ghost use Rattle.write_history.specs.Marks.{reach};
-    ghost use Rattle.write_history.specs.Passes.{PassView};
+    ghost use Rattle.shared_reader.specs.Lent.{LentPass};
     ghost use Rattle.shared_reader.specs.Readable.{IsReadable};
     ghost use Rattle.shared_reader.specs.Known.{AreKnownIn};
 
-    ghost Value = { PassView };
+    ghost Value = { LentPass };
 
-    ghost view = { λ r. r.pass };
+    ghost view = { λ r. record { pass = r.pass.now; lent = r.pass.ghost_name } };
 
-    ghost invariant = { λ r. IsReadable N.history r.history.now r.joins.now r.p r.pass × (r.floor ≡ reach r.pass.mark) × AreKnownIn r.known r.pass.view };
+    ghost invariant = { λ r. IsReadable N.history r.history.now r.joins.now r.p r.pass.now × (r.floor ≡ reach r.pass.now.mark) × AreKnownIn r.known r.pass.now.view };
 }
 
 impl<'a, N: Naming, W> SharedReader<'a, N, W> {
@@ -109,13 +110,13 @@ impl<'a, N: Naming, W> SharedReader<'a, N, W> {
         shards: &'a BaseShards<N>,
         joins: &'a JoinSet,
         p: u64,
-        pass: Pass,
+        pass: &'a mut Pass,
     ) -> SharedReader<'a, N, W>
-        requires { IsReadable N.history history.now joins.now p pass }
-        ensures { result ≡ pass }
+        requires { IsReadable N.history history.now joins.now p pass.old }
+        ensures lent { result.lent ≡ pass.entry.ghost_name }
+        ensures pass { result.pass ≡ pass.old }
     {
-        let mut pass = pass;
-        let floor = history.reach(&mut pass);
+        let floor = history.reach(pass);
         SharedReader {
             alloc,
             rt,
@@ -132,11 +133,19 @@ impl<'a, N: Naming, W> SharedReader<'a, N, W> {
         }
     }
 
-    /// The pass, and which cells were used, in order.
-    pub fn into_parts(self) -> (Pass, Vec<Use>)
-        ensures { result.0 ≡ self.entry }
+    /// Takes out which cells were used, in order.
+    pub fn take_used(&mut self) -> Vec<Use>
+        ensures { self.new ≡ self.old }
     {
-        (self.pass, self.used)
+        replace(&mut self.used, Vec::new(self.alloc))
+    }
+
+    /// Gives the pass back that it was lent, so that its lender knows what it has seen.
+    pub fn into_pass(self) -> &'a mut Pass
+        ensures lent { result.ghost_name ≡ self.entry.lent }
+        ensures pass { result.now ≡ self.entry.pass }
+    {
+        self.pass
     }
 }
 
@@ -154,8 +163,7 @@ impl<'a, N: Naming, W: Wait> SharedReader<'a, N, W> {
     {
         self.known = None;
         let fresh = followed.take_in(self.alloc, self.noted.since(since))?;
-        self.shards
-            .follow(self.rt, &mut self.pass, id, fresh.as_slice())
+        self.shards.follow(self.rt, self.pass, id, fresh.as_slice())
     }
 
     /// The keys of the range that are put or removed after the first q entries, up to the p-th, with what stands there then, from
@@ -168,29 +176,28 @@ impl<'a, N: Naming, W: Wait> SharedReader<'a, N, W> {
         steps: &mut Steps<L>,
     ) -> Result<Vec<Change>, OutOfMemory>
         requires order { q ≤ p }
-        requires within { p ≤ length self.old.view }
-        requires above { reach self.old.mark ≤ q }
-        ensures reads_on { ReadsOn self.old self.new }
-        ensures exact { IfOk result (λ found. found.items ≡ base_changes q p range.now self.old.view) }
+        requires within { p ≤ length self.old.pass.view }
+        requires above { reach self.old.pass.mark ≤ q }
+        ensures reads_on { LentReadsOn self.old self.new }
+        ensures exact { IfOk result (λ found. found.items ≡ base_changes q p range.now self.old.pass.view) }
         ensures counted { steps.old ≤ steps.new }
         ensures cost { IfOk result (λ found. steps.new ≡ steps.old + 1 + length found.items) }
     {
         self.known = None;
-        self.shards
-            .changes(self.rt, &mut self.pass, q, p, range, steps)
+        self.shards.changes(self.rt, self.pass, q, p, range, steps)
     }
 
     /// Looks at the changes of a table, and knows them from then on where they are no more than so many. What was known is let go.
     fn look_at_table(&mut self, q: u64, p: u64, table: Range, most: usize)
         requires order { q ≤ p }
-        requires within { p ≤ length self.old.view }
-        requires above { reach self.old.mark ≤ q }
-        ensures { ReadsOn self.old self.new }
+        requires within { p ≤ length self.old.pass.view }
+        requires above { reach self.old.pass.mark ≤ q }
+        ensures { LentReadsOn self.old self.new }
     {
         self.known = None;
         let found = self
             .shards
-            .few_changes(self.rt, &mut self.pass, q, p, &table, most);
+            .few_changes(self.rt, self.pass, q, p, &table, most);
         self.known = known_of(q, p, table, found);
     }
 
@@ -198,9 +205,9 @@ impl<'a, N: Naming, W: Wait> SharedReader<'a, N, W> {
     /// changes of the range's whole table.
     fn look_further(&mut self, q: u64, p: u64, range: &Range)
         requires order { q ≤ p }
-        requires within { p ≤ length self.old.view }
-        requires above { reach self.old.mark ≤ q }
-        ensures { ReadsOn self.old self.new }
+        requires within { p ≤ length self.old.pass.view }
+        requires above { reach self.old.pass.mark ≤ q }
+        ensures { LentReadsOn self.old self.new }
     {
         self.questions = self.questions.saturating_add(1);
         let most = most_known(self.questions);
@@ -211,15 +218,15 @@ impl<'a, N: Naming, W: Wait> SharedReader<'a, N, W> {
 }
 
 impl<'a, N: Naming, W: Wait> BaseSource for SharedReader<'a, N, W> {
-    ghost list = { λ r. r.view };
+    ghost list = { λ r. r.pass.view };
 
-    ghost floor = { λ r. reach r.mark };
+    ghost floor = { λ r. reach r.pass.mark };
 
-    ghost went = { λ a b. ReadsOn a b };
+    ghost went = { λ a b. LentReadsOn a b };
 
-    ghost went_trans = { λ a b c first next. reads_on-trans a b c first next };
+    ghost went_trans = { λ a b c first next. record { same = next.same ∙ first.same; on = reads_on-trans a.pass b.pass c.pass first.on next.on } };
 
-    ghost went_refl = { λ a. reads_on-refl a };
+    ghost went_refl = { λ a. record { same = refl; on = reads_on-refl a.pass } };
 
     fn alloc(&self) -> Global {
         self.alloc
@@ -233,8 +240,7 @@ impl<'a, N: Naming, W: Wait> BaseSource for SharedReader<'a, N, W> {
     ) -> Result<Vec<Pair>, OutOfMemory> {
         self.noted.note(range);
         self.known = None;
-        self.shards
-            .pairs_at(self.rt, &mut self.pass, p, range, steps)
+        self.shards.pairs_at(self.rt, self.pass, p, range, steps)
     }
 
     fn base_changes<L: Ledger>(
@@ -264,26 +270,26 @@ impl<'a, N: Naming, W: Wait> BaseSource for SharedReader<'a, N, W> {
 
     fn make_joins(&mut self, p: u64) -> Result<JoinSet, OutOfMemory> {
         self.known = None;
-        self.history.joins_at(self.rt, &mut self.pass, p)
+        self.history.joins_at(self.rt, self.pass, p)
     }
 }
 
 impl<'a, N: Naming, W: Wait> Reader for SharedReader<'a, N, W> {
-    ghost list = { λ r. r.view };
+    ghost list = { λ r. r.pass.view };
 
     ghost top = { 0 };
 
-    ghost floor = { λ r. reach r.mark };
+    ghost floor = { λ r. reach r.pass.mark };
 
-    ghost went = { λ a b. ReadsOn a b };
+    ghost went = { λ a b. LentReadsOn a b };
 
     ghost spends = { λ _ _ _ _ _ _. Unit {0} };
 
     ghost top_small = { Prim.search rules };
 
-    ghost went_refl = { λ a. reads_on-refl a };
+    ghost went_refl = { λ a. record { same = refl; on = reads_on-refl a.pass } };
 
-    ghost went_trans = { λ a b c first next. reads_on-trans a b c first next };
+    ghost went_trans = { λ a b c first next. record { same = next.same ∙ first.same; on = reads_on-trans a.pass b.pass c.pass first.on next.on } };
 
     fn top_rank(&self) -> u8 {
         0
@@ -329,7 +335,7 @@ impl<'a, N: Naming, W: Wait> Stacked<N> for SharedReader<'a, N, W> {
 
     fn meet(&mut self, pass: &mut Pass) {
         self.known = None;
-        self.history.meet(self.rt, pass, &mut self.pass);
+        self.history.meet(self.rt, pass, self.pass);
     }
 
     fn reached(&mut self, p: u64, range: &Range, rank: u8) -> Result<Vec<u64>, OutOfMemory> {
@@ -345,7 +351,7 @@ impl<'a, N: Naming, W: Wait> Stacked<N> for SharedReader<'a, N, W> {
             return copy_of(self.alloc, self.joins, at);
         }
         self.known = None;
-        let joins = self.history.joins_at(self.rt, &mut self.pass, p)?;
+        let joins = self.history.joins_at(self.rt, self.pass, p)?;
         copy_of(self.alloc, &joins, at)
     }
 

@@ -6,6 +6,6 @@ use Rattle.range_cells.proofs.asked.read_asked.Goals as goal
 
 pub returns-in-Keys-clause-exact : goal.returns-in-Keys-clause-exact
 returns-in-Keys-clause-exact g c =
-    let table = state (take c.args.p c.args.stack.now.view) in
+    let table = state (take c.args.p c.args.stack.now.pass.view) in
     IfOk-weaker c.read_keys.result _ _ (λ pairs is. is ∙ ap (λ ks. pairs_at ks table) c.as_slice.ensures.value ∙ ap (λ touched. pairs_asked touched c.args.range.now table) (sym c.in-Keys.is))
     c.read_keys.ensures.exact

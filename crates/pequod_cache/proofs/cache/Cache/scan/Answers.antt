@@ -8,24 +8,24 @@ use Rattle.pequod_cache.proofs.EarlierLemmas.{joins_now}
 use Rattle.pequod_cache.proofs.ScanningLemmas.{has_found}
 use Rattle.pequod_cache.proofs.cache.Cache.scan.Goals as goal
 
-pub returns-in-Err-clause-reads_on : goal.returns-in-Err-clause-reads_on
-returns-in-Err-clause-reads_on g c = reads_on-refl c.args.pass
+pub returns-in_err-line-clause-reads_on : goal.returns-in_err-line-clause-reads_on
+returns-in_err-line-clause-reads_on g c = reads_on-refl c.args.pass.now
 
-pub scan-scanned-requires-clause-pinned : goal.scan-scanned-requires-clause-pinned
-scan-scanned-requires-clause-pinned g c = record { pin = c.args.position; pinned = c.requires.pinned; near = omega arith }
+pub scan-found-requires-clause-pinned : goal.scan-found-requires-clause-pinned
+scan-found-requires-clause-pinned g c = record { pin = c.args.position; pinned = c.requires.pinned; near = omega arith }
 
-pub scan-scanned-requires-clause-joins : goal.scan-scanned-requires-clause-joins
-scan-scanned-requires-clause-joins g c = joins_now c.args.pass c.args.position c.args.joins.now c.requires.whole c.requires.joins
+pub scan-found-requires-clause-joins : goal.scan-found-requires-clause-joins
+scan-found-requires-clause-joins g c = joins_now c.args.pass.now c.args.position c.args.joins.now c.requires.whole c.requires.joins
 
-pub scan_reply-reply-requires : goal.scan_reply-reply-requires
-scan_reply-reply-requires g c =
-    let rows : Table = pairs_within c.args.range.now (state (take c.args.position c.args.pass.view)) in
-    (rows, has_found c.args.position rows c.in-Ok.line c.scan-scanned.new.sink c.scan-scanned.result.found c.in-Ok.ensures c.scan-scanned.ensures.exact)
+pub scan_reply-requires : goal.scan_reply-requires
+scan_reply-requires g c =
+    let rows : Table = pairs_within c.args.range.now (state (take c.args.position c.args.pass.now.view)) in
+    (rows, has_found c.args.position rows c.in_ok-line.line c.scan-found.new.sink c.scan-found.result c.in_ok-line.ensures c.scan-found.ensures.exact)
 
 pub returns-clause-replied : goal.returns-clause-replied
 returns-clause-replied g c =
-    let seen = c.args.pass.view in
+    let seen = c.args.pass.now.view in
     let all : take c.args.position seen ≡ seen = take_all c.args.position seen (omega (arith, c.requires.whole)) in
-    c.scan_reply-reply.ensures (pairs_within c.args.range.now (state seen))
-    (subst (λ h. IfOk c.scan-scanned.result.found (λ given. HasFound c.args.position c.scan-scanned.new.sink given (pairs_within c.args.range.now (state h)))) all
-    (has_found c.args.position (pairs_within c.args.range.now (state (take c.args.position seen))) c.in-Ok.line c.scan-scanned.new.sink c.scan-scanned.result.found c.in-Ok.ensures c.scan-scanned.ensures.exact))
+    c.scan_reply.ensures (pairs_within c.args.range.now (state seen))
+    (subst (λ h. IfOk c.scan-found.result (λ given. HasFound c.args.position c.scan-found.new.sink given (pairs_within c.args.range.now (state h)))) all
+    (has_found c.args.position (pairs_within c.args.range.now (state (take c.args.position seen))) c.in_ok-line.line c.scan-found.new.sink c.scan-found.result c.in_ok-line.ensures c.scan-found.ensures.exact))

@@ -1,4 +1,4 @@
-use Rattle.std.proofs.Common.{◌≡◌, ◌∷◌, [], Some, sym, subst}
+use Rattle.std.proofs.Common.{◌∷◌, [], sym, subst}
 use Rattle.protocol.specs.Requests.{write}
 use Rattle.protocol.specs.Told.{Told}
 use Rattle.join_types.specs.Writes.{plain_write}
@@ -14,16 +14,14 @@ use Rattle.pequod_cache.proofs.client.Client.enter.Goals.{in-Ok, in-Err-Refused,
 
 pub invariant_of-self : goal.invariant_of-self
 invariant_of-self g c =
-    let is : c.self.inside.pass ≡ Some c.in-Some.pass = cc in
-    client_goes_on g.N.Naming.history c.self.inside.pass c.in-Some.pass c.append.new.pass c.self.inside.joins c.self.invariant is c.append.ensures.goes_on
+    client_goes_on g.N.Naming.history c.self.inside.pass c.append.new.pass c.self.inside.joins c.self.invariant c.append.ensures.goes_on
 
 pub returns-clause-told : goal.returns-clause-told
 returns-clause-told g c =
-    let old : PassView = c.in-Some.pass in
+    let old : PassView = c.self.inside.pass in
     let new : PassView = c.append.new.pass in
-    let same : old ≡ c.args.self.now = cc in
     let ToldAs : Reply → Type 0 = λ reply. Told old.view new.view old.number (write (plain_write c.args.change) ∷ []) (plain_reply reply ∷ []) in
-    subst (λ (p : PassView). Told p.view new.view p.number (write (plain_write c.args.change) ∷ []) (plain_reply c.match-append.result ∷ [])) same
+    subst (λ (p : PassView). Told p.view new.view p.number (write (plain_write c.args.change) ∷ []) (plain_reply c.match-append.result ∷ [])) c.self.view_is
     (elim c.match-append.branch [
       | in-Ok w ↦ subst ToldAs (sym w.result-is) (told_appended old new (plain_write c.args.change) w.in-Ok.position c.append.ensures.goes_on w.in-Ok.ensures.position w.in-Ok.ensures.entry w.in-Ok.ensures.once)
       | in-Err-Refused w ↦

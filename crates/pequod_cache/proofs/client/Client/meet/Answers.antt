@@ -2,7 +2,7 @@ use Rattle.pequod_cache.proofs.ClientLemmas.{client_goes_on}
 use Rattle.pequod_cache.proofs.client.Client.meet.Goals as goal
 
 pub invariant_of-self : goal.invariant_of-self
-invariant_of-self g c = client_goes_on g.N.Naming.history c.self.inside.pass c.in-Some.one c.meet.new.a c.self.inside.joins c.self.invariant c.in-Some.is c.meet.ensures.first
+invariant_of-self g c = client_goes_on g.N.Naming.history c.self.inside.pass c.meet.new.a c.self.inside.joins c.self.invariant c.meet.ensures.first
 
 pub invariant_of-other : goal.invariant_of-other
-invariant_of-other g c = client_goes_on g.N.Naming.history c.other.inside.pass c.in-Some-pass.two c.meet.new.b c.other.inside.joins c.other.invariant c.in-Some-pass.is c.meet.ensures.second
+invariant_of-other g c = client_goes_on g.N.Naming.history c.other.inside.pass c.meet.new.b c.other.inside.joins c.other.invariant c.meet.ensures.second

@@ -1,4 +1,4 @@
-use Rattle.std.proofs.Common.{refl, sym, subst}
+use Rattle.std.proofs.Common.{sym, subst}
 use Rattle.join_set.specs.Sets.{Joins}
 use Rattle.pequod_cache.specs.Clients.{KeepsJoins}
 use Rattle.pequod_cache.proofs.JoinsLemmas.{keeps_none}
@@ -7,8 +7,6 @@ use Rattle.pequod_cache.proofs.client.Client.new.Goals as goal
 pub invariant_of-result : goal.invariant_of-result
 invariant_of-result g c = record {
   seated = record {
-    has = c.args.pass;
-    is = refl;
     same_history = c.requires.same_history;
     free = c.requires.free;
     recorded = c.requires.recorded;

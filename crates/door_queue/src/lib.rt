@@ -2,12 +2,14 @@
 //
 // The layers above may use `TalliedQueue`, `DoorQueue` and `Bell`, whose calls may wait. Of what a `TalliedQueue` keeps behind its
 // lock the tallies of its callers tell: when they are joined, each item that was put was taken once or is left. `take` alone makes
-// a `Drained`, where it finds the queue closed and empty; no clause says where it does. Of the other two contracts say what each
-// call makes of `DoorState` and `BellState`, which they keep behind a lock. No contract can say when a call that waits returns.
+// a `Drained`, and only where it has seen that the queue is closed; that it was empty then no clause says. Of the other two
+// contracts say what each call makes of `DoorState` and `BellState`, which they keep behind a lock. No contract can say when a call
+// that waits returns.
 #![tactic(auto)]
 
 pub mod bell;
 pub mod bell_state;
+mod closing;
 pub mod door_queue;
 pub mod door_state;
 pub mod laws;

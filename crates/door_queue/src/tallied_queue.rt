@@ -2,20 +2,28 @@
 ghost use Rattle.std.specs.Prelude.{◌≡◌, ◌<◌, ◌≤◌, true, IfOk, MatchOption, MatchResult};
 ghost use Rattle.door_queue.specs.Tallies.{EachOnce, all_parts, joined, parted, put_in, taken_out, tally_of};
 
+use crate::closing::Closing;
 use crate::tally::{Both, Fair, Hand, Part, Puts, Takes, Tally};
 use crossbeam_queue::RuledArrayQueue;
 use out_of_memory::OutOfMemory;
 use std::alloc::Global;
 use std::marker::Model;
 use std::snapshot::Snapshot;
-use std::sync::{Condvar, Mutex, Wait};
+use std::sync::{Condvar, Mutex, OnceToken, Wait};
+
+/// The items of a queue, and whether all are put.
+#[derive(Drop)]
+struct Kept<T> {
+    items: RuledArrayQueue<T, Hand<T>, Fair>,
+    closing: Closing,
+}
 
 /// A queue as `DoorQueue`, whose callers each have a tally of what they put and took. Contracts see which queue it is.
 #[derive(Drop)]
 pub struct TalliedQueue<T> {
-    items: RuledArrayQueue<T, Hand<T>, Fair>,
-    /// Whether all items are put.
-    closed: Mutex<bool>,
+    kept: Kept<T>,
+    /// Who puts an item, takes one or closes the queue has this lock.
+    turn: Mutex<()>,
     /// An item was taken: there is room for one.
     has_room: Condvar,
     /// An item was kept.
@@ -27,15 +35,15 @@ impl<T> Model for TalliedQueue<T> {
 
     ghost Value = { TableId };
 
-    ghost view = { λ q. q.items.table.shared.table_id };
+    ghost view = { λ q. q.kept.items.table.shared.table_id };
 }
 
 /// A token of a queue that `take` found closed and empty. `take` alone makes it, so that whoever has to hand one over takes until
-/// then; no clause says when `take` makes it. Whoever closes a queue says that all items are put; `put` does not look at it. It has
-/// no bytes. Contracts see which queue it is of.
+/// then. It is made only of a queue that was closed; that none was left then no clause says. Whoever closes a queue says that all
+/// items are put; `put` does not look at it. It has no bytes. Contracts see which queue it is of.
 #[derive(Drop)]
 pub struct Drained<T> {
-    queue: Snapshot<TalliedQueue<T>>,
+    queue: Snapshot<Kept<T>>,
 }
 
 impl<T> Model for Drained<T> {
@@ -43,7 +51,20 @@ impl<T> Model for Drained<T> {
 
     ghost Value = { TableId };
 
-    ghost view = { λ d. d.queue.value };
+    ghost view = { λ d. d.queue.value.items.table.shared.table_id };
+}
+
+impl<T> Kept<T> {
+    /// Makes the token of the queue. Who asks for it has seen that the queue is closed, and says that no item was found.
+    fn token(&self, _seen: &OnceToken<'_, ()>, _is_empty: bool) -> Drained<T>
+        requires shut { _seen.now.of ≡ self.now.closing }
+        requires empty { _is_empty ≡ true }
+        ensures { result ≡ self.now.items.table.shared.table_id }
+    {
+        Drained {
+            queue: Snapshot::of(self),
+        }
+    }
 }
 
 impl<T> TalliedQueue<T> {
@@ -55,9 +76,10 @@ impl<T> TalliedQueue<T> {
         ensures { IfOk result (λ made. made.1 ≡ tally_of made.0 all_parts) }
     {
         let (items, pass) = RuledArrayQueue::ruled(alloc, most)?;
+        let closing = Closing::new();
         let queue = TalliedQueue {
-            items,
-            closed: Mutex::new(false),
+            kept: Kept { items, closing },
+            turn: Mutex::new(()),
             has_room: Condvar::new(),
             has_item: Condvar::new(),
         };
@@ -71,7 +93,7 @@ impl<T> TalliedQueue<T> {
         ensures left { tally.new ≡ parted tally.old }
         ensures right { result ≡ tally_of self.now 1 }
     {
-        let pass = self.items.another::<Part>(&mut tally.pass);
+        let pass = self.kept.items.another::<Part>(&mut tally.pass);
         Tally { pass }
     }
 
@@ -82,7 +104,7 @@ impl<T> TalliedQueue<T> {
         requires parts { 0 < tally.old.parts }
         ensures { tally.new ≡ joined tally.old other }
     {
-        self.items.absorb::<Both>(&mut tally.pass, other.pass)
+        self.kept.items.absorb::<Both>(&mut tally.pass, other.pass)
     }
 
     /// Puts an item in, and waits while there is no room, also where the queue is closed: who puts items closes it when all are
@@ -92,54 +114,41 @@ impl<T> TalliedQueue<T> {
         requires parts { 0 < tally.old.parts }
         ensures { tally.new ≡ put_in tally.old item }
     {
-        let mut closed = self.closed.lock(rt);
+        let mut turn = self.turn.lock(rt);
         let mut item = item;
         for _ in rt.forever() {
-            match self.items.try_push_as::<Puts>(&mut tally.pass, item) {
+            match self.kept.items.try_push_as::<Puts>(&mut tally.pass, item) {
                 Ok(()) => {
                     self.has_item.notify_one();
                     return;
                 }
                 Err(back) => item = back,
             }
-            closed = self.has_room.wait(rt, closed);
+            turn = self.has_room.wait(rt, turn);
         }
         unreachable!()
     }
 
-    /// Makes the token of the queue. Who asks for it says what was found: that the queue is closed, and that no item is kept. That
-    /// it was found so no clause says.
-    fn token(&self, _is_closed: bool, _is_empty: bool) -> Drained<T>
-        requires shut { _is_closed ≡ true }
-        requires empty { _is_empty ≡ true }
-        ensures { result ≡ self.now }
-    {
-        Drained {
-            queue: Snapshot::of(self),
-        }
-    }
-
-    /// Takes out the item that was kept first, and waits while there is none. `Drained`: the queue is closed, and empty then, which
-    /// no clause says.
+    /// Takes out the item that was kept first, and waits while there is none. `Drained`: the queue was closed, and was empty then,
+    /// which no clause says.
     pub fn take<R: Wait>(&self, rt: &R, tally: &mut Tally<T>) -> Result<T, Drained<T>>
         requires queue { tally.old.queue ≡ self.now }
         requires parts { 0 < tally.old.parts }
         ensures { MatchResult result (λ item. tally.new ≡ taken_out tally.old item) (λ drained. (tally.new ≡ tally.old) × (drained ≡ self.now)) }
     {
-        let mut closed = self.closed.lock(rt);
+        let mut turn = self.turn.lock(rt);
         for _ in rt.forever() {
-            let is_empty = match self.items.try_pop_as::<Takes>(&mut tally.pass) {
+            let is_empty = match self.kept.items.try_pop_as::<Takes>(&mut tally.pass) {
                 Some(item) => {
                     self.has_room.notify_one();
                     return Ok(item);
                 }
                 None => true,
             };
-            let is_closed = *closed;
-            if is_closed {
-                return Err(self.token(is_closed, is_empty));
+            if let Some(seen) = self.kept.closing.seen() {
+                return Err(self.kept.token(&seen, is_empty));
             }
-            closed = self.has_item.wait(rt, closed);
+            turn = self.has_item.wait(rt, turn);
         }
         unreachable!()
     }
@@ -151,12 +160,13 @@ impl<T> TalliedQueue<T> {
         requires whole { tally.old.parts ≡ all_parts }
         ensures { MatchOption result ((tally.new ≡ tally.old) × EachOnce tally.old.put tally.old.taken) (λ item. tally.new ≡ taken_out tally.old item) }
     {
-        self.items.pop_as::<Takes, R>(rt, &mut tally.pass)
+        self.kept.items.pop_as::<Takes, R>(rt, &mut tally.pass)
     }
 
     /// Tells that all items are put. All who wait to take one go on, and find what is left.
     pub fn close<R: Wait>(&self, rt: &R) {
-        *self.closed.lock(rt) = true;
+        let _turn = self.turn.lock(rt);
+        self.kept.closing.close();
         self.has_item.notify_all();
     }
 }

@@ -97,6 +97,14 @@ echo '["value",1000000,"999001"]' > "$folder/wanted"
 (ulimit -v 60000; "$program" run < "$folder/puts") 2> "$folder/message" | tail -n 1 > "$folder/written"
 judge "a million puts in 60 MB" 0 "${PIPESTATUS[0]}" "$folder/wanted"
 
+# A million keys that are put and removed, each of them once, in less room than a third of them would take: those of one table, those
+# with a group of their own, and those with a table of their own.
+seq 1000000 | awk '{ key = $1 % 3 == 0 ? "k|" $1 : $1 % 3 == 1 ? "g|" $1 "|a" : "t" $1 "|a"
+  printf "[\"put\",\"%s\",\"%d\"]\n[\"remove\",\"%s\"]\n", key, $1, key } END { print "[\"scan\",\"k|\",\"k}\"]" }' > "$folder/puts"
+echo '["pairs",2000000,[]]' > "$folder/wanted"
+(ulimit -v 85000; "$program" run < "$folder/puts") 2> "$folder/message" | tail -n 1 > "$folder/written"
+judge "a million keys put and removed in 85 MB" 0 "${PIPESTATUS[0]}" "$folder/wanted"
+
 attempt "a script that is not there" 9 /dev/null replay none
 attempt "a file that is not there" 9 /dev/null check none
 attempt "a server's joins file that is refused" 7 clash.written serve 127.0.0.1:0 --joins clash.joins

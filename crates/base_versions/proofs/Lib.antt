@@ -5,6 +5,7 @@ pub mod ChangeLemmas
 pub mod OrderLemmas
 pub mod MapLemmas
 pub mod NamedLemmas
+pub mod EachLemmas
 pub mod StandsLemmas
 pub mod EnterLemmas
 pub mod TableTrims

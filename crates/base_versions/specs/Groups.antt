@@ -1,10 +1,10 @@
 -- Groups of keys, and the changes of one table by groups.
-use Rattle.std.specs.Prelude.{◌≡◌, ℕ, ◌==◌, List, [], ◌∷◌, ◌++◌, filter, drop, Bool, true, if◌then◌else◌}
+use Rattle.std.specs.Prelude.{◌≡◌, ℕ, ◌<◌, ◌==◌, List, [], ◌∷◌, ◌++◌, filter, drop, length, Bool, true, if◌then◌else◌}
 use Rattle.std.specs.List.{after_first}
 use Rattle.semantics.specs.Texts.{Text, bar, has_bar, same, table_of, Range}
 use Rattle.base_versions.specs.declared.changes.Change.{Change}
 use Rattle.base_versions.specs.Changes.{Ascend, changed_in}
-use Rattle.base_versions.specs.Named.{among}
+use Rattle.base_versions.specs.Named.{EachHas, OthersHave, among}
 
 -- what stands behind the first `|` of a text
 abbrev pub behind_bar : Text → Text
@@ -25,6 +25,14 @@ Groups = List (Text × List Change)
 -- the changes of a group among those of several
 abbrev pub changes_among : Text → Groups → List Change
 changes_among group groups = among [] group groups
+
+-- each group has a change: one without any takes no place
+abbrev pub EachHasChange : Groups → Type 0
+EachHasChange groups = EachHas (λ changes. 0 < length changes) groups
+
+-- each group but one has a change
+abbrev pub OthersHaveChanges : Text → Groups → Type 0
+OthersHaveChanges group groups = OthersHave (λ changes. 0 < length changes) group groups
 
 -- whether the groups are kept, and their changes
 pub record ByGroup : Type 0 where

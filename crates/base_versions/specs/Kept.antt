@@ -6,7 +6,7 @@ use Rattle.std.specs.Map.{keys_of}
 use Rattle.semantics.specs.Texts.{Text, same, table_of, text_cmp, Range, within}
 use Rattle.semantics.specs.Histories.{History}
 use Rattle.base_versions.specs.declared.changes.Change.{Change}
-use Rattle.base_versions.specs.Named.{among}
+use Rattle.base_versions.specs.Named.{EachHas, OthersHave, among}
 use Rattle.base_versions.specs.Versions.{Tracks, AllAscend, SayFrom, keys_changed, versions_at, versions_of, AddsVersion, KeepsVersions, TrimsTracks}
 use Rattle.base_versions.specs.Changes.{changes_of, changed_in}
 use Rattle.base_versions.specs.Positions.{IsKeptSince, KeepsTo}
@@ -28,6 +28,18 @@ FindsChanged q p range table keys = (keys ≡ changed_in q p range table.changes
 -- of several tables, in the order of their names
 abbrev pub Tables : Type 0
 Tables = List (Text × TableKept)
+
+-- a table has a key or a change
+abbrev pub HasKeyOrChange : TableKept → Type 0
+HasKeyOrChange table = 0 < length table.tracks + length table.changes
+
+-- each table has a key or a change: one without any takes no place
+abbrev pub EachHasKeyOrChange : Tables → Type 0
+EachHasKeyOrChange tables = EachHas HasKeyOrChange tables
+
+-- each table but one has a key or a change
+abbrev pub OthersHaveKeyOrChange : Text → Tables → Type 0
+OthersHaveKeyOrChange table tables = OthersHave HasKeyOrChange table tables
 
 -- of the tables of one shard: which shard, of how many, from which position on, the number of entries, and what is kept of each table
 pub record Kept : Type 0 where

@@ -6,6 +6,7 @@ use Rattle.std.specs.Map.{lookup}
 use Rattle.std.specs.Option.{unwrap_or}
 use Rattle.semantics.specs.Texts.{Text, same, text_cmp, Table}
 use Rattle.semantics.specs.Histories.{Write, put, remove, declare, drop_join, History}
+use Rattle.base_versions.specs.Named.{EachHas, OthersHave}
 use Rattle.base_versions.specs.Positions.{AscendBy, IsKeptSince, lies_between, made_from}
 use Rattle.base_versions.specs.declared.versions.Version.{Version}
 
@@ -59,6 +60,14 @@ versions_at key tracks = unwrap_or (lookup (is_at (text_cmp key)) tracks) []
 -- the versions of each key ascend
 abbrev pub AllAscend : Tracks → Type 0
 AllAscend = AllByRecursion (λ track. AscendFrom 0 track.1)
+
+-- each key has a version: one without any takes no place
+abbrev pub EachHasVersion : Tracks → Type 0
+EachHasVersion tracks = EachHas (λ versions. 0 < length versions) tracks
+
+-- each key but one has a version
+abbrev pub OthersHaveVersions : Text → Tracks → Type 0
+OthersHaveVersions key tracks = OthersHave (λ versions. 0 < length versions) key tracks
 
 -- the key and what is made of its versions, where something is
 abbrev pub pair_by : (List Version → Option Text) → Text × List Version → Option (Text × Text)

@@ -1,11 +1,11 @@
 // The base pairs of the tables of one shard, at every position from its start to its own.
-ghost use Rattle.std.specs.Prelude.{◌≡◌, ℕ, ◌+◌, ◌^◌, ◌<◌, ◌≤◌, [], ◌∷◌, ◌++◌, IfOk, IfSome, OnOk, OnErr, length, option_copied, take, true};
+ghost use Rattle.std.specs.Prelude.{◌≡◌, ℕ, ◌+◌, ◌^◌, ◌<◌, ◌≤◌, [], ◌∷◌, ◌++◌, IfOk, IfSome, OnOk, OnErr, false, length, option_copied, take, true};
 ghost use Rattle.semantics.specs.Texts.{Text, pairs_within, table_of, value_at};
 ghost use Rattle.semantics.specs.Histories.{History, base_of};
 ghost use Rattle.growing_history.specs.Changes.{changed_keys};
 ghost use Rattle.join_types.specs.Writes.{plain_write};
 ghost use Rattle.base_versions.specs.Own.{AreOwn, shard_written};
-ghost use Rattle.base_versions.specs.Kept.{StandsFor, HasEnteredInPart, IsChanged, IsEntered, IsKept, IsTrimmedTo, empty_table, has_table, shard_of, table_among};
+ghost use Rattle.base_versions.specs.Kept.{StandsFor, EachHasKeyOrChange, HasEnteredInPart, IsChanged, IsEntered, IsKept, IsTrimmedTo, OthersHaveKeyOrChange, empty_table, has_table, shard_of, table_among};
 ghost use Rattle.base_versions.specs.Named.{named};
 ghost use Rattle.base_versions.specs.Valued.{base_changes};
 
@@ -39,13 +39,13 @@ pub struct BaseVersions {
 impl Model for BaseVersions {
     ghost use Rattle.std.specs.Prelude.{◌<◌, ◌≤◌, ◌^◌};
     ghost use Rattle.base_versions.specs.Named.{named};
-    ghost use Rattle.base_versions.specs.Kept.{Kept};
+    ghost use Rattle.base_versions.specs.Kept.{EachHasKeyOrChange, Kept};
 
     ghost Value = { Kept };
 
     ghost view = { λ b. record { shard = b.shard; shards = b.shards; start = b.start; position = b.position; tables = named b.tables.entries } };
 
-    ghost invariant = { λ b. (b.shard < b.shards) × (b.position < 2 ^ 48) × (b.start ≤ b.position) };
+    ghost invariant = { λ b. (b.shard < b.shards) × (b.position < 2 ^ 48) × (b.start ≤ b.position) × EachHasKeyOrChange (named b.tables.entries) };
 }
 
 impl BaseVersions {
@@ -374,6 +374,7 @@ fn enter_in(
 ) -> Result<(), OutOfMemory>
     ensures ok { OnOk result (IsEntered position key.now value (named tables.old.entries) (named tables.new.entries)) }
     ensures err { OnErr result (IsKept (named tables.old.entries) (named tables.new.entries)) }
+    ensures some { EachHasKeyOrChange (named tables.old.entries) → EachHasKeyOrChange (named tables.new.entries) }
 {
     match tables.get_mut(key.table()) {
         Some(table) => table.enter(alloc, position, key, value),
@@ -393,7 +394,8 @@ fn trim_tables(
     tables: &mut BTreeMap<String, TableVersions>,
     to: u64,
 )
-    ensures { IsTrimmedTo to (named tables.old.entries) (named tables.new.entries) }
+    ensures trims { IsTrimmedTo to (named tables.old.entries) (named tables.new.entries) }
+    ensures some { EachHasKeyOrChange (named tables.old.entries) → EachHasKeyOrChange (named tables.new.entries) }
 {
     while let Some(change) = take_early(entered, to) {
         trim_in(tables, to, &change.key);
@@ -403,7 +405,8 @@ fn trim_tables(
 /// Lets go of the key's table what nobody asks for who asks from a position on, as `TableVersions::trim` does, and the table where
 /// nothing is left of it.
 fn trim_in(tables: &mut BTreeMap<String, TableVersions>, to: u64, key: &Key)
-    ensures { IsTrimmedTo to (named tables.old.entries) (named tables.new.entries) }
+    ensures trims { IsTrimmedTo to (named tables.old.entries) (named tables.new.entries) }
+    ensures some { EachHasKeyOrChange (named tables.old.entries) → EachHasKeyOrChange (named tables.new.entries) }
 {
     if trim_table(tables, to, key) {
         remove_table(tables, key);
@@ -415,6 +418,8 @@ fn trim_in(tables: &mut BTreeMap<String, TableVersions>, to: u64, key: &Key)
 fn trim_table(tables: &mut BTreeMap<String, TableVersions>, to: u64, key: &Key) -> bool
     ensures trims { IsTrimmedTo to (named tables.old.entries) (named tables.new.entries) }
     ensures none { result ≡ true → table_among (table_of key.now) (named tables.new.entries) ≡ empty_table }
+    ensures some { result ≡ false → EachHasKeyOrChange (named tables.old.entries) → EachHasKeyOrChange (named tables.new.entries) }
+    ensures others { EachHasKeyOrChange (named tables.old.entries) → OthersHaveKeyOrChange (table_of key.now) (named tables.new.entries) }
 {
     match tables.get_mut(key.table()) {
         None => false,
@@ -428,7 +433,8 @@ fn trim_table(tables: &mut BTreeMap<String, TableVersions>, to: u64, key: &Key) 
 /// Takes the key's table out, which has no key and no change.
 fn remove_table(tables: &mut BTreeMap<String, TableVersions>, key: &Key)
     requires { table_among (table_of key.now) (named tables.old.entries) ≡ empty_table }
-    ensures { (table : Text) → table_among table (named tables.new.entries) ≡ table_among table (named tables.old.entries) }
+    ensures same { (table : Text) → table_among table (named tables.new.entries) ≡ table_among table (named tables.old.entries) }
+    ensures gone { OthersHaveKeyOrChange (table_of key.now) (named tables.old.entries) → EachHasKeyOrChange (named tables.new.entries) }
 {
     tables.remove(key.table());
 }

@@ -1,10 +1,10 @@
 // The changes of one table by the groups of their keys.
-ghost use Rattle.std.specs.Prelude.{◌≡◌, List, [], ◌∷◌, ◌++◌, OnOk, drop, option_copied, true};
+ghost use Rattle.std.specs.Prelude.{◌≡◌, ◌<◌, List, [], ◌∷◌, ◌++◌, OnOk, drop, false, length, option_copied, true};
 ghost use Rattle.std.specs.Option.{unwrap_or};
 ghost use Rattle.semantics.specs.Texts.{Text};
 ghost use Rattle.base_versions.specs.declared.changes.Change.{Change as PlainChange};
 ghost use Rattle.base_versions.specs.Named.{named};
-ghost use Rattle.base_versions.specs.Groups.{AddsChange, AreGrouped, LosesFirst, changes_among, group_of};
+ghost use Rattle.base_versions.specs.Groups.{AddsChange, AreGrouped, EachHasChange, LosesFirst, OthersHaveChanges, changes_among, group_of};
 
 use crate::changes::Change;
 use crate::group::group_of;
@@ -58,7 +58,8 @@ impl GroupQueue {
 
     /// Whether there are none.
     fn is_empty(&self) -> bool
-        ensures { result ≡ true → self.now ≡ [] }
+        ensures none { result ≡ true → self.now ≡ [] }
+        ensures some { result ≡ false → 0 < length self.now }
     {
         self.queue.is_empty()
     }
@@ -82,11 +83,13 @@ pub(crate) struct ChangesByGroup {
 
 impl Model for ChangesByGroup {
     ghost use Rattle.base_versions.specs.Named.{named};
-    ghost use Rattle.base_versions.specs.Groups.{ByGroup};
+    ghost use Rattle.base_versions.specs.Groups.{ByGroup, EachHasChange};
 
     ghost Value = { ByGroup };
 
     ghost view = { λ c. record { kept = c.kept; queues = named c.queues.entries } };
+
+    ghost invariant = { λ c. EachHasChange (named c.queues.entries) };
 }
 
 impl ChangesByGroup {
@@ -154,7 +157,8 @@ fn add_change(
     position: u64,
     key: &Key,
 ) -> Result<(), OutOfMemory>
-    ensures { OnOk result (AddsChange (record { position = position; key = key.now }) (named queues.old.entries) (named queues.new.entries)) }
+    ensures adds { OnOk result (AddsChange (record { position = position; key = key.now }) (named queues.old.entries) (named queues.new.entries)) }
+    ensures some { OnOk result (EachHasChange (named queues.old.entries) → EachHasChange (named queues.new.entries)) }
 {
     let group = group_of(key.text());
     let change = Change {
@@ -177,6 +181,8 @@ fn add_change(
 fn lose_first(queues: &mut BTreeMap<String, GroupQueue>, group: &str) -> bool
     ensures loses { LosesFirst group.now (named queues.old.entries) (named queues.new.entries) }
     ensures none { result ≡ true → changes_among group.now (named queues.new.entries) ≡ [] }
+    ensures some { result ≡ false → EachHasChange (named queues.old.entries) → EachHasChange (named queues.new.entries) }
+    ensures others { EachHasChange (named queues.old.entries) → OthersHaveChanges group.now (named queues.new.entries) }
 {
     match queues.get_mut(group) {
         None => false,
@@ -190,7 +196,8 @@ fn lose_first(queues: &mut BTreeMap<String, GroupQueue>, group: &str) -> bool
 /// Takes a group out, which has no changes.
 fn remove_group(queues: &mut BTreeMap<String, GroupQueue>, group: &str)
     requires { changes_among group.now (named queues.old.entries) ≡ [] }
-    ensures { (other : Text) → changes_among other (named queues.new.entries) ≡ changes_among other (named queues.old.entries) }
+    ensures same { (other : Text) → changes_among other (named queues.new.entries) ≡ changes_among other (named queues.old.entries) }
+    ensures gone { OthersHaveChanges group.now (named queues.old.entries) → EachHasChange (named queues.new.entries) }
 {
     queues.remove(group);
 }

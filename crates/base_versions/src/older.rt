@@ -1,5 +1,5 @@
 // The versions of one key but its newest.
-ghost use Rattle.std.specs.Prelude.{◌≡◌, [], ◌∷◌, ◌++◌, IfErr, OnOk, OnErr, option_copied, true};
+ghost use Rattle.std.specs.Prelude.{◌≡◌, ◌<◌, [], ◌∷◌, ◌++◌, IfErr, OnOk, OnErr, false, length, option_copied, true};
 ghost use Rattle.base_versions.specs.Versions.{AscendFrom, IsTrimmed, has_between, value_in};
 
 use crate::room::let_room_go;
@@ -84,7 +84,8 @@ impl OlderVersions {
 
     /// Whether there are none.
     pub fn is_empty(&self) -> bool
-        ensures { result ≡ true → self.now ≡ [] }
+        ensures none { result ≡ true → self.now ≡ [] }
+        ensures some { result ≡ false → 0 < length self.now }
     {
         self.queue.is_empty()
     }

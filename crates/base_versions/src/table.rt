@@ -1,14 +1,14 @@
 // The versions and the changes of one table.
-ghost use Rattle.std.specs.Prelude.{◌≡◌, [], ◌∷◌, ◌++◌, IfNone, IfOk, IfSome, OnOk, OnErr, filter, map, option_copied, true};
+ghost use Rattle.std.specs.Prelude.{◌≡◌, ◌≤◌, [], ◌∷◌, ◌++◌, IfNone, IfOk, IfSome, OnOk, OnErr, false, filter, length, map, option_copied, true};
 ghost use Rattle.std.specs.List.{AllByRecursion};
 ghost use Rattle.std.specs.List.Sorted.{IsStrictlySortedBy};
 ghost use Rattle.std.specs.Map.{keys_of};
 ghost use Rattle.semantics.specs.Texts.{is_key, text_cmp, within};
 ghost use Rattle.base_versions.specs.Positions.{KeepsTo};
-ghost use Rattle.base_versions.specs.Versions.{AddsVersion, AllAscend, AscendFrom, KeepsVersions, TrimsTracks, keys_changed, pairs_in, value_in, versions_at};
+ghost use Rattle.base_versions.specs.Versions.{AddsVersion, AllAscend, AscendFrom, EachHasVersion, KeepsVersions, OthersHaveVersions, TrimsTracks, keys_changed, pairs_in, value_in, versions_at};
 ghost use Rattle.base_versions.specs.Changes.{Ascend};
 ghost use Rattle.base_versions.specs.Groups.{AreGrouped, HoldsChanges};
-ghost use Rattle.base_versions.specs.Kept.{FindsChanged, empty_table};
+ghost use Rattle.base_versions.specs.Kept.{FindsChanged, HasKeyOrChange, empty_table};
 ghost use Rattle.base_versions.specs.Valued.{HasVersion};
 
 use crate::changes::{Change, between, keys_in_order, take_early};
@@ -39,6 +39,7 @@ impl Model for TableVersions {
     ghost use Rattle.std.specs.Prelude.{◌≡◌, true};
     ghost use Rattle.std.specs.List.{AllByRecursion};
     ghost use Rattle.semantics.specs.Texts.{is_key};
+    ghost use Rattle.base_versions.specs.Versions.{EachHasVersion};
     ghost use Rattle.base_versions.specs.Groups.{AreGrouped};
     ghost use Rattle.base_versions.specs.Kept.{TableKept};
 
@@ -46,7 +47,7 @@ impl Model for TableVersions {
 
     ghost view = { λ t. record { tracks = t.tracks.entries; changes = t.changes.items } };
 
-    ghost invariant = { λ t. AllByRecursion (λ track. is_key track.0 ≡ true) t.tracks.entries × AreGrouped t.groups t.changes.items };
+    ghost invariant = { λ t. AllByRecursion (λ track. is_key track.0 ≡ true) t.tracks.entries × AreGrouped t.groups t.changes.items × EachHasVersion t.tracks.entries };
 }
 
 impl TableVersions {
@@ -74,6 +75,7 @@ impl TableVersions {
         ensures changes { OnOk result (self.new.changes ≡ self.old.changes ++ record { position = position; key = key.now } ∷ []) }
         ensures no_version { OnErr result (KeepsVersions self.old.tracks self.new.tracks) }
         ensures no_change { OnErr result (self.new.changes ≡ self.old.changes) }
+        ensures some { HasKeyOrChange self.old → HasKeyOrChange self.new }
     {
         let change = Change {
             position,
@@ -245,7 +247,8 @@ impl TableVersions {
 
     /// Whether it has no key and no change.
     pub fn is_empty(&self) -> bool
-        ensures { result ≡ true → self.now ≡ empty_table }
+        ensures none { result ≡ true → self.now ≡ empty_table }
+        ensures some { result ≡ false → HasKeyOrChange self.now }
     {
         self.tracks.is_empty() && self.changes.is_empty()
     }
@@ -346,6 +349,8 @@ fn add_version(
     ensures ok { OnOk result (AddsVersion key.now version tracks.old.entries tracks.new.entries) }
     ensures err { OnErr result (KeepsVersions tracks.old.entries tracks.new.entries) }
     ensures keys { AllByRecursion (λ track. is_key track.0 ≡ true) tracks.old.entries → AllByRecursion (λ track. is_key track.0 ≡ true) tracks.new.entries }
+    ensures some { EachHasVersion tracks.old.entries → EachHasVersion tracks.new.entries }
+    ensures stay { length tracks.old.entries ≤ length tracks.new.entries }
 {
     match tracks.get_mut(key.place()) {
         Some(versions) => versions.push(version),
@@ -363,6 +368,8 @@ fn trim_versions(tracks: &mut BTreeMap<KeyBound, Versions>, to: u64, key: &Key) 
     ensures trims { TrimsTracks to tracks.old.entries tracks.new.entries }
     ensures none { result ≡ true → versions_at key.now tracks.new.entries ≡ [] }
     ensures keys { AllByRecursion (λ track. is_key track.0 ≡ true) tracks.old.entries → AllByRecursion (λ track. is_key track.0 ≡ true) tracks.new.entries }
+    ensures some { result ≡ false → EachHasVersion tracks.old.entries → EachHasVersion tracks.new.entries }
+    ensures others { EachHasVersion tracks.old.entries → OthersHaveVersions key.now tracks.new.entries }
 {
     match tracks.get_mut(key.place()) {
         None => false,
@@ -378,6 +385,7 @@ fn remove_track(tracks: &mut BTreeMap<KeyBound, Versions>, key: &Key)
     requires { versions_at key.now tracks.old.entries ≡ [] }
     ensures same { KeepsVersions tracks.old.entries tracks.new.entries }
     ensures keys { AllByRecursion (λ track. is_key track.0 ≡ true) tracks.old.entries → AllByRecursion (λ track. is_key track.0 ≡ true) tracks.new.entries }
+    ensures gone { OthersHaveVersions key.now tracks.old.entries → EachHasVersion tracks.new.entries }
 {
     tracks.remove(key.place());
 }

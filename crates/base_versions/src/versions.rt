@@ -1,5 +1,5 @@
 // The versions of one key.
-ghost use Rattle.std.specs.Prelude.{◌≡◌, [], ◌∷◌, ◌++◌, OnOk, OnErr, option_copied, true};
+ghost use Rattle.std.specs.Prelude.{◌≡◌, ◌<◌, [], ◌∷◌, ◌++◌, OnOk, OnErr, false, length, option_copied, true};
 ghost use Rattle.base_versions.specs.Versions.{AscendFrom, TrimsTo, has_between, value_in};
 
 use crate::older::OlderVersions;
@@ -118,7 +118,8 @@ impl Versions {
 
     /// Whether there are none.
     pub fn is_empty(&self) -> bool
-        ensures { result ≡ true → self.now ≡ [] }
+        ensures none { result ≡ true → self.now ≡ [] }
+        ensures some { result ≡ false → 0 < length self.now }
     {
         self.newest.is_none() && self.older.is_empty()
     }

@@ -9,5 +9,5 @@ returns-clause-stands c = λ start h s less.
     let old = c.args.self.now in
     let inside = c.self.inside in
     let new : Kept = record { shard = inside.shard; shards = inside.shards; start = c.args.to; position = inside.position; tables = named c.trim_tables.new.tables.entries } in
-    let trimmed = subst (λ (k : Kept). IsTrimmedTo c.args.to k.tables new.tables) c.self.view_is c.trim_tables.ensures in
+    let trimmed = subst (λ (k : Kept). IsTrimmedTo c.args.to k.tables new.tables) c.self.view_is c.trim_tables.ensures.trims in
     stands-trimmed start c.args.to old new h (ap (λ (k : Kept). k.position) c.self.view_is) (ap (λ (k : Kept). k.shard) c.self.view_is) (ap (λ (k : Kept). k.shards) c.self.view_is) trimmed less s

@@ -24,5 +24,8 @@ returns-else-is_err c = λ changes h.
     let change : Change = record { position = c.args.position; key = c.args.key.now } in
     let old : ByGroup = record { kept = c.self.inside.kept; queues = named c.self.inside.queues.entries } in
     let new : ByGroup = record { kept = c.self.inside.kept; queues = named c.add_change.new.queues.entries } in
-    let adds = when_ok c.add_change.result (sym c.is_err.ensures.value ∙ c.if-is_err.false) c.add_change.ensures in
+    let adds = when_ok c.add_change.result (sym c.is_err.ensures.value ∙ c.if-is_err.false) c.add_change.ensures.adds in
     grouped-push changes change old new refl adds (subst (λ (g : ByGroup). AreGrouped g changes) (sym c.self.view_is) h)
+
+pub invariant_of-self-else-is_err : goal.invariant_of-self-else-is_err
+invariant_of-self-else-is_err c = when_ok c.add_change.result (sym c.is_err.ensures.value ∙ c.if-is_err.false) c.add_change.ensures.some c.self.invariant

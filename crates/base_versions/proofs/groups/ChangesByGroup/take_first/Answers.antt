@@ -16,7 +16,7 @@ lost first changes name key view kept old new is named_by at loses h =
 
 pub returns-then-lose_first : goal.returns-then-lose_first
 returns-then-lose_first c = λ first changes at h kept group.
-    c.remove_group.ensures group
+    c.remove_group.ensures.same group
     ∙ lost first changes c.group_of-group.result.now c.args.key.now c.args.self.now c.self.inside.kept (named c.self.inside.queues.entries) (named c.lose_first.new.queues.entries) c.self.view_is
     (c.group_of-group.ensures ∙ ap group_of c.text.ensures.text) at c.lose_first.ensures.loses h kept group
 
@@ -24,3 +24,9 @@ pub returns-else-lose_first : goal.returns-else-lose_first
 returns-else-lose_first c = λ first changes at h.
     lost first changes c.group_of-group.result.now c.args.key.now c.args.self.now c.self.inside.kept (named c.self.inside.queues.entries) (named c.lose_first.new.queues.entries) c.self.view_is
     (c.group_of-group.ensures ∙ ap group_of c.text.ensures.text) at c.lose_first.ensures.loses h
+
+pub invariant_of-self : goal.invariant_of-self
+invariant_of-self c = c.remove_group.ensures.gone (c.lose_first.ensures.others c.self.invariant)
+
+pub invariant_of-self-else-lose_first : goal.invariant_of-self-else-lose_first
+invariant_of-self-else-lose_first c = c.lose_first.ensures.some c.if-lose_first.false c.self.invariant

@@ -11,6 +11,7 @@ pub invariant_of-self : goal.invariant_of-self
 invariant_of-self c = (
   c.self.invariant.0,
   subst (λ (cs : List Change). AreGrouped c.self.inside.groups cs) (sym c.in_err-push_back.ensures.items) c.self.invariant.1,
+  c.self.invariant.2,
 )
 
 pub returns-then-is_err-clause-no_version : goal.returns-then-is_err-clause-no_version
@@ -22,6 +23,7 @@ invariant_of-self-then-is_err c =
     let same : c.pop_back.new.self.items ≡ c.self.inside.changes.items = grind (arith, common_steps) in (
       c.add_version-added.ensures.keys c.self.invariant.0,
       subst (λ (cs : List Change). AreGrouped c.self.inside.groups cs) (sym same) c.self.invariant.1,
+      c.add_version-added.ensures.some c.self.invariant.2,
     )
 
 pub invariant_of-self-2 : goal.invariant_of-self-2
@@ -31,4 +33,5 @@ invariant_of-self-2 c =
     c.in_ok-push_back.ensures.items ∙ ap (λ (k : Text). old ++ record { position = c.args.position; key = k } ∷ []) c.in_ok-copy.ensures in (
       c.add_version-added.ensures.keys c.self.invariant.0,
       subst (λ (cs : List Change). AreGrouped c.push.new.self cs) (sym more) (c.push.ensures old c.self.invariant.1),
+      c.add_version-added.ensures.some c.self.invariant.2,
     )

@@ -69,11 +69,11 @@ class Bridge:
         """All that it printed."""
         return (self._folder / "told").read_text(encoding="utf-8").replace(str(self.file), "FILE")
 
-    def wait_until_told(self, words):
+    def wait_until_told(self, words, times=1):
         end = time.monotonic() + SECONDS
-        while words not in self.told:
+        while self.told.count(words) < times:
             if time.monotonic() > end:
-                raise AssertionError(f"{words!r} was not told, but\n{self.told}")
+                raise AssertionError(f"{words!r} was not told {times} times, but\n{self.told}")
             time.sleep(0.02)
 
     def kill(self):

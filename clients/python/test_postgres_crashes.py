@@ -152,6 +152,26 @@ class Ends(Case):
             pass
         self.assertEqual(self.pairs("doc", postgres.read_at(self.client)), self.rows(OF_DOCS))
 
+    def test_a_beginning_that_has_nothing_to_write(self):
+        bridge = self.bridge(DOC)
+        before = self.wait()
+        bridge.kill()
+        bridge.start()
+        bridge.wait_until_told(", by 0 writes, ")
+        for _ in range(3):
+            self.cursor.execute("create table other(); drop table other")
+            at = self.wait()
+            self.assertGreater(at, before)
+            self.assertEqual(self.pairs("doc", at), self.rows(OF_DOCS))
+
+    def test_lines_of_an_earlier_bridge_that_come_late(self):
+        self.bridge(DOC).wait_until_told("copied")
+        self.client.put("doc|000001", "of an earlier bridge")
+        self.client.put("doc|009999", "of an earlier bridge")
+        self.last.wait_until_told("copied", 2)
+        self.assertIn("begins anew: another than this bridge has written 'doc|000001'", self.last.told)
+        self.expect_equal("doc", OF_DOCS)
+
     def test_a_database_that_was_set_back(self):
         self.client.put("pg|at", "FFFFFFFF/0 1")
         self.bridge(DOC).wait_until_told("copied")

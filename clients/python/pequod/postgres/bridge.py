@@ -73,6 +73,7 @@ class Bridge:
         database.end_snapshot()
         if read_files(database.ask, self._mapping) != files:
             raise CopyNeeded("a table was truncated or written anew while it was copied")
+        self._look_for_strangers()
         self._last = slot.place
         self._tell_skipped()
         self._writer.put_mark(Mark(slot.place, self._client.position))
@@ -138,11 +139,20 @@ class Bridge:
         if time.monotonic() >= self._next_check:
             self._next_check = time.monotonic() + CHECK_SECONDS
             self._compare(read_catalogue(self._database.ask, self._mapping))
+            self._look_for_strangers()
+            self._writer.own.forget()
         if not self._is_open and self._writer.is_idle and time.monotonic() >= self._marked_at + IDLE_SECONDS:
             self._marked_at = time.monotonic()
             position = self._client.get(MARKER_KEY).position
             if position > self._writer.mark.position + FAR_BACK:
                 self._writer.put_mark(Mark(self._writer.mark.place, position))
+
+    def _look_for_strangers(self) -> None:
+        """Looks whether somebody else wrote into a mapped table, and if so has the tables copied again."""
+        for table in self._mapping.tables:
+            key = self._writer.own.stranger_in(self._client, table)
+            if key is not None:
+                raise CopyNeeded(f"another than this bridge has written {key!r}")
 
     def _tell_skipped(self) -> None:
         news = self._skipped.take_news()

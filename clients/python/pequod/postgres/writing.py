@@ -9,6 +9,7 @@ from ..answers import Done
 from ..client import Client
 from ..errors import OutOfMemory, PequodError
 from ..exchange import Pending
+from .looking import OwnWrites
 from .marks import MARKER_KEY, Mark
 
 BATCH = 2_000
@@ -40,9 +41,10 @@ class Writer:
         self._client = client
         self._pending: list[Write] = []
         self._ended: Optional[tuple[int, int]] = None
-        self._done = client.position
+        self._done = client.get(MARKER_KEY).position
         self.mark = Mark(0, 0)
         self.written = 0
+        self.own = OwnWrites(self._done)
 
     @property
     def is_idle(self) -> bool:
@@ -71,6 +73,7 @@ class Writer:
         if pending:
             self._done = self._client.position
             self.written += len(pending)
+            self.own.note(pending)
         if ended is None:
             return
         count, place = ended
@@ -83,9 +86,10 @@ class Writer:
         # Else writes of the next transaction stand among the others, and the marker waits for its end.
 
     def put_mark(self, mark: Mark) -> None:
-        """Puts the marker."""
+        """Puts the marker. No later one has an earlier position."""
         self._send_in_order([(MARKER_KEY, str(mark))])
         self.mark = mark
+        self._done = max(self._done, mark.position)
 
     def put_now(self, key: str, value: str) -> None:
         """Sets a pair of the bridge's own, out of turn."""

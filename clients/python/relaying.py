@@ -36,7 +36,7 @@ class Relay:
         self.said = tempfile.TemporaryFile("w+")
         words = (f"{HOST}:{self.port}", "--server", f"{HOST}:{server_port}", "--links", str(links))
         # In Python 3.9 the loop takes a TLS connection that was aborted for one that nobody closed.
-        warned = "ignore" if "--cert" in options else "default"
+        warned = "ignore" if {"--cert", "--server-cert"} & set(options) else "default"
         self.process = subprocess.Popen(
             [sys.executable, "-W", warned, "-m", "pequod", "relay", *words, "--metrics", str(self.metrics_port), *options],
             env={**os.environ, "PYTHONPATH": str(FOLDER)}, stderr=self.said,
@@ -54,6 +54,10 @@ class Relay:
             return self.counted("pequod_links") == self.links
         except OSError:
             return False
+
+    def is_anew(self, lost):
+        """Whether so many links were lost, and all serve again."""
+        return self.counted("pequod_links_lost_total") == lost and self.is_up()
 
     def counts(self):
         """Each sample that it shows, by its name with its labels."""

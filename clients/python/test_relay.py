@@ -144,7 +144,7 @@ class Ends(Served):
         with self.assertRaises((pequod.LinkLost, ConnectionError)):
             self.client(relay).get("k|1")
         self.server.start()
-        self.assertTrue(wait_for(relay.is_up))
+        self.assertTrue(wait_for(lambda: relay.is_anew(2)))
         for number, client in enumerate(clients):
             with self.assertRaises(pequod.LinkLost):
                 client.get("k|1")
@@ -170,7 +170,7 @@ class Ends(Served):
             client.put("k|a", "x")
             client.put("k|a", "y")
         self.server.restart()
-        self.assertTrue(wait_for(relay.is_up))
+        self.assertTrue(wait_for(lambda: relay.is_anew(2)))
         with pool.client() as client:
             self.assertEqual(client.get("k|a").value, "filled")
         self.assertEqual(len(fills), 1)
@@ -251,6 +251,7 @@ class Words(unittest.TestCase):
             ((*where, "--clients", "none"), "argument --clients: 'none' is no number from 1 to 1000000"),
             ((*where, "--metrics", "70000"), "argument --metrics: '70000' is no number from 0 to 65535"),
             ((*where, "--cert", "a.pem"), "--cert, --key and --ca are given together, or none of them"),
+            ((*where, "--server-ca", "a.pem"), "--server-cert, --server-key and --server-ca are given together, or none of them"),
         )
         for words, wanted in rows:
             with self.subTest(words):

@@ -110,8 +110,7 @@ class UnderWay(unittest.TestCase):
         beginning = b'["pairs",7,[["big|1","' + b"x" * 100_000
         self.told.say(beginning)
         self.assertEqual(first.recv(len(beginning), socket.MSG_WAITALL), beginning)
-        self.told.say(b'["error","no"]')
-        self.told.say(b'"]]]\n["error","memory"]\n["value",9,"y')
+        self.told.say(b'["error","no"]"]]]\n["error","memory"]\n["value",9,"y')
         self.told.say(b'"]\n')
         self.assertEqual(read(first, 2), b'["error","no"]"]]]\n["error","memory"]\n')
         self.assertEqual(read(other, 1), b'["value",9,"y"]\n')

@@ -12,7 +12,8 @@ import tempfile
 import unittest
 import warnings
 
-from relaying import PATIENCE, Relay, clean_end, wait_for
+import pequod
+from relaying import PATIENCE, Relay, clean_end, connected, talk, wait_for
 from serving import HOST, Server, want_program
 
 GET = b'["get","a|1"]\n'
@@ -105,6 +106,30 @@ class Certificates(unittest.TestCase):
         link.close()
         self.assertEqual(self.answered(self.context()), (ANSWERS, False))
         self.assertTrue(wait_for(lambda: self.relay.counted("pequod_clients") == 0))
+
+    def test_a_relay_before_the_relay(self):
+        """Clients that speak no TLS, by a relay beside them that does."""
+        from test_relay_streams import STREAMS
+        words = [word for name, file in (("cert", "client.pem"), ("key", "client.key"), ("ca", "ca.pem"))
+                 for word in (f"--server-{name}", self.file(file))]
+        near, alone = Relay(self.relay.port, *words), Server("--workers", "4")
+        self.addCleanup(clean_end, self, near)
+        self.addCleanup(alone.stop)
+        for name, stream in STREAMS:
+            with self.subTest(name):
+                wanted, is_reset = talk(connected(alone.port), stream)
+                came, _ = talk(connected(near.port), stream)
+                self.assertEqual(came[:len(wanted)] if is_reset else came, wanted)
+        for relay in near, self.relay:
+            self.assertEqual(relay.counted("pequod_links_lost_total"), 0)
+        with near.connect() as client:
+            client.put("k|a", "x")
+            self.server.restart()
+            with self.assertRaises(pequod.LinkLost):
+                client.get("k|a")
+            self.assertTrue(wait_for(lambda: self.relay.is_anew(2) and near.is_anew(2)))
+            with self.assertRaises(pequod.Restarted):
+                client.reconnect()
 
     def test_many_lines_and_long_replies(self):
         link = self.connect(self.context())

@@ -7,7 +7,7 @@ import asyncio
 import signal
 import ssl
 import sys
-from typing import Optional, Sequence
+from typing import NamedTuple, Optional, Sequence
 
 from ..exposition import Listener
 from .hub import Address, Bounds, Relay
@@ -21,10 +21,15 @@ OTHER_FILES = 32
 METRICS_HOST = "127.0.0.1"
 METRICS_SECONDS = 5.0
 MEGABYTE = 1 << 20
+FILES = {
+    "cert": "the certificate that is shown to clients", "key": "its key", "ca": "the authority of clients' certificates",
+    "server-cert": "the certificate that is shown to a relay in the server's place", "server-key": "its key",
+    "server-ca": "the authority of that relay's certificate",
+}
 EPILOG = """\
 Each link holds a worker of the server, and clients that connect to the server itself hold further ones: give it as many --workers.
 With --cert, --key and --ca clients speak TLS 1.3 and show a certificate that the authority signed. Whoever has one may do
-everything. Status 0: a signal ended it. 2: the words. 6: the system gives too few files. 8: an address cannot be had. 9: the
+everything. With --server-cert, --server-key and --server-ca the relay is such a client itself, of another relay. Status 0: a signal ended it. 2: the words. 6: the system gives too few files. 8: an address cannot be had. 9: the
 certificates cannot be used.
 """
 
@@ -33,7 +38,7 @@ def run(words: Sequence[str]) -> int:
     """Does what the words say until a signal ends it, and gives the status."""
     options = _options(words)
     try:
-        tls = _tls_of(options)
+        tls = _TLS(_tls_of_clients(options), _tls_of_server(options))
     except (OSError, ValueError) as error:
         return _fail(NO_CERTIFICATES, f"the certificates cannot be used: {error}")
     bounds = Bounds(clients=options.clients, held=options.held * MEGABYTE, held_by_all=max(4, options.held) * 4 * MEGABYTE)
@@ -44,20 +49,20 @@ def run(words: Sequence[str]) -> int:
     return asyncio.run(_serve(options, bounds, tls))
 
 
-async def _serve(options: argparse.Namespace, bounds: Bounds, tls: Optional[ssl.SSLContext]) -> int:
+async def _serve(options: argparse.Namespace, bounds: Bounds, tls: _TLS) -> int:
     """Relays until a signal comes."""
     loop, ended = asyncio.get_running_loop(), asyncio.Event()
     for number in signal.SIGTERM, signal.SIGINT:
         loop.add_signal_handler(number, ended.set)
-    relay = Relay(options.server, options.links, bounds)
+    relay = Relay(options.server, options.links, bounds, tls.server)
     listener = None
     try:
-        await relay.start(options.listen, tls)
+        await relay.start(options.listen, tls.clients)
         if options.metrics is not None:
             listener = Listener(METRICS_HOST, options.metrics, lambda: _text_of(relay, loop))
     except OSError as error:
         await relay.close()
-        return _fail(NO_ADDRESS, str(error))
+        return _fail(NO_ADDRESS, f"an address for clients or --metrics cannot be had: {error}")
     await ended.wait()
     await relay.close()
     if listener is not None:
@@ -90,11 +95,14 @@ def _options(words: Sequence[str]) -> argparse.Namespace:
         help="replies that wait for a client, beyond which it is reset; 64 unless given, and of all clients four times as much",
     )
     parser.add_argument("--metrics", type=_number(0, 65_535), metavar="PORT", help="for Prometheus, at 127.0.0.1")
-    for name, help in ("cert", "the relay's certificate"), ("key", "its key"), ("ca", "the authority of clients' certificates"):
-        parser.add_argument(f"--{name}", metavar="FILE", help=f"{help}, in PEM form")
+    for name, what in FILES.items():
+        parser.add_argument(f"--{name}", metavar="FILE", help=f"{what}, in PEM form")
     options = parser.parse_args(words)
-    if len({options.cert is None, options.key is None, options.ca is None}) > 1:
-        parser.error("--cert, --key and --ca are given together, or none of them")
+    for prefix in "", "server_":
+        given = {getattr(options, prefix + name) is None for name in ("cert", "key", "ca")}
+        if len(given) > 1:
+            names = [f"--{prefix}{name}".replace("_", "-") for name in ("cert", "key", "ca")]
+            parser.error(f"{names[0]}, {names[1]} and {names[2]} are given together, or none of them")
     return options
 
 
@@ -103,6 +111,13 @@ def _address(text: str) -> Address:
     if not host or not (port.isascii() and port.isdigit()) or int(port) > 65_535:
         raise argparse.ArgumentTypeError(f"{text!r} is no HOST:PORT")
     return host.strip("[]"), int(port)
+
+
+class _TLS(NamedTuple):
+    """What clients speak, and what the server speaks; None for no TLS."""
+
+    clients: Optional[ssl.SSLContext]
+    server: Optional[ssl.SSLContext]
 
 
 class _number:
@@ -117,7 +132,7 @@ class _number:
         return int(text)
 
 
-def _tls_of(options: argparse.Namespace) -> Optional[ssl.SSLContext]:
+def _tls_of_clients(options: argparse.Namespace) -> Optional[ssl.SSLContext]:
     """Gives TLS 1.3 that wants a certificate of each client, or None where no certificate was given."""
     if options.cert is None:
         return None
@@ -125,6 +140,16 @@ def _tls_of(options: argparse.Namespace) -> Optional[ssl.SSLContext]:
     context.minimum_version = ssl.TLSVersion.TLSv1_3
     context.verify_mode = ssl.CERT_REQUIRED
     context.load_cert_chain(options.cert, options.key)
+    return context
+
+
+def _tls_of_server(options: argparse.Namespace) -> Optional[ssl.SSLContext]:
+    """Gives TLS 1.3 that shows a certificate and wants one for the host's name, or None where no certificate was given."""
+    if options.server_cert is None:
+        return None
+    context = ssl.create_default_context(ssl.Purpose.SERVER_AUTH, cafile=options.server_ca)
+    context.minimum_version = ssl.TLSVersion.TLSv1_3
+    context.load_cert_chain(options.server_cert, options.server_key)
     return context
 
 

@@ -51,12 +51,16 @@ class Bounds:
 class Relay:
     """Clients over a few links. It is made within the running loop, and used in its thread alone."""
 
-    def __init__(self, server: Address, links: int, bounds: Bounds = Bounds()) -> None:
-        """Makes one that has no link yet, and takes no clients. `start` does that."""
+    def __init__(
+        self, server: Address, links: int, bounds: Bounds = Bounds(), server_tls: Optional[ssl.SSLContext] = None
+    ) -> None:
+        """Makes one that has no link yet, and takes no clients. `start` does that. With `server_tls` what it connects to speaks
+        TLS, as another relay does."""
         self.bounds = bounds
         self.counts = Counts()
         self._where = server
         self._count = links
+        self._server_tls = server_tls
         self._links: list[ServerLink] = []
         self._clients: set[ClientLink] = set()
         self._held: dict[ClientLink, int] = {}
@@ -148,7 +152,7 @@ class Relay:
     async def _connect(self) -> ServerLink:
         """Makes a link, and waits until the server answers on it. It raises an OSError where it is not made or lost again."""
         loop = asyncio.get_running_loop()
-        making = loop.create_connection(lambda: ServerLink(self.counts), *self._where)
+        making = loop.create_connection(lambda: ServerLink(self.counts), *self._where, ssl=self._server_tls)
         try:
             transport, link = await asyncio.wait_for(making, CONNECT_SECONDS)
         except asyncio.TimeoutError:

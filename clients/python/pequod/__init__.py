@@ -12,8 +12,8 @@ Each answer has a position, which is the length of the write history that it spe
 position stands in every answer with that position or a greater one, whichever client asked. So compare positions to know
 whether an answer has seen a write.
 
-A `Client` is one connection, for one thread at a time. Threads share a `Pool`. As long as a connection is open it holds one
-worker of the server, also while it asks nothing; the server's `--workers` says how many it has. `pequod.aio` has the same calls
+A `Client` is one connection. Threads that share one take turns; threads that want to ask at once share a `Pool`. A forked child
+uses no connection of its parent's. As long as a connection is open it holds one worker of the server, also while it asks nothing; the server's `--workers` says how many it has. `pequod.aio` has the same calls
 for asyncio. `python3 -m pequod HOST:PORT` is a prompt, and `python3 -m pequod check FILE` looks at a file of joins.
 """
 

@@ -17,6 +17,7 @@ from __future__ import annotations
 
 import asyncio
 import contextlib
+import os
 import selectors
 import time
 from typing import Any, AsyncIterator, Awaitable, Callable, Optional, Sequence, TypeVar
@@ -24,6 +25,7 @@ from typing import Any, AsyncIterator, Awaitable, Callable, Optional, Sequence, 
 from .answers import Changes, Done, Pairs, Value
 from .errors import Ahead, Gone, LinkLost, Restarted
 from .exchange import Batch, Exchange, Lines, Pending
+from .forks import OwnOfProcess
 from .runs import PROBE_KEY, Run
 from .watching import RECONNECT_PAUSE, Watch
 from .wire import (
@@ -43,6 +45,7 @@ class _Link(asyncio.Protocol):
         self._pieces: list[bytes] = []
         self._end: Optional[Exception] = None
         self._came = asyncio.Event()
+        self._process = os.getpid()
         self._transport: Optional[asyncio.Transport] = None
 
     def connection_made(self, transport: asyncio.BaseTransport) -> None:
@@ -57,9 +60,13 @@ class _Link(asyncio.Protocol):
         self._end = exc or ConnectionError("the server closed it")
         self._came.set()
 
+    def is_own(self) -> bool:
+        """Whether this process made it, and not the one that it was forked from."""
+        return self._process == os.getpid()
+
     def is_quiet(self) -> bool:
         """Whether it is open and nothing came that was not read, also nothing that the loop has not seen yet."""
-        if self._transport is None or self._end is not None or self._pieces:
+        if self._transport is None or self._end is not None or self._pieces or not self.is_own():
             return False
         with selectors.DefaultSelector() as selector:
             selector.register(self._transport.get_extra_info("socket"), selectors.EVENT_READ)
@@ -85,7 +92,8 @@ class _Link(asyncio.Protocol):
         return self._lines.take(piece)
 
     def close(self) -> None:
-        if self._transport is not None:
+        # What a loop waits for is shared with the parent after a fork, so a child would take the parent's link out of it.
+        if self._transport is not None and self.is_own():
             self._transport.abort()
 
 
@@ -103,8 +111,8 @@ class Client:
         self._timeout = timeout
         self._links = 0
         self._is_closed = False
-        self._turn = asyncio.Lock()
-        self._connecting = asyncio.Lock()
+        self._turn = OwnOfProcess(asyncio.Lock)
+        self._connecting = OwnOfProcess(asyncio.Lock)
         self._link: Optional[_Link] = None
 
     async def put(self, key: str, value: str) -> Done:
@@ -168,7 +176,7 @@ class Client:
     @property
     def is_open(self) -> bool:
         """Whether requests can be made: the client was not closed and has not lost its link, as far as it knows."""
-        return self._link is not None
+        return self._link is not None and self._link.is_own()
 
     async def reconnect(self) -> None:
         """Connects anew to the same server, as that of `pequod.Client` does. Where tasks ask for it at once, one of them connects
@@ -203,7 +211,7 @@ class Client:
 
     async def _replace_link(self, old: Optional[_Link]) -> None:
         """Makes a new link in place of the old one, or of one that was lost, unless another task has done so by then."""
-        async with self._connecting:
+        async with self._connecting.own():
             if self._link is None or self._link is old:
                 self._drop_link()
                 await self._connect()
@@ -249,9 +257,11 @@ class Client:
         What is asked may name a position, and over another link that may be one of another run. So it goes over the link that
         stood when it was asked, or over none."""
         link = self._link
-        async with self._turn:
+        async with self._turn.own():
             if link is None or link is not self._link:
                 raise LinkLost("the link is closed, and nothing was sent")
+            if not link.is_own():
+                raise LinkLost("the link is that of the process which this one was forked from, and nothing was sent; reconnect")
             exchange = Exchange(asked)
             try:
                 link.send(exchange.sent())
@@ -319,11 +329,11 @@ class Pool:
         self._where = (host, port, timeout)
         self._size = size
         self._timeout = timeout
-        self._places = asyncio.Semaphore(size)
+        self._places = OwnOfProcess(lambda: asyncio.Semaphore(size))
         self._idle: list[Client] = []
         self._is_open = True
         self._on_restart = on_restart
-        self._settling = asyncio.Lock()
+        self._settling = OwnOfProcess(asyncio.Lock)
         self._run = Run()
         self._is_unfilled = False
 
@@ -336,8 +346,9 @@ class Pool:
     async def client(self) -> AsyncIterator[Client]:
         """Lends a client to the task for the length of an `async with`. It waits while all are lent, and raises a TimeoutError
         where that takes too long. One that has lost its link is let go, and the next `async with` connects anew."""
+        places = self._places.own()
         try:
-            await asyncio.wait_for(self._places.acquire(), self._timeout)
+            await asyncio.wait_for(places.acquire(), self._timeout)
         except asyncio.TimeoutError:
             raise TimeoutError(f"all {self._size} clients of the pool were lent for {self._timeout} seconds") from None
         try:
@@ -347,7 +358,7 @@ class Pool:
             finally:
                 self._give_back(client)
         finally:
-            self._places.release()
+            places.release()
 
     def close(self) -> None:
         """Closes all clients that are not lent, and each other one when it is given back."""
@@ -377,7 +388,7 @@ class Pool:
         """A new client. Where the server was started anew, it was filled before."""
         client = await connect(*self._where)
         try:
-            async with self._settling:
+            async with self._settling.own():
                 await self._settle(client)
         except BaseException:
             client.close()

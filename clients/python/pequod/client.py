@@ -1,15 +1,18 @@
-"""A connection to a server, for one thread at a time."""
+"""A connection to a server. Threads that share one take turns."""
 
 from __future__ import annotations
 
+import os
 import selectors
 import socket
+import threading
 import time
 from typing import Any, Iterator, Optional, Sequence, TypeVar
 
 from .answers import Changes, Done, Pairs, Value
 from .errors import Ahead, Gone, LinkLost, Restarted
 from .exchange import PIECE_BYTES, Batch, Exchange, Lines, Pending
+from .forks import OwnOfProcess
 from .runs import PROBE_KEY, Run
 from .watching import RECONNECT_PAUSE, Watch
 from .wire import (
@@ -20,7 +23,10 @@ T = TypeVar("T")
 
 
 class Client:
-    """A connection to a server. `connect` makes one. It is for one thread at a time."""
+    """A connection to a server. `connect` makes one.
+
+    Threads that share one take turns: each request, or pipeline when it is sent, waits until the one before it is answered.
+    After a fork the link is the parent's: in the child each request raises `LinkLost` and sends nothing, until `reconnect`."""
 
     position: int
     """The last position that was told of the whole history, and 0 before the first: that of a scan at an earlier position is
@@ -34,6 +40,9 @@ class Client:
         self._lines = Lines()
         self._links = 0
         self._is_closed = False
+        self._turn = OwnOfProcess(threading.RLock)
+        self._is_asking = False
+        self._process = 0
         self._socket: Optional[socket.socket] = None
         self._connect()
 
@@ -106,7 +115,7 @@ class Client:
     @property
     def is_open(self) -> bool:
         """Whether requests can be made: the client was not closed and has not lost its link, as far as it knows."""
-        return self._socket is not None
+        return self._socket is not None and self._is_own()
 
     def reconnect(self) -> None:
         """Connects anew to the same server, after the link was lost or closed.
@@ -116,12 +125,14 @@ class Client:
         a pool is rather given back, and the pool connects anew.
         """
         self._is_closed = False
-        self._drop_link()
-        self._connect()
-        self._look_for_restart()
+        with self._turn.own():
+            self._drop_link()
+            self._connect()
+            self._look_for_restart()
 
     def close(self) -> None:
-        """Closes the connection. A client that is closed already stays as it is, and only `reconnect` opens it again."""
+        """Closes the connection, and waits for no request that is under way. A client that is closed already stays as it is, and
+        only `reconnect` opens it again."""
         self._is_closed = True
         self._drop_link()
 
@@ -145,13 +156,20 @@ class Client:
             time.sleep(RECONNECT_PAUSE)
         raise LinkLost("the client was closed")
 
+    def _is_own(self) -> bool:
+        """Whether this process made the link, and not the one that it was forked from."""
+        return self._process == os.getpid()
+
     def _drop_link(self) -> None:
+        # That of a parent stands on: this closes the child's copy alone.
         if self._socket is not None:
             self._socket.close()
             self._socket = None
 
     def _connect(self) -> None:
         self._lines = Lines()
+        self._is_asking = False
+        self._process = os.getpid()
         self._socket = socket.create_connection(self._where, self._timeout)
         self._links += 1
         self._socket.setsockopt(socket.IPPROTO_TCP, socket.TCP_NODELAY, 1)
@@ -172,26 +190,41 @@ class Client:
         return pending.result()
 
     def _exchange(self, asked: Sequence[Pending[Any]]) -> None:
-        """Sends all requests and takes their replies. Where that ends early, replies may be on their way that nobody could
-        tell from those of later requests, so the link is closed, and all that is not answered yet is answered by `LinkLost`."""
+        """Sends all requests and takes their replies, when it is their turn. Where that ends early, replies may be on their way
+        that nobody could tell from those of later requests, so the link is closed, and all that is not answered yet is answered
+        by `LinkLost`."""
+        with self._turn.own():
+            link = self._open_link()
+            exchange = Exchange(asked)
+            self._is_asking = True
+            try:
+                if exchange.is_single:
+                    self._do_single(link, exchange)
+                else:
+                    self._do_many(link, exchange)
+            except BaseException as error:
+                self._drop_link()
+                lost = exchange.lose(error)
+                if isinstance(error, OSError):
+                    raise lost from error
+                raise
+            finally:
+                self._is_asking = False
+                if exchange.position is not None:
+                    self.position = exchange.position
+                    self._run.note(exchange.position)
+
+    def _open_link(self) -> socket.socket:
+        """The link, where a request may be sent over it."""
+        if self._socket is not None and not self._is_own():
+            self._drop_link()
+            raise LinkLost("the link is that of the process which this one was forked from, and nothing was sent; reconnect")
         if self._socket is None:
             raise LinkLost("the link is closed, and nothing was sent")
-        exchange = Exchange(asked)
-        try:
-            if exchange.is_single:
-                self._do_single(self._socket, exchange)
-            else:
-                self._do_many(self._socket, exchange)
-        except BaseException as error:
-            self._drop_link()
-            lost = exchange.lose(error)
-            if isinstance(error, OSError):
-                raise lost from error
-            raise
-        finally:
-            if exchange.position is not None:
-                self.position = exchange.position
-                self._run.note(exchange.position)
+        if self._is_asking:
+            # The turn is this thread's already, so a signal handler asks. It would be given the other request's reply.
+            raise RuntimeError("a request of this client is under way in the same thread, and nothing was sent")
+        return self._socket
 
     def _do_single(self, link: socket.socket, exchange: Exchange) -> None:
         link.sendall(exchange.sent())
@@ -222,7 +255,7 @@ class Client:
 
     def _is_quiet(self) -> bool:
         """Whether the link is open and nothing came that was not asked for."""
-        if self._socket is None:
+        if self._socket is None or not self._is_own():
             return False
         try:
             self._socket.setblocking(False)

@@ -43,13 +43,21 @@ class Pending(Generic[T]):
         earlier = self._request.earlier
         if not isinstance(answer, (*self._request.answers, NotServed)):
             raise BadReply(f"another reply than was asked for: {line[:80]!r}")
-        is_back = isinstance(answer, Pairs) and earlier is not None
-        if is_back and answer.position != earlier or isinstance(answer, Changes) and answer.since != earlier:
+        if _earlier_of(answer, earlier) != earlier:
             raise BadReply(f"a reply about another position than was asked for: {line[:80]!r}")
+        self._answer = answer
         if isinstance(answer, NotServed):
             answer._of(self._request.kind, self._request.key, self._number)
-        self._answer = answer
-        return None if isinstance(answer, OutOfMemory) or is_back else answer.position
+        if isinstance(answer, OutOfMemory) or isinstance(answer, Pairs) and earlier is not None:
+            return None
+        return answer.position
+
+
+def _earlier_of(answer: Union[Answer, NotServed], asked: Optional[int]) -> Optional[int]:
+    """The earlier position that an answer speaks of, where one was asked about, and where it is a refusal the one asked about."""
+    if isinstance(answer, Changes):
+        return answer.since
+    return answer.position if isinstance(answer, Pairs) and asked is not None else asked
 
 
 class Lines:

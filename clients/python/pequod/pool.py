@@ -8,6 +8,7 @@ from typing import Callable, Iterator, Optional
 
 from .client import Client
 from .errors import LinkLost, Restarted
+from .forks import OwnOfProcess
 from .runs import Run
 
 
@@ -28,6 +29,8 @@ class Pool:
     that it is given, and does not ask the pool for another. Without `on_restart` the first thread that finds a restart gets
     `Restarted`, and all others go on with what the server has.
 
+    A process that is forked from one with a pool may use its copy: it connects anew, and counts its own clients.
+
     `timeout` is for each client as that of `connect`, and also for how long a thread waits while all clients are lent.
     """
 
@@ -42,12 +45,12 @@ class Pool:
         self._where = (host, port, timeout)
         self._size = size
         self._timeout = timeout
-        self._places = threading.Semaphore(size)
-        self._lock = threading.Lock()
+        self._places = OwnOfProcess(lambda: threading.Semaphore(size))
+        self._lock = OwnOfProcess(threading.RLock)
         self._idle: list[Client] = []
         self._is_open = True
         self._on_restart = on_restart
-        self._settling = threading.Lock()
+        self._settling = OwnOfProcess(threading.Lock)
         self._run = Run()
         self._is_unfilled = False
 
@@ -60,7 +63,8 @@ class Pool:
     def client(self) -> Iterator[Client]:
         """Lends a client to the thread for the length of a `with`. It waits while all are lent, and raises a TimeoutError
         where that takes too long. One that has lost its link is let go, and the next `with` connects anew."""
-        if not self._places.acquire(timeout=self._timeout):
+        places = self._places.own()
+        if not places.acquire(timeout=self._timeout):
             raise TimeoutError(f"all {self._size} clients of the pool were lent for {self._timeout} seconds")
         try:
             client = self._take() or self._connect()
@@ -69,11 +73,11 @@ class Pool:
             finally:
                 self._give_back(client)
         finally:
-            self._places.release()
+            places.release()
 
     def close(self) -> None:
         """Closes all clients that are not lent, and each other one when it is given back."""
-        with self._lock:
+        with self._lock.own():
             self._is_open = False
             idle, self._idle = self._idle, []
         for client in idle:
@@ -87,7 +91,7 @@ class Pool:
 
     def _take(self) -> Optional[Client]:
         """The client that was used last and still has its link, if there is one."""
-        with self._lock:
+        with self._lock.own():
             if not self._is_open:
                 raise LinkLost("the pool is closed, and nothing was sent")
             while self._idle:
@@ -101,7 +105,7 @@ class Pool:
         """A new client. Where the server was started anew, it was filled before."""
         client = Client(*self._where)
         try:
-            with self._settling:
+            with self._settling.own():
                 self._settle(client)
         except BaseException:
             client.close()
@@ -123,7 +127,7 @@ class Pool:
             self._is_unfilled = False
 
     def _give_back(self, client: Client) -> None:
-        with self._lock:
+        with self._lock.own():
             if self._is_open and client.is_open:
                 self._idle.append(client)
                 return

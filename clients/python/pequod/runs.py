@@ -4,6 +4,8 @@ from __future__ import annotations
 
 import threading
 
+from .forks import OwnOfProcess
+
 
 class Run:
     """What was told of one run of a server: the greatest position in its replies. The clients of a pool share it.
@@ -13,7 +15,8 @@ class Run:
     """
 
     def __init__(self, position: int = 0) -> None:
-        self._lock = threading.Lock()
+        # A signal handler may ask while its own thread is within `note`.
+        self._lock = OwnOfProcess(threading.RLock)
         self._position = position
 
     @property
@@ -22,7 +25,7 @@ class Run:
 
     def note(self, position: int) -> None:
         """Notes a position that was told."""
-        with self._lock:
+        with self._lock.own():
             self._position = max(self._position, position)
 
 

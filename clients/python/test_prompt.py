@@ -85,7 +85,7 @@ refused, key: this is no key: it is TABLE| and more, with a table's name of 1 to
 refused, range: these are no bounds: both lie in one table, the last may be TABLE}, and the first is not above the last
 t|<u> = copy
             ^
-refused, syntax: this is no text of a join from byte 12 on
+refused, syntax: it ends too early: a pattern behind copy is wanted
 refused, slots: the slots of the join do not go together (at position 0)
 ok, at position 1
 refused, clash: its output overlaps that of another join, the one at position 1 (at position 1)

@@ -1,22 +1,24 @@
-"""Why the lines of a file of joins are refused, with the place: each line is asked of a server of its own."""
+"""Why the lines of a file of joins are refused, with the place, and what to look at in those that are accepted: each line is asked
+of a server of its own."""
 
 from __future__ import annotations
 
 import os
 import pathlib
-import re
 import subprocess
 import sys
 from dataclasses import dataclass, field
-from typing import Iterator, Optional, Union
+from typing import Iterator, Mapping, Optional, Union
 
+from .advice import warnings
 from .answers import Answer, Done
 from .errors import BadReply, OutOfMemory, Refused
-from .reasons import REASONS, place, shown
+from .joins import AGGREGATES, Join, Slot, overlap, read_join
+from .reasons import REASONS, Note, place, shown, syntax_fault
 from .wire import join_request, read_reply
 
 ACCEPTED, FILE_REFUSED, UNUSABLE = 0, 7, 9
-SLOT = re.compile(r"<([A-Za-z0-9_]+)(?::([0-9]+))?>")
+MAX_CHECKS = 7
 
 
 @dataclass(frozen=True)
@@ -27,21 +29,13 @@ class Line:
     text: str
 
 
-@dataclass(frozen=True)
-class Note:
-    """What is to be said of a line: a sentence, and the byte of a text that it is about, where there is one."""
-
-    sentence: str
-    text: str
-    byte: Optional[int] = None
-
-
 @dataclass
 class Verdict:
-    """A line that was refused: by which name, and what is to be said of it."""
+    """What is to be said of a line: the name of the refusal, or `warning`, a sentence, and notes with their places."""
 
     line: Line
     name: str
+    sentence: str
     notes: list[Note] = field(default_factory=list)
 
 
@@ -50,25 +44,30 @@ class Unusable(Exception):
 
 
 def check_file(file: str, program: Optional[str]) -> int:
-    """Prints why each refused line of a file of joins is refused, and how many are accepted. It gives the status: 0 where all
-    are, 7 where one is refused, 9 where the file or the program cannot be used."""
+    """Prints why each refused line of a file of joins is refused, what to look at in those that are accepted, and how many there
+    are of each. It gives the status: 0 where all are accepted, 7 where one is refused, 9 where the file or the program cannot be
+    used."""
     try:
         lines, unread = read_lines(pathlib.Path(file).read_bytes())
         verdicts, accepted = judge(lines, program or os.environ.get("PEQUOD") or "pequod")
     except (OSError, Unusable) as error:
         print(f"pequod check: {error}", file=sys.stderr)
         return UNUSABLE
-    refused = sorted([*unread, *verdicts], key=lambda verdict: verdict.line.number)
-    for verdict in refused:
-        print(f"{file}:{verdict.line.number}: {verdict.name}: {REASONS.get(verdict.name, 'refused')}")
+    refused = [*unread, *verdicts]
+    warned = [Verdict(line, "warning", note.sentence, [Note("", note.text, note.byte)])
+              for line in accepted.values() for note in warnings(read_join(line.text))]
+    for verdict in sorted([*refused, *warned], key=lambda verdict: verdict.line.number):
+        print(f"{file}:{verdict.line.number}: {verdict.name}: {verdict.sentence}")
         for note in verdict.notes:
             _print_note(note)
-    print(f"{accepted} accepted, {len(refused)} refused")
+    count = "" if not warned else f", {len(warned)} {'warning' if len(warned) == 1 else 'warnings'}"
+    print(f"{len(accepted)} accepted, {len(refused)} refused{count}")
     return FILE_REFUSED if refused else ACCEPTED
 
 
 def _print_note(note: Note) -> None:
-    print(f"  {note.sentence}")
+    if note.sentence:
+        print(f"  {note.sentence}")
     lines = (shown(note.text),) if note.byte is None else place(note.text, note.byte)
     for line in lines:
         print(f"    {line}")
@@ -85,12 +84,13 @@ def read_lines(content: bytes) -> tuple[list[Line], list[Verdict]]:
             lines.append(Line(number, line.decode()))
         except UnicodeDecodeError as error:
             text = line.decode("utf-8", "replace")
-            unread.append(Verdict(Line(number, text), "syntax", [Note(f"from byte {error.start} on it is no UTF-8", text)]))
+            note = Note(f"from byte {error.start} on it is no UTF-8", text)
+            unread.append(Verdict(Line(number, text), "syntax", REASONS["syntax"], [note]))
     return lines, unread
 
 
-def judge(lines: list[Line], program: str) -> tuple[list[Verdict], int]:
-    """The lines that are refused, each beside those before it that are accepted, and how many are accepted."""
+def judge(lines: list[Line], program: str) -> tuple[list[Verdict], dict[int, Line]]:
+    """The lines that are refused, each beside those before it that are accepted, and the accepted ones by their positions."""
     verdicts: list[Verdict] = []
     asked: list[Line] = []
     sent = b""
@@ -99,21 +99,26 @@ def judge(lines: list[Line], program: str) -> tuple[list[Verdict], int]:
             sent += join_request(line.text).line
             asked.append(line)
         except Refused:
-            verdicts.append(Verdict(line, "long"))
+            verdicts.append(Verdict(line, "long", REASONS["long"]))
     accepted: dict[int, Line] = {}
     for line, answer in zip(asked, _answers(program, sent, len(asked))):
         if isinstance(answer, Done):
             accepted[answer.position] = line
         elif isinstance(answer, Refused):
-            verdicts.append(Verdict(line, answer.name, list(_notes(line, answer, accepted))))
+            sentence = REASONS.get(answer.name, "refused")
+            verdicts.append(Verdict(line, answer.name, sentence, list(_notes(line, answer, accepted))))
         else:
             raise Unusable(f"{program}: no answer to line {line.number}")
-    return verdicts, len(accepted)
+    return verdicts, accepted
 
 
 def _answers(program: str, sent: bytes, count: int) -> list[Union[Answer, Refused, OutOfMemory]]:
     """What the program answers to these requests."""
-    ended = subprocess.run([program, "run"], input=sent, capture_output=True, check=False)
+    try:
+        ended = subprocess.run([program, "run"], input=sent, capture_output=True, check=False)
+    except OSError as error:
+        why = "is not there" if isinstance(error, FileNotFoundError) else f"cannot be run: {error.strerror}"
+        raise Unusable(f"the program {program} {why}; --program PATH or $PEQUOD names the one that was built") from None
     replies = ended.stdout.split(b"\n")[:-1]
     if ended.returncode != 0 or len(replies) != count:
         told = ended.stderr.decode("utf-8", "replace").strip()
@@ -124,18 +129,21 @@ def _answers(program: str, sent: bytes, count: int) -> list[Union[Answer, Refuse
         raise Unusable(f"{program}: {error}") from None
 
 
-def _notes(line: Line, refused: Refused, accepted: dict[int, Line]) -> Iterator[Note]:
-    """What the refusal names, and the joins at the positions that it names."""
+def _notes(line: Line, refused: Refused, accepted: Mapping[int, Line]) -> Iterator[Note]:
+    """What the refusal names: a place in the text, or the joins at the positions that it names."""
     if refused.name == "syntax":
-        byte = refused.details[0]
-        if byte == len(line.text.encode()):
-            what = "it ends too early"
-        else:
-            what = f"byte {byte} is not wanted there" if byte < 4_096 else "it has more than 4,096 bytes"
-        yield Note(what, line.text, byte)
+        byte, sentence = syntax_fault(line.text, refused.details[0])
+        yield Note(sentence, line.text, byte)
         return
-    if refused.name == "slots":
-        yield from slot_notes(line.text)
+    join = read_join(line.text)
+    if refused.name in ("slots", "sources"):
+        yield from slot_notes(join) if refused.name == "slots" else source_notes(join)
+        return
+    if refused.name == "cycle" and len(refused.details) == 1:
+        for source in join.sources:
+            if overlap(source.pattern, join.output):
+                yield Note(f"the join reads its own output: keys may fit both {join.output} and {source.pattern}", line.text,
+                           source.pattern.byte)
         return
     yield Note("the join", line.text)
     for position in refused.details:
@@ -144,44 +152,34 @@ def _notes(line: Line, refused: Refused, accepted: dict[int, Line]) -> Iterator[
             yield Note(f"and that of line {other.number}, at position {position}", other.text)
 
 
-@dataclass(frozen=True)
-class _Slot:
-    """A slot of a join's text: its name and width, and where it stands."""
-
-    name: str
-    width: str
-    byte: int
-    place: str
-
-    def __str__(self) -> str:
-        return f"<{self.name}{':' if self.width else ''}{self.width}>"
-
-
-def slot_notes(text: str) -> Iterator[Note]:
+def slot_notes(join: Join) -> Iterator[Note]:
     """What is wrong with the slots of a join."""
-    slots = list(_slots(text))
-    output = [slot for slot in slots if slot.place == "output"]
-    sources = [slot for slot in slots if slot.place != "output"]
+    output = join.output.slots
+    read = [slot for source in join.sources for slot in source.pattern.slots]
     for slot in output:
-        if slot.name not in {source.name for source in sources}:
-            yield Note(f"{slot} of the output occurs in no source", text, slot.byte)
-    widths: dict[str, _Slot] = {}
-    for slot in slots:
+        if slot.name not in {other.name for other in read}:
+            yield Note(f"{slot} of the output occurs in no source", join.text, slot.byte)
+    widths: dict[str, Slot] = {}
+    for slot in (*output, *read):
         first = widths.setdefault(slot.name, slot)
         if slot.width != first.width:
-            yield Note(f"{slot} has another width than {first}", text, slot.byte)
-    for slot in sources:
-        if slot.place == "copy" and slot.name not in {other.name for other in output}:
-            yield Note(f"{slot} of what is copied does not occur in the output", text, slot.byte)
+            yield Note(f"{slot} has another width than {first}", join.text, slot.byte)
+    for source in join.sources:
+        for slot in source.pattern.slots:
+            if source.operator == "copy" and slot.name not in {other.name for other in output}:
+                yield Note(f"{slot} of what is copied does not occur in the output", join.text, slot.byte)
 
 
-def _slots(text: str) -> Iterator[_Slot]:
-    """The slots of a text that is a join, each with the operator before its pattern, or `output`."""
-    place = "output"
-    for word in re.finditer("[^ ]+", text):
-        if "|" not in word.group():
-            place = word.group()
-            continue
-        for slot in SLOT.finditer(word.group()):
-            start = word.start() + slot.start()
-            yield _Slot(slot.group(1), slot.group(2) or "", len(text[:start].encode()), place)
+def source_notes(join: Join) -> Iterator[Note]:
+    """What is wrong with the number and the kinds of a join's sources."""
+    values, checks = join.values, [source for source in join.sources if source.operator == "check"]
+    if not values:
+        yield Note("it has no value source: one copy, count, sum, min or max", join.text, len(join.text.encode()))
+    for source in values[1:]:
+        yield Note(f"a second value source, beside {values[0]}", join.text, source.byte)
+    for source in checks[MAX_CHECKS:]:
+        yield Note(f"more than {MAX_CHECKS} checks", join.text, source.byte)
+    for value in values:
+        if value.operator in AGGREGATES and checks:
+            yield Note(f"a check beside {value.operator}, which takes none: let a join with the check make the pairs that it reads",
+                       join.text, checks[0].byte)

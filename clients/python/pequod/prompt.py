@@ -13,7 +13,7 @@ from typing import Optional, Union
 from .answers import Absent, Answer, Changes, Done, Found, Pairs
 from .client import Client, connect
 from .errors import OutOfMemory, PequodError, Refused, Restarted
-from .reasons import place, reason, width
+from .reasons import place, reason, syntax_fault, width
 from .wire import prefix_bounds
 
 HELP = """\
@@ -131,7 +131,10 @@ class Prompt:
 
     def _print_refusal(self, refused: Refused) -> None:
         if refused.name == "syntax" and refused.details:
-            print("\n".join(place(refused.key, refused.details[0])))
+            byte, sentence = syntax_fault(refused.key, refused.details[0])
+            print("\n".join(place(refused.key, byte)))
+            print(f"refused, syntax: {sentence}")
+            return
         at = "" if refused.position is None else f" (at position {refused.position})"
         print(f"refused, {reason(refused)}{at}")
 

@@ -3,8 +3,11 @@
 from __future__ import annotations
 
 import unicodedata
+from dataclasses import dataclass
+from typing import Optional
 
 from .errors import Refused
+from .joins import NoJoin, read_join
 
 REASONS = {
     "json": "the line is no JSON",
@@ -38,6 +41,26 @@ def reason(refused: Refused) -> str:
     if refused.name == "cycle":
         return f"{text}: positions {', '.join(map(str, refused.details))}"
     return text
+
+
+@dataclass(frozen=True)
+class Note:
+    """What is to be said of a text: a sentence, and the byte that it is about, where there is one."""
+
+    sentence: str
+    text: str
+    byte: Optional[int] = None
+
+
+def syntax_fault(text: str, byte: int) -> tuple[int, str]:
+    """What is wrong with a text of which the server says that it is no join from a byte on: the byte within that token, and a
+    sentence that says what is wanted there."""
+    try:
+        read_join(text)
+    except NoJoin as fault:
+        if fault.byte == byte:
+            return fault.at, fault.sentence
+    return byte, f"byte {byte} is not wanted there"
 
 
 def place(text: str, byte: int) -> tuple[str, str]:

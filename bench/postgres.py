@@ -1,6 +1,6 @@
 #!/usr/bin/env python3
-"""Measures `python3 -m pequod postgres` over loopback, with a PostgreSQL and a Pequod of its own: rows a second of a copy and of the
-stream, a beginning over 100,000 rows of which few differ, and how long after its commit a row is read, quiet and beside 1,000
+"""Measures `python3 -m pequod postgres` over loopback, with a PostgreSQL and a Pequod of its own: rows a second of a copy and of
+the stream, a beginning over 100,000 rows of which few differ, and how long after its commit a row is read, quiet and beside 1,000
 transactions of one row each second. Prints a line for each, with the load of the machine.
 
 Usage: bench/postgres.py PROGRAM
@@ -25,7 +25,8 @@ from serving import Server, want_program  # noqa: E402
 
 ROWS, PROBES, RATE, SECONDS = 100_000, 500, 1_000, 300
 TABLES = """
-create table post(id bigserial primary key, author text not null, created timestamptz not null, body text, unique (author, created));
+create table post(id bigserial primary key, author text not null, created timestamptz not null, body text,
+    unique (author, created));
 alter table post replica identity full;
 create table item(id int primary key, quantity numeric, note text);
 create publication pequod for table post, item;
@@ -87,7 +88,8 @@ class Measured:
 
     def measure_restart(self):
         self.bridge.kill()
-        self.cursor.execute(f"update post set body = body || '!' where id <= {ROWS // 100}; delete from post where id > {ROWS - 100}")
+        self.cursor.execute(f"update post set body = body || '!' where id <= {ROWS // 100}")
+        self.cursor.execute(f"delete from post where id > {ROWS - 100}")
         began = time.monotonic()
         self.bridge.start()
         self.wait()
@@ -110,7 +112,8 @@ class Measured:
         first = self.cursor.fetchone()[0]
         self.cursor.execute("set synchronous_commit = off")
         for start in range(first, first + rows, each):
-            self.cursor.execute("insert into item select i, i, 'note ' || i from generate_series(%s, %s) i", (start, start + each - 1))
+            rows = f"select i, i, 'note ' || i from generate_series({start}, {start + each - 1}) i"
+            self.cursor.execute(f"insert into item {rows}")
         self.cursor.execute("set synchronous_commit = on; create table if not exists other(); drop table other")
 
     def update(self):
@@ -119,7 +122,8 @@ class Measured:
     def measure_lag(self, rate):
         """Commits a row again and again, and measures until it is read, and until `wait_for` has returned."""
         is_over, seen, waited = threading.Event(), [], []
-        writers = [threading.Thread(target=self.write_steadily, args=(is_over, rate / 2, number)) for number in range(2 if rate else 0)]
+        count = 2 if rate else 0
+        writers = [threading.Thread(target=self.write_steadily, args=(is_over, rate / 2, number)) for number in range(count)]
         for writer in writers:
             writer.start()
         time.sleep(1)

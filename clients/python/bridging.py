@@ -1,5 +1,5 @@
-"""What tests of the bridge start: a private PostgreSQL, a Pequod and `python3 -m pequod postgres`. They are skipped where there is no
-PostgreSQL or no psycopg2, or Python is older than the command wants."""
+"""What tests of the bridge start: a private PostgreSQL, a Pequod and `python3 -m pequod postgres`. They are skipped where there is
+no PostgreSQL or no psycopg2, or Python is older than the command wants."""
 
 import contextlib
 import os

@@ -1,7 +1,7 @@
 """A PostgreSQL server of its own, in a folder that goes with it. It listens on loopback alone, and lets everybody in.
 
-PostgreSQL's programs are sought in the folder that PG_BIN names, in PATH, and where Debian has them. They refuse to run as root: then
-the user `postgres` runs them.
+PostgreSQL's programs are sought in the folder that PG_BIN names, in PATH, and where Debian has them. They refuse to run as root:
+then the user `postgres` runs them.
 """
 
 import contextlib
@@ -85,8 +85,7 @@ class PrivatePostgres:
         self.stop()
 
     def _run(self, program, *words):
-        done = subprocess.run(
-            [*self._as, f"{self._programs}/{program}", *words], cwd="/", stdout=subprocess.DEVNULL, stderr=subprocess.PIPE, check=False
-        )
+        line = [*self._as, f"{self._programs}/{program}", *words]
+        done = subprocess.run(line, cwd="/", stdout=subprocess.DEVNULL, stderr=subprocess.PIPE, check=False)
         if done.returncode:
             raise OSError(f"{program}: {done.stderr.decode(errors='replace')}")

@@ -33,7 +33,8 @@ class Begun(NamedTuple):
 ENDED = [
     Ended(T, "alter table t rename column a to c; insert into t values (2, 'z')", "8: public.t has no column a"),
     Ended(T, "alter table t drop column a; insert into t values (2, 'z')", "8: public.t has no column a"),
-    Ended(T, "alter table t drop column a; alter table t add a text generated always as (b || '!') stored; insert into t values (2, 'z')",
+    Ended(T, "alter table t drop column a; alter table t add a text generated always as (b || '!') stored; "
+          "insert into t values (2, 'z')",
           "8: a is a generated column, which the stream of changes leaves out"),
     Ended(T, "alter table t replica identity nothing; insert into t values (2, 'z')",
           "7: a change does not tell the old id: alter table public.t replica identity full"),

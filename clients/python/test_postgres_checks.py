@@ -7,7 +7,9 @@ import bridging
 from serving import Server
 
 T = "create table t(id int primary key, a text, b text); "
+FULL = "alter table t replica identity full; "
 PUBLISHED = "create publication pequod for table t"
+BY_ROOT = PUBLISHED + " with (publish_via_partition_root = true)"
 NO_INDEX = "two rows may have one key: {} hold no unique index that is valid, not partial and not deferrable"
 
 # What is done in the database, the key, the value, and what is told of which line: 6 is the table's, 7 its key's and 8 its value's.
@@ -28,7 +30,8 @@ REFUSED = [
      ["3: the publication leaves out changes: alter publication pequod set (publish = 'insert, update, delete, truncate')"]),
     ("a filter of rows", T + PUBLISHED + " where (id > 3)", "t|{id}", "{a}",
      ["6: it is published with a filter of rows, which a copy of the table would not heed"]),
-    ("a list of columns", T + "create publication pequod for table t (id, b)", "t|{id}", "{a}", ["6: it is published without its column a"]),
+    ("a list of columns", T + "create publication pequod for table t (id, b)", "t|{id}", "{a}",
+     ["6: it is published without its column a"]),
     ("a list with all that is mapped", T + "create publication pequod for table t (id, a)", "t|{id}", "{a}", []),
     ("for all tables", T + "create publication pequod for all tables", "t|{id}", "{a}", []),
     ("a schema's tables", T + "create publication pequod for tables in schema public", "t|{id}", "{a}", []),
@@ -37,25 +40,26 @@ REFUSED = [
     ("a number's format", T + PUBLISHED, "t|{id}", "{a:num3}", ["8: a is of type text, and num3 takes a whole number"]),
     ("a time's format", T + PUBLISHED, "t|{id:us16}", "{a:desc3}",
      ["7: id is of type integer, and us16 takes a time", "8: a is of type text, and desc3 takes a time or a whole number"]),
-    ("a domain's format", "create domain small as int check (value < 9); create table t(id small primary key, a text); " + PUBLISHED,
-     "t|{id:num1}", "{a}", []),
+    ("a domain's format", "create domain small as int check (value < 9); create table t(id small primary key, a text); "
+     + PUBLISHED, "t|{id:num1}", "{a}", []),
     ("values of several columns", T + PUBLISHED, "t|{id}", "{a} {b}",
      ["8: a is not told where a change leaves it as it is, so a value of several columns cannot be made: "
       "alter table public.t replica identity full"]),
     ("values of short columns", T + "alter table t add n int; " + PUBLISHED, "t|{id}", "{n} {id}", []),
-    ("no unique index", "create table t(id int, a text); alter table t replica identity full; " + PUBLISHED, "t|{id}", "{a}",
+    ("no unique index", "create table t(id int, a text); " + FULL + PUBLISHED, "t|{id}", "{a}",
      ["7: " + NO_INDEX.format("id")]),
-    ("less than the index", "create table t(a text, b text, primary key (a, b)); " + PUBLISHED, "t|{a}", "{b}", ["7: " + NO_INDEX.format("a")]),
-    ("a partial index", "create table t(a text, b text); create unique index on t(a) where b = ''; alter table t replica identity full; "
-     + PUBLISHED, "t|{a}", "{b}", ["7: " + NO_INDEX.format("a")]),
-    ("an index over an expression", "create table t(a text); create unique index on t(lower(a)); alter table t replica identity full; "
-     + PUBLISHED, "t|{a}", "1", ["7: " + NO_INDEX.format("a")]),
-    ("a deferrable index", "create table t(a int unique deferrable); alter table t replica identity full; " + PUBLISHED, "t|{a}", "1",
+    ("less than the index", "create table t(a text, b text, primary key (a, b)); " + PUBLISHED, "t|{a}", "{b}",
      ["7: " + NO_INDEX.format("a")]),
-    ("columns that an index includes", "create table t(a int, b int); create unique index on t(a, b) include (b); "
-     "create unique index on t(a) include (b); alter table t replica identity full; " + PUBLISHED, "t|{b}", "1", ["7: " + NO_INDEX.format("b")]),
+    ("a partial index", "create table t(a text, b text); create unique index on t(a) where b = ''; " + FULL + PUBLISHED,
+     "t|{a}", "{b}", ["7: " + NO_INDEX.format("a")]),
+    ("an index over an expression", "create table t(a text); create unique index on t(lower(a)); " + FULL + PUBLISHED, "t|{a}", "1",
+     ["7: " + NO_INDEX.format("a")]),
+    ("a deferrable index", "create table t(a int unique deferrable); " + FULL + PUBLISHED, "t|{a}", "1",
+     ["7: " + NO_INDEX.format("a")]),
+    ("columns that an index includes", "create table t(a int, b int); create unique index on t(a) include (b); " + FULL + PUBLISHED,
+     "t|{b}", "1", ["7: " + NO_INDEX.format("b")]),
     ("an index that includes more", "create table t(a int primary key, b int); create unique index on t(b) include (a); "
-     "alter table t replica identity full; " + PUBLISHED, "t|{b}", "1", []),
+     + FULL + PUBLISHED, "t|{b}", "1", []),
     ("no primary key", "create table t(a int not null unique); " + PUBLISHED, "t|{a}", "1",
      ["7: a change does not tell the old a: alter table public.t replica identity full"]),
     ("another key than the primary one", T + "create unique index on t(a); " + PUBLISHED, "t|{a}", "{b}",
@@ -68,12 +72,12 @@ REFUSED = [
     ("partitions one by one", "create table t(id int primary key) partition by range (id); " + PUBLISHED, "t|{id}", "1",
      ["6: it is not published: alter publication pequod add table public.t; "
       "alter publication pequod set (publish_via_partition_root = true)"]),
-    ("a partition that tells less", "create table t(id int primary key) partition by range (id); alter table t replica identity full; "
-     "create table t_1 partition of t for values from (0) to (9); " + PUBLISHED + " with (publish_via_partition_root = true)", "t|{id}", "1",
+    ("a partition that tells less", "create table t(id int primary key) partition by range (id); " + FULL
+     + "create table t_1 partition of t for values from (0) to (9); " + BY_ROOT, "t|{id}", "1",
      ["7: a partition has another replica identity than the table, so the old key of a row may not be told"]),
     ("a partition that tells more", "create table t(id int primary key) partition by range (id); "
-     "create table t_1 partition of t for values from (0) to (9); alter table t_1 replica identity full; "
-     + PUBLISHED + " with (publish_via_partition_root = true)", "t|{id}", "1", []),
+     "create table t_1 partition of t for values from (0) to (9); alter table t_1 replica identity full; " + BY_ROOT,
+     "t|{id}", "1", []),
 ]
 
 # The joins that stand, and what is told of which line.
@@ -83,7 +87,7 @@ JOINS = [
     ("keys that no row makes", ["v|<a> = copy w|<a>", "t|x|<a:3>|y = pull copy u|<a:3>"],
      ["7: the join at position 2 writes into Pequod's table 't' too"]),
     ("two", ["t|<a> = copy u|<a>", "t|<a>|<b> = copy v|<a>|<b>"],
-     ["7: the join at position 1 writes into Pequod's table 't' too", "7: the join at position 2 writes into Pequod's table 't' too"]),
+     [f"7: the join at position {position} writes into Pequod's table 't' too" for position in (1, 2)]),
     ("the longest", ["t|" + "|".join(f"<s{n}>" for n in range(15)) + " = copy u|" + "|".join(f"<s{n}>" for n in range(15))],
      ["7: the join at position 1 writes into Pequod's table 't' too"]),
     ("the bridge's table", ["pg|<a> = copy u|<a>"], ["5: the join at position 1 writes into the table 'pg'"]),
@@ -127,9 +131,10 @@ class Checks(bridging.Case):
     def test_the_privilege_that_is_wanted(self):
         self.cursor.execute(T + PUBLISHED)
         self.cursor.execute("create role poor login; grant usage on schema public to poor")
-        bridge = bridging.Bridge(bridging.mapping(self.database.dsn.replace("app", "poor"), self.server.port, {"public.t": ("t|{id}", "{a}")}))
+        dsn = self.database.dsn.replace("app", "poor")
+        bridge = bridging.Bridge(bridging.mapping(dsn, self.server.port, {"public.t": ("t|{id}", "{a}")}))
         self.addCleanup(bridge.stop)
-        bridge.wait_until_told("must be superuser or replication role to start walsender")
+        bridge.wait_until_told("begins anew: ")
         self.cursor.execute("alter role poor replication")
         self.assertEqual(bridge.status(), 7)
         self.assertEqual(bridge.told.splitlines()[-1], "FILE:2: permission denied for table t")
@@ -152,8 +157,8 @@ class Checks(bridging.Case):
         join = self.client.join("t|<a> = copy u|<a>").position
         self.cursor.execute("insert into t values (1, 'x')")
         self.assertEqual(bridge.status(), 7)
-        told = f"FILE:7: Pequod refuses the key 't|1': request 0 of the pipeline, put of 't|1': refused: computed at position {join}, {join}"
-        self.assertEqual(bridge.told.splitlines()[-1], told)
+        told = f"put of 't|1': refused: computed at position {join}, {join}"
+        self.assertEqual(bridge.told.splitlines()[-1], f"FILE:7: Pequod refuses the key 't|1': request 0 of the pipeline, {told}")
 
 
 if __name__ == "__main__":

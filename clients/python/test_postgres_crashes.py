@@ -70,7 +70,8 @@ def write_doc(cursor, draw):
     if kind < 0.3:
         cursor.execute("delete from doc where id = %s", (number,))
     elif kind < 0.4:
-        cursor.execute("update doc set id = %s where id = %s and not exists (select from doc where id = %s)", (number, number + 1, number))
+        free = "not exists (select from doc where id = %s)"
+        cursor.execute(f"update doc set id = %s where id = %s and {free}", (number, number + 1, number))
     elif kind < 0.5:
         cursor.execute("update doc set body = null where id between %s and %s", (number, number + 5))
     else:
@@ -215,9 +216,8 @@ class Whole(Case):
 
     def test_the_sum_of_accounts(self):
         def transfer(cursor, draw):
-            one, other = draw.sample(range(1, 11), 2)
-            cursor.execute("update account set amount = amount - 1 where id = %s; update account set amount = amount + 1 where id = %s",
-                           sorted([one, other]))
+            moves = "update account set amount = amount - 1 where id = %s; update account set amount = amount + 1 where id = %s"
+            cursor.execute(moves, sorted(draw.sample(range(1, 11), 2)))
 
         seen, end = [], time.monotonic() + 5
         with self.writers(transfer):

@@ -1,4 +1,5 @@
-"""Tests of the parts of the bridge that need no PostgreSQL: PEQUOD=path/of/the/built/program python3 -m unittest test_postgres_mapping"""
+"""Tests of the parts of the bridge that need no PostgreSQL: PEQUOD=path/of/the/built/program python3 -m unittest
+test_postgres_mapping"""
 
 import contextlib
 import io
@@ -56,8 +57,9 @@ REFUSED = [
     ("no key", 'key = "p|{author}|{created:us16}"\n', "", [(8, "key is missing")]),
     ("a further name", "value =", "values =", [(8, "value is missing"), (10, "a table has a key and a value, and no 'values'")]),
     ("the bridge's table", "p|{author}", "pg|{author}", [(9, "the table 'pg' is the bridge's own, for its marker")]),
-    ("a table as a column", "p|{author}", "{author}", [(9, "a key begins with the name of Pequod's table, and '{author}' is none: it "
-        "has 1 to 64 bytes, and no column, no brace, no < or >, no space and no control character")]),
+    ("a table as a column", "p|{author}", "{author}",
+     [(9, "a key begins with the name of Pequod's table, and '{author}' is none: it has 1 to 64 bytes, no column, no brace, "
+          "no < or >, no space and no control character")]),
     ("no bar", "p|{author}|{created:us16}", "p", [(9, "the key 'p' has no | after its table")]),
     ("no column", "p|{author}|{created:us16}", "p|x", [(9, "the key 'p|x' has no column, so all rows would have one key")]),
     ("an empty segment", "p|{author}", "p||{author}", [(9, "a segment of the key is empty")]),
@@ -87,7 +89,9 @@ MADE = [
 ]
 
 # A text, and what a row of these columns makes of it as a key, and as a value.
-ROW = {"a": "x", "n": "7", "none": None, "empty": "", "bar": "y|z", "long": "\u00e9" * 300, "huge": "x" * 65_537, "most": "x" * 65_536}
+ROW = {
+    "a": "x", "n": "7", "none": None, "empty": "", "bar": "y|z", "long": "\u00e9" * 300, "huge": "x" * 65_537, "most": "x" * 65_536,
+}
 PAIRS = [
     ("k|{a}", "k|x", "k|x"), ("k|{a}|lit|{n:num3}", "k|x|lit|007", "k|x|lit|007"), ("k|{{{a}}}", "k|{x}", "k|{x}"),
     ("k|{none}", "null", "null"), ("k|{empty}", "empty", "k|"), ("k|{empty}-", "k|-", "k|-"), ("k|{bar}", "bar", "k|y|z"),
@@ -138,11 +142,13 @@ class Mappings(unittest.TestCase):
         with tempfile.TemporaryDirectory() as folder:
             file = pathlib.Path(folder, "m.toml")
             file.write_text(GOOD, encoding="utf-8")
-            with unittest.mock.patch.dict(sys.modules, {"psycopg2": None, "pequod.postgres.database": None, "pequod.postgres.keeping": None}):
+            without = dict.fromkeys(("psycopg2", "pequod.postgres.database", "pequod.postgres.keeping"))
+            with unittest.mock.patch.dict(sys.modules, without):
                 status, told = self.told(file)
             self.assertEqual((status, told.partition(":")[0], "it wants psycopg2" in told), (9, "pequod postgres", True))
             with unittest.mock.patch("pequod.postgres.command.OLDEST_PYTHON", (99,)):
-                self.assertEqual(self.told(file), (9, "pequod postgres: it wants Python 3.11 or later, whose tomllib reads the mapping\n"))
+                wanted = "pequod postgres: it wants Python 3.11 or later, whose tomllib reads the mapping\n"
+                self.assertEqual(self.told(file), (9, wanted))
 
     def told(self, file):
         """The status of the command, and what it tells on standard error."""
@@ -184,7 +190,7 @@ class Places(unittest.TestCase):
         self.assertEqual(str(Mark(0x1_0000_0010, 7)), "1/10 7")
 
     def test_the_start_of_a_page(self):
-        """Where the log ends, with pages of 8,192 bytes and segments of 16 megabytes: behind the header of a page no record ends."""
+        """Where the log ends, with pages of 8,192 bytes and segments of 16 megabytes: behind a page's header no record ends."""
         for place, wanted in (0x2000, 0x2000), (0x2018, 0x2000), (0x2020, 0x2020), (0x2028, 0x2028), (0x1000028, 0x1000000):
             cursor = unittest.mock.Mock(**{"fetchone.return_value": (f"0/{place:X}", 8192, 2**24)})
             self.assertEqual(committed_place(cursor), wanted)
@@ -198,13 +204,15 @@ def number(value, size):
 
 def relation(oid, name, *columns):
     """A message as PostgreSQL's manual has it: columns with a + before their names are in the identity."""
-    told = b"".join(number(name[0] == "+", 1) + name.lstrip("+").encode() + b"\0" + number(25, 4) + number(2**32 - 1, 4) for name in columns)
-    return b"R" + number(oid, 4) + b"public\0" + name.encode() + b"\0d" + number(len(columns), 2) + told
+    kind = number(25, 4) + number(2**32 - 1, 4)
+    told = [number(column[0] == "+", 1) + column.lstrip("+").encode() + b"\0" + kind for column in columns]
+    return b"R" + number(oid, 4) + b"public\0" + name.encode() + b"\0d" + number(len(columns), 2) + b"".join(told)
 
 
 def row(*texts):
     """A row: texts, None for NULL, and ... for a column that is not told."""
-    told = [b"n" if text is None else b"u" if text is ... else b"t" + number(len(text.encode()), 4) + text.encode() for text in texts]
+    kinds = {None: b"n", ...: b"u"}
+    told = [kinds[text] if text in kinds else b"t" + number(len(text.encode()), 4) + text.encode() for text in texts]
     return number(len(texts), 2) + b"".join(told)
 
 
@@ -236,7 +244,8 @@ class Writes(Case):
 
     def setUp(self):
         super().setUp()
-        self.writer = Writer(self.client)
+        self.said = []
+        self.writer = Writer(self.client, self.said.append)
 
     def put(self, *keys):
         for key in keys:
@@ -288,6 +297,7 @@ class Writes(Case):
         self.writer.end_transaction(0x10)
         self.writer.put("k|a", "4")
         self.writer.send()
+        self.assertEqual(self.said, ["Pequod finds no memory for a write, and is asked again"])
         self.assertEqual(dict(self.client.scan("k|", "k}")), {"k|a": "4", "k|b": "3", "k|c": "1"})
         self.assertIsNone(self.marker())
         self.writer.end_transaction(0x20)

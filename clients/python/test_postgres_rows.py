@@ -54,7 +54,8 @@ CASES = [
     Rows("the key changes", PLAIN, "T|{id}", "{a}", [
         ("insert into T values (1, 'x'), (2, 'y')", {"1": "x", "2": "y"}),
         ("update T set id = 3 where id = 1", {"2": "y", "3": "x"}),
-        ("update T set id = -1 where id = 2; update T set id = 2 where id = 3; update T set id = 3 where id = -1", {"2": "x", "3": "y"}),
+        ("update T set id = -1 where id = 2; update T set id = 2 where id = 3; update T set id = 3 where id = -1",
+         {"2": "x", "3": "y"}),
         ("update T set id = id + 10, a = a || '!'", {"12": "x!", "13": "y!"}),
         ("delete from T where id = 12; insert into T values (12, 'new')", {"12": "new", "13": "y!"}),
     ]),
@@ -116,7 +117,10 @@ CASES = [
         ("update T set b = 'c'", {"1": big("x") + ", {c}"}),
         ("update T set id = 2, b = 'd'", {"2": big("x") + ", {d}"}),
     ]),
-    Rows("no value", PLAIN, "T|{id}", "1", [("insert into T values (1), (2)", {"1": "1", "2": "1"}), ("delete from T where id = 1", {"2": "1"})]),
+    Rows("no value", PLAIN, "T|{id}", "1", [
+        ("insert into T values (1), (2)", {"1": "1", "2": "1"}),
+        ("delete from T where id = 1", {"2": "1"}),
+    ]),
     Rows("rows that make no pair, by the value", PLAIN, "T|{id}", "{a}", [
         ("insert into T values (1, null), (2, repeat('x', 65536)), (3, repeat('x', 65537)), (4, '')", {"2": "x" * 65_536, "4": ""}),
         ("update T set a = 'there' where id = 1; update T set a = null where id = 4", {"1": "there", "2": "x" * 65_536}),
@@ -141,7 +145,8 @@ CASES = [
     Rows("numbers", "create table T(id bigint primary key, n numeric)", "T|{id:num6}|{id:desc6}", "{n:num3}", [
         ("insert into T values (0, 7), (42, 0), (999999, 999), (1000000, 1), (-1, 1), (1, 1000), (2, 1.5), (3, 'NaN'), (4, -1)",
          {"000000|999999": "007", "000042|999957": "000", "999999|000000": "999"}),
-        ("update T set id = 43 where id = 42; update T set id = 1000001 where id = 0", {"000043|999956": "000", "999999|000000": "999"}),
+        ("update T set id = 43 where id = 42; update T set id = 1000001 where id = 0",
+         {"000043|999956": "000", "999999|000000": "999"}),
     ], {"width": 5, "number": 2}),
     Rows("times", "create table T(t timestamptz primary key, s timestamp, d date)", "T|{t:us16}|{t:desc16}", "{s:us16} {d:us16}", [
         ("insert into T values ('2026-01-02 03:04:05.5+01', '2026-01-02 03:04:05.000001', '2026-01-02')",
@@ -149,7 +154,8 @@ CASES = [
         ("insert into T values ('infinity', now(), now()), ('1969-12-31', now(), now()), ('2286-11-20 17:46:40+00', now(), now()), "
          "('20000-01-01', now(), now()), ('0044-03-15 BC', now(), now())",
          {"1767319445500000|8232680554499999": "1767323045000001 1767312000000000"}),
-        ("update T set t = '1970-01-01+00', s = '1970-01-01 00:00:01' where t = '2026-01-02 03:04:05.5+01'; delete from T where d > '2026-01-03'",
+        ("update T set t = '1970-01-01+00', s = '1970-01-01 00:00:01' where t = '2026-01-02 03:04:05.5+01'; "
+         "delete from T where d > '2026-01-03'",
          {"0000000000000000|9999999999999999": "0000000001000000 1767312000000000"}),
     ], {"time": 3, "width": 2}),
     Rows("a segment of two columns", "create table T(d int, n int, a text, primary key (d, n))", "T|x{d:num2}-{n}", "{a}", [

@@ -24,6 +24,7 @@ import recipes  # noqa: E402
 from pequod import aio  # noqa: E402
 from serving import HOST, PROGRAM, Case, Server, want_program as setUpModule  # noqa: E402, F401
 
+FORUM = FOLDER.parent / "forum"
 DOCUMENT = FOLDER.parent.parent / "docs" / "COOKBOOK.md"
 
 
@@ -58,6 +59,14 @@ class Files(unittest.TestCase):
                 for block in blocks[1 if joins_of(recipe) else 0 :]:
                     self.check_lines(block, lines_of(f"{recipe}.requests"), lines_of(f"{recipe}.replies"))
         self.assertEqual(sorted(named), sorted(file.stem for file in FOLDER.glob("*.requests")))
+
+    def test_the_first_recipe_shows_what_the_forum_has(self):
+        section = DOCUMENT.read_text(encoding="utf-8").split("\n## ")[1]
+        files = "\n".join(file.read_text(encoding="utf-8") for file in sorted(FORUM.iterdir()) if file.is_file())
+        lines = [line for block in re.findall(r"```\n(.*?)```", section, re.S) for line in block.splitlines()]
+        self.assertGreater(len(lines), 10)
+        for line in lines:
+            self.assertIn(line, files)
 
     def check_lines(self, block, requests, replies):
         """Each line of a block is a request or a reply, and a reply behind a request answers that one."""

@@ -10,8 +10,9 @@ def page(title, *parts, me=None, badge="0", is_late=False):
     """A whole page."""
     home = f'<a href="/{me}">{me}</a> <b id=badge>{html.escape(badge)}</b>' if me else ""
     body = "\n".join([LATE if is_late else "", *parts])
-    return (f'<!doctype html><html lang=en><meta charset=utf-8><title>{html.escape(title)}</title><link rel=stylesheet href="/style.css">'
-            f'<header><a href="/">Forum</a> {home}</header><main><h1>{html.escape(title)}</h1>\n{body}\n</main></html>')
+    return (f'<!doctype html><html lang=en><meta charset=utf-8><title>{html.escape(title)}</title>'
+            f'<link rel=stylesheet href="/style.css"><header><a href="/">Forum</a> {home}</header>'
+            f"<main><h1>{html.escape(title)}</h1>\n{body}\n</main></html>")
 
 
 def field(name, limit, rows=0):
@@ -40,7 +41,8 @@ def threads(title, found, me, what):
 
 def front(latest):
     """The page for everybody."""
-    enter = '<form action="/" method=get><input name=me pattern="[a-z][a-z0-9_]*" maxlength=20 required><button>Enter</button></form>'
+    name = '<input name=me pattern="[a-z][a-z0-9_]*" maxlength=20 required>'
+    enter = f'<form action="/" method=get>{name}<button>Enter</button></form>'
     return page("Forum", enter, threads("Latest", latest, None, "messages"))
 
 

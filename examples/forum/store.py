@@ -102,7 +102,9 @@ class Forum:
         """What a member sees first: how many messages are not read in all, the threads that the member watches, each with how many
         are not, and what friends began, the newest first."""
         badge, mine, feed = self._read(f"badge|{me}", f"mine|{me}|", f"feed|{me}|")
-        watched = threads_of((thread, part, "".join(author[:1]), text) for key, text in mine for _, _, thread, part, *author in [key.split("|")])
+        # The key of a title has the author behind the part's name, and that of a count has nothing there.
+        parts = [(*key.split("|"), "")[2:5] + (text,) for key, text in mine]
+        watched = threads_of(parts)
         began = [Thread(int(thread), author, title, "") for key, title in feed for _, _, _, author, thread in [key.split("|")]]
         return dict(badge).get(f"badge|{me}", "0"), watched, began
 

@@ -1,5 +1,5 @@
-"""Tries the forum with all its parts, as a browser would: PEQUOD=/path/of/pequod python3 -m unittest test_forum, in this folder. It is
-skipped where there is no PostgreSQL or no psycopg2."""
+"""Tries the forum with all its parts, as a browser would: PEQUOD=/path/of/pequod python3 -m unittest test_forum, in this folder. It
+is skipped where there is no PostgreSQL or no psycopg2."""
 
 import pathlib
 import re
@@ -88,8 +88,9 @@ class Forum(unittest.TestCase):
         for place, fields in (("ANN", {}), ("ann/1/2", {}), ("no/page/there/is", {})):
             self.assertEqual(self.ask(place, **fields)[0], 404)
         for place, fields in (
-            ("ann/start", {"title": " ", "text": "x"}), ("ann/befriend", {"other": "ann"}), ("ann/befriend", {"other": "A|B"}),
-            ("ann/1/vote", {"number": "1", "amount": "5"}), ("ann/vote", {"number": "1", "amount": "1"}), ("AN/start", {"title": "x", "text": "y"}),
+            ("ann/start", {"title": " ", "text": "x"}), ("AN/start", {"title": "x", "text": "y"}),
+            ("ann/befriend", {"other": "ann"}), ("ann/befriend", {"other": "A|B"}),
+            ("ann/1/vote", {"number": "1", "amount": "5"}), ("ann/vote", {"number": "1", "amount": "1"}),
         ):
             self.assertEqual(self.ask(place, **fields)[0], 400)
         self.assertEqual(self.ask("ann/77/reply", text="to nothing")[0], 503)

@@ -49,7 +49,7 @@ class Bridge:
         self._client = client
         self._say = say
         self._skipped = Skipped(say)
-        self._writer = Writer(client)
+        self._writer = Writer(client, say)
         self._catalogue = self._check()
         self._tables = _by_number(mapping, self._catalogue)
         self._decoder = Decoder(self._wanted)

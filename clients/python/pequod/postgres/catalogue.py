@@ -23,8 +23,7 @@ _COLUMNS = """select a.attname::text, a.attnum, coalesce(nullif(t.typbasetype, 0
     where a.attrelid = %s and a.attnum > 0 and not a.attisdropped and a.attname::text = any(%s) order by a.attnum"""
 _INDEXES = """select i.indisprimary, i.indisreplident, i.indimmediate, array(select a.attname::text from pg_attribute a
     where a.attrelid = i.indrelid and a.attnum = any((i.indkey::int2[])[0:i.indnkeyatts - 1]))
-    from pg_index i where i.indrelid = %s and i.indisunique and i.indisvalid and i.indpred is null and i.indexprs is null
-    order by i.indexrelid"""
+    from pg_index i where i.indrelid = %s and i.indisunique and i.indisvalid and i.indpred is null and i.indexprs is null"""
 _LEAVES = """select c.oid::int8, c.relreplident::text, pg_relation_filenode(c.oid)::int8
     from pg_partition_tree(%s::oid) t join pg_class c on c.oid = t.relid where t.isleaf order by 1"""
 _PUBLICATION = """select pubinsert and pubupdate and pubdelete and pubtruncate from pg_publication where pubname = %s"""
@@ -95,7 +94,7 @@ class Table:
     identity: str
     has_children: bool
     columns: tuple[Column, ...]
-    indexes: tuple[Index, ...]
+    indexes: frozenset[Index]
     leaves: tuple[Leaf, ...]
     published: Optional[Published]
 
@@ -148,7 +147,7 @@ def _read_table(ask: Ask, publication: str, table: TableMapping, version: int) -
     leaves = ask(_LEAVES, (number,)) if kind == "p" else []
     return Table(
         number, kind, told, has_children, tuple(Column(*row) for row in columns),
-        tuple(Index(primary, identity, at_once, frozenset(names)) for primary, identity, at_once, names in indexes),
+        frozenset(Index(primary, identity, at_once, frozenset(names)) for primary, identity, at_once, names in indexes),
         tuple(Leaf(*row) for row in leaves), _read_published(ask, publication, table, version),
     )
 

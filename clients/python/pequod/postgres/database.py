@@ -1,4 +1,4 @@
-"""The connections to PostgreSQL: one that asks and holds the bridge's lock, and one that streams. `psycopg2` is named here alone."""
+"""The connections to PostgreSQL: one asks and holds the bridge's lock, and one streams. `psycopg2` is named here alone."""
 
 from __future__ import annotations
 

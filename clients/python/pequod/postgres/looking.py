@@ -1,7 +1,7 @@
 """A look at what else was written into the mapped tables, after a beginning.
 
-A bridge that was ended, or that lost its link, may have left lines with the server that are answered later: after the next bridge has
-compared the pairs with the rows. So that one looks what changed since then, and whether it was its own writes.
+A bridge that was ended, or that lost its link, may have left lines with the server that are answered later: after the next bridge
+has compared the pairs with the rows. So that one looks what changed since then, and whether it was its own writes.
 """
 
 from __future__ import annotations
@@ -13,7 +13,7 @@ from ..errors import Gone
 from .mapping import TableMapping
 
 MOST_NOTED = 50_000
-"""Of how many keys it is noted what was written. With more the position may be out of reach of `changes`, and nothing is looked at."""
+"""Of how many keys it is noted what was written. With more the position may be out of reach of `changes`, and nobody looks."""
 
 
 class OwnWrites:

@@ -1,4 +1,4 @@
-"""The marker: a pair that says up to where in PostgreSQL's log, and at which position of Pequod's history, whole transactions stand.
+"""The marker: a pair that says up to where in PostgreSQL's log whole transactions stand, and at which position of the history.
 
 All transactions whose commits lie at or before the place in the log stand at the position, and none of a later one does. So scans
 at that position see each transaction whole, and who knows where a commit lies in the log knows when it may be read.

@@ -118,7 +118,7 @@ class KeyTemplate:
 def _read_table(segment: str) -> str:
     if not 1 <= len(segment.encode()) <= MAX_TABLE_BYTES or "{" in segment or "}" in segment or _NO_LITERAL.search(segment):
         raise ValueError(
-            f"a key begins with the name of Pequod's table, and {segment!r} is none: it has 1 to 64 bytes, and no column, no brace, "
+            f"a key begins with the name of Pequod's table, and {segment!r} is none: it has 1 to 64 bytes, no column, no brace, "
             "no < or >, no space and no control character"
         )
     return segment

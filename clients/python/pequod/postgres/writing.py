@@ -3,7 +3,7 @@
 from __future__ import annotations
 
 import time
-from typing import Optional
+from typing import Callable, Optional
 
 from ..answers import Done
 from ..client import Client
@@ -37,8 +37,10 @@ class Writer:
     The marker is put when all up to it was acknowledged. It has the position of the last write of a transaction, and not of one
     within the next, so a reader at that position sees no part of a transaction."""
 
-    def __init__(self, client: Client) -> None:
+    def __init__(self, client: Client, say: Callable[[str], None]) -> None:
+        """`say` prints a line."""
         self._client = client
+        self._say = say
         self._pending: list[Write] = []
         self._ended: Optional[tuple[int, int]] = None
         self._done = client.get(MARKER_KEY).position
@@ -120,6 +122,8 @@ class Writer:
             error = answers[bad].error()
             if not isinstance(error, OutOfMemory):
                 raise WriteRefused(writes[bad][0], error or PequodError())
+            if is_first:
+                self._say("Pequod finds no memory for a write, and is asked again")
             time.sleep(MEMORY_PAUSE)
             is_first, writes = False, writes[bad:]
             answers = self._exchange(writes)

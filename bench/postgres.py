@@ -39,7 +39,7 @@ STREAMS = (("one transaction", 50_000, 50_000), ("transactions of 10", 10, 30_00
 
 
 def say(what, figures):
-    print(f"{what:62} {figures:72} load {os.getloadavg()[0]:.1f}", flush=True)
+    print(f"{what:64} {figures:86} load {os.getloadavg()[0]:.1f}", flush=True)
 
 
 def spread(seconds):
@@ -49,11 +49,16 @@ def spread(seconds):
     return f"p50 {middle:.1f} ms, p99 {high:.1f} ms, most {most:.1f} ms"
 
 
+def processor_time(process):
+    fields = pathlib.Path(f"/proc/{process.pid}/stat").read_text(encoding="ascii").rpartition(")")[2].split()
+    return (int(fields[11]) + int(fields[12])) / os.sysconf("SC_CLK_TCK")
+
+
 class Measured:
     """A database, a server and a bridge between them."""
 
     def __init__(self, database, server):
-        self.database, self.beginnings = database, 0
+        self.database, self.server, self.beginnings = database, server, 0
         self.client = server.connect(SECONDS)
         self.cursor = self.connect()
         self.cursor.execute(TABLES.format(rows=ROWS))
@@ -75,16 +80,19 @@ class Measured:
         rows, seconds, writes = told[-1]
         return int(rows), float(seconds), int(writes)
 
-    def own_seconds(self):
-        """The processor time that the bridge has used."""
-        fields = pathlib.Path(f"/proc/{self.bridge.process.pid}/stat").read_text(encoding="ascii").rpartition(")")[2].split()
-        return (int(fields[11]) + int(fields[12])) / os.sysconf("SC_CLK_TCK")
+    def used(self):
+        """The processor time that the bridge and Pequod have used, in seconds."""
+        return processor_time(self.bridge.process), processor_time(self.server.process)
+
+    def used_a_row(self, before, rows):
+        """Says how much processor time both used since then, for each of so many rows."""
+        bridge, server = ((now - then) / rows * 1e6 for now, then in zip(self.used(), before))
+        return f"processor time a row: bridge {bridge:.0f} us, Pequod {server:.0f} us"
 
     def measure_copy(self):
         self.wait()
         rows, seconds, _ = self.copied()
-        own = f"{self.own_seconds() / rows * 1e6:.0f} us of its processor time a row"
-        say(f"a copy of {rows:,} rows", f"{rows / seconds:,.0f} rows a second, {own}")
+        say(f"a copy of {rows:,} rows", f"{rows / seconds:,.0f} rows a second, {self.used_a_row((0, 0), rows)}")
 
     def measure_restart(self):
         self.bridge.kill()
@@ -94,18 +102,18 @@ class Measured:
         self.bridge.start()
         self.wait()
         seconds, (rows, of_copy, writes) = time.monotonic() - began, self.copied()
-        own = f"{self.own_seconds():.2f} s of its processor time"
+        own = f"processor time of the bridge: {self.used()[0]:.2f} s"
         say(f"a beginning over {rows:,} rows, {writes:,} writes", f"{seconds:.2f} s, of which the copy {of_copy:.2f} s, {own}")
 
     def measure_stream(self, what, rows, write):
         """Has the bridge stand still while all is written, and measures how long it takes then."""
         self.bridge.process.send_signal(signal.SIGSTOP)
         write()
-        before, began = self.own_seconds(), time.monotonic()
+        before, began = self.used(), time.monotonic()
         self.bridge.process.send_signal(signal.SIGCONT)
         self.wait()
-        seconds, own = time.monotonic() - began, self.own_seconds() - before
-        say(f"the stream, {what}", f"{rows / seconds:,.0f} rows a second, {own / rows * 1e6:.0f} us of its processor time a row")
+        seconds = time.monotonic() - began
+        say(f"the stream, {what}", f"{rows / seconds:,.0f} rows a second, {self.used_a_row(before, rows)}")
 
     def insert(self, each, rows):
         self.cursor.execute("select coalesce(max(id), 0) + 1 from item")
@@ -157,7 +165,8 @@ class Measured:
 def main():
     want_program()
     joins = str(FOLDER / "examples" / "timeline" / "timeline.joins")
-    with PrivatePostgres() as database, Server("--workers", "8", "--joins", joins) as server:
+    # A bridge that stands still for long is not to be let go.
+    with PrivatePostgres("wal_sender_timeout = 0") as database, Server("--workers", "8", "--joins", joins) as server:
         measured = Measured(database, server)
         with measured.bridge:
             measured.measure_copy()

@@ -63,9 +63,9 @@ class Ways(bridging.Case):
         """Has the last record of the log end where a page ends, which 1 of 1,000 does by itself."""
         for length in range(8, 8192, 8):
             self.cursor.execute("select pg_current_wal_insert_lsn()::text")
-            place = int(self.cursor.fetchone()[0].partition("/")[2], 16)
-            left = 8192 - place % 8192
-            if place % 8192 == 24:
+            lsn = int(self.cursor.fetchone()[0].partition("/")[2], 16)
+            left = 8192 - lsn % 8192
+            if lsn % 8192 == 24:
                 return True
             size = left - length if left > length + 64 else 8
             self.cursor.execute("select pg_logical_emit_message(false, 'x', repeat('x', %s))", (max(size, 1),))

@@ -176,7 +176,7 @@ class Ends(Case):
     def test_a_database_that_was_set_back(self):
         self.client.put("pg|at", "FFFFFFFF/0 1")
         self.bridge(DOC).wait_until_told("copied")
-        self.assertLess(read_mark(self.client).place, 2**60)
+        self.assertLess(read_mark(self.client).lsn, 2**60)
         self.expect_equal("doc", OF_DOCS)
 
     def test_others_write_much(self):

@@ -13,11 +13,11 @@ from pequod.__main__ import main
 from pequod.errors import OutOfMemory
 from pequod.postgres.formats import NoPair, read_format
 from pequod.postgres.mapping import MappingRefused, read_mapping
-from pequod.postgres.marks import Mark, place_text, read_place
+from pequod.postgres.marks import Mark, lsn_text, read_lsn
 from pequod.postgres.pgoutput import Begin, Commit, Decoder, Deleted, Inserted, Relation, Truncated, Updated
-from pequod.postgres.places import Lines
+from pequod.postgres.toml_lines import Lines
 from pequod.postgres.templates import KeyTemplate, Untold, ValueTemplate
-from pequod.postgres.waiting import committed_place
+from pequod.postgres.waiting import committed_lsn
 from pequod.postgres.writing import Writer
 from serving import Case, want_program
 
@@ -180,22 +180,22 @@ class Templates(unittest.TestCase):
             return "untold"
 
 
-class Places(unittest.TestCase):
+class Lsns(unittest.TestCase):
     def test_texts(self):
-        for text, place in ("0/0", 0), ("16/B374D848", (0x16 << 32) + 0xB374D848), ("FFFFFFFF/FFFFFFFF", 2**64 - 1):
-            self.assertEqual((read_place(text), place_text(place)), (place, text))
+        for text, lsn in ("0/0", 0), ("16/B374D848", (0x16 << 32) + 0xB374D848), ("FFFFFFFF/FFFFFFFF", 2**64 - 1):
+            self.assertEqual((read_lsn(text), lsn_text(lsn)), (lsn, text))
         for text in "", "0", "0/", "0/123456789", "0/x", "0/0 ", "-1/0":
             with self.assertRaises(ValueError):
-                read_place(text)
+                read_lsn(text)
         self.assertEqual(str(Mark(0x1_0000_0010, 7)), "1/10 7")
 
     def test_the_start_of_a_page(self):
         """Where the log ends, with pages of 8,192 bytes and segments of 16 megabytes: behind a page's header no record ends."""
-        for place, wanted in (0x2000, 0x2000), (0x2018, 0x2000), (0x2020, 0x2020), (0x2028, 0x2028), (0x1000028, 0x1000000):
-            cursor = unittest.mock.Mock(**{"fetchone.return_value": (f"0/{place:X}", 8192, 2**24)})
-            self.assertEqual(committed_place(cursor), wanted)
-            cursor = unittest.mock.Mock(**{"fetchone.return_value": {"a": f"0/{place:X}", "b": 8192, "c": 2**24}})
-            self.assertEqual(committed_place(cursor), wanted)
+        for lsn, wanted in (0x2000, 0x2000), (0x2018, 0x2000), (0x2020, 0x2020), (0x2028, 0x2028), (0x1000028, 0x1000000):
+            cursor = unittest.mock.Mock(**{"fetchone.return_value": (f"0/{lsn:X}", 8192, 2**24)})
+            self.assertEqual(committed_lsn(cursor), wanted)
+            cursor = unittest.mock.Mock(**{"fetchone.return_value": {"a": f"0/{lsn:X}", "b": 8192, "c": 2**24}})
+            self.assertEqual(committed_lsn(cursor), wanted)
 
 
 def number(value, size):

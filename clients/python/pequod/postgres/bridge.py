@@ -17,7 +17,7 @@ from .copying import copy_table
 from .database import Database
 from .following import CopyNeeded, Follower
 from .mapping import Mapping, MappingRefused, TableMapping
-from .marks import MARKER_KEY, SKIPPED_KEY, Mark, place_text, read_mark
+from .marks import MARKER_KEY, SKIPPED_KEY, Mark, lsn_text, read_mark
 from .pgoutput import Begin, Commit, Decoder, Event, Relation
 from .skipping import Skipped
 from .writing import BATCH, Writer
@@ -66,7 +66,7 @@ class Bridge:
         files = read_files(database.ask, self._mapping)
         slot = database.make_slot()
         earlier = read_mark(self._client)
-        if earlier is not None and earlier.place > slot.place:
+        if earlier is not None and earlier.lsn > slot.lsn:
             self._client.remove(MARKER_KEY)     # the database was set back
         database.begin_snapshot(slot)
         rows = sum(copy_table(database, self._client, table, self._writer, self._skipped) for table in self._mapping.tables)
@@ -74,11 +74,11 @@ class Bridge:
         if read_files(database.ask, self._mapping) != files:
             raise CopyNeeded("a table was truncated or written anew while it was copied")
         self._look_for_strangers()
-        self._last = slot.place
+        self._last = slot.lsn
         self._tell_skipped()
-        self._writer.put_mark(Mark(slot.place, self._client.position))
+        self._writer.put_mark(Mark(slot.lsn, self._client.position))
         self._say(f"copied {rows} rows in {time.monotonic() - began:.2f} s, by {self._writer.written} writes, "
-                  f"up to {place_text(slot.place)}")
+                  f"up to {lsn_text(slot.lsn)}")
         database.begin_stream(slot, self._mapping.publication)
         self._next_check = time.monotonic() + CHECK_SECONDS
 
@@ -104,8 +104,8 @@ class Bridge:
         if isinstance(event, Begin):
             self._is_open = True
         elif isinstance(event, Commit):
-            self._is_open, self._last = False, event.place
-            self._writer.end_transaction(event.place)
+            self._is_open, self._last = False, event.lsn
+            self._writer.end_transaction(event.lsn)
         elif isinstance(event, Relation):
             self._look_again(event)
         else:
@@ -116,8 +116,8 @@ class Bridge:
         if not self._writer.is_idle:
             self._write()
         elif not self._is_open:
-            self._last = max(self._last, self._database.told_place)
-            if self._last > self._writer.mark.place:
+            self._last = max(self._last, self._database.told_lsn)
+            if self._last > self._writer.mark.lsn:
                 wait = self._marked_at + MARK_SECONDS - time.monotonic()
                 if wait > 0:
                     return wait
@@ -131,7 +131,7 @@ class Bridge:
         before = self._writer.mark
         self._writer.send()
         if self._writer.mark != before:
-            self._database.confirm(self._writer.mark.place)
+            self._database.confirm(self._writer.mark.lsn)
             self._marked_at = time.monotonic()
 
     def _do_what_is_due(self) -> None:
@@ -145,7 +145,7 @@ class Bridge:
             self._marked_at = time.monotonic()
             position = self._client.get(MARKER_KEY).position
             if position > self._writer.mark.position + FAR_BACK:
-                self._writer.put_mark(Mark(self._writer.mark.place, position))
+                self._writer.put_mark(Mark(self._writer.mark.lsn, position))
 
     def _look_for_strangers(self) -> None:
         """Looks whether somebody else wrote into a mapped table, and if so has the tables copied again."""

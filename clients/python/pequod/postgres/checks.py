@@ -37,7 +37,7 @@ def _of_server(catalogue: Catalogue) -> Iterator[str]:
     if server.encoding == ENCODING_WITHOUT_RULES:
         yield f"the database has the encoding {server.encoding}, by which a text may be none"
     if server.is_standby:
-        yield "the server is a standby, which knows no place in the log where its next commit would be"
+        yield "the server is a standby, which has no LSN of a next commit"
 
 
 def _of_publication(mapping: Mapping, catalogue: Catalogue) -> Iterator[str]:

@@ -11,7 +11,7 @@ import psycopg2  # type: ignore[import]
 import psycopg2.extensions  # type: ignore[import]
 import psycopg2.extras  # type: ignore[import]
 
-from .marks import read_place
+from .marks import read_lsn
 from .pgoutput import PLUGIN
 
 PostgresError: type[Exception] = psycopg2.Error
@@ -36,10 +36,10 @@ STATUS_SECONDS = 5
 
 
 class Slot(NamedTuple):
-    """A place in the log at which the stream begins, and the name of the snapshot that has all before it."""
+    """The LSN at which the stream begins, and the name of the snapshot that has all before it."""
 
     name: str
-    place: int
+    lsn: int
     snapshot: str
 
 
@@ -87,8 +87,8 @@ class Database:
         transaction that writes now has ended. The snapshot can be taken until the stream begins."""
         name = f"pequod_{secrets.token_hex(8)}"
         self._stream.execute(f"CREATE_REPLICATION_SLOT {name} TEMPORARY LOGICAL {PLUGIN} EXPORT_SNAPSHOT")
-        _, place, snapshot, _ = self._stream.fetchone()
-        return Slot(name, read_place(place), snapshot)
+        _, lsn, snapshot, _ = self._stream.fetchone()
+        return Slot(name, read_lsn(lsn), snapshot)
 
     def begin_snapshot(self, slot: Slot) -> None:
         """Has `copy` read what stood when the slot was made, until `end_snapshot`."""
@@ -110,7 +110,7 @@ class Database:
     def begin_stream(self, slot: Slot, publication: str) -> None:
         """Has the changes come that were committed after the slot was made."""
         self._stream.start_replication(
-            slot_name=slot.name, decode=False, start_lsn=slot.place, status_interval=STATUS_SECONDS,
+            slot_name=slot.name, decode=False, start_lsn=slot.lsn, status_interval=STATUS_SECONDS,
             options={"proto_version": "1", "publication_names": _quoted(publication)},
         )
 
@@ -120,13 +120,13 @@ class Database:
         return None if message is None else bytes(message.payload)
 
     @property
-    def told_place(self) -> int:
+    def told_lsn(self) -> int:
         """Up to where in the log all has come. It moves on without a message where nothing of the mapped tables is written."""
         return int(self._stream.wal_end)
 
-    def confirm(self, place: int) -> None:
-        """Has PostgreSQL know, with the next report, that all up to this place is done with."""
-        self._stream.send_feedback(write_lsn=place, flush_lsn=place, apply_lsn=place)
+    def confirm(self, lsn: int) -> None:
+        """Has PostgreSQL know, with the next report, that all up to this LSN is done with."""
+        self._stream.send_feedback(write_lsn=lsn, flush_lsn=lsn, apply_lsn=lsn)
 
     def wait(self, seconds: float) -> None:
         """Waits until something comes, at most so long."""

@@ -20,7 +20,7 @@ from dataclasses import dataclass
 from typing import Any, Callable, Mapping as Reading, NamedTuple, Optional, TypeVar
 
 from .marks import OWN_TABLE
-from .places import Lines, Path
+from .toml_lines import Lines, Path
 from .templates import Field, KeyTemplate, ValueTemplate
 
 T = TypeVar("T")

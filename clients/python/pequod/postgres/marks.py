@@ -1,7 +1,7 @@
 """The marker: a pair that says up to where in PostgreSQL's log whole transactions stand, and at which position of the history.
 
-All transactions whose commits lie at or before the place in the log stand at the position, and none of a later one does. So scans
-at that position see each transaction whole, and who knows where a commit lies in the log knows when it may be read.
+An LSN is a place in that log. All transactions whose commits end at or before the marker's stand at its position, and nothing of a
+later one does. So scans at that position see each transaction whole, and who knows the LSN of a commit knows when it may be read.
 """
 
 from __future__ import annotations
@@ -18,7 +18,7 @@ OWN_TABLE = "pg"
 MARKER_KEY = "pg|at"
 SKIPPED_KEY = "pg|skipped"
 
-_PLACE = re.compile(r"([0-9A-Fa-f]{1,8})/([0-9A-Fa-f]{1,8})")
+_LSN = re.compile(r"([0-9A-Fa-f]{1,8})/([0-9A-Fa-f]{1,8})")
 
 
 class NotCopied(LookupError):
@@ -26,26 +26,26 @@ class NotCopied(LookupError):
 
 
 class Mark(NamedTuple):
-    """A place in PostgreSQL's log, in bytes, and the position of Pequod's history at which all before it stands."""
+    """An LSN, in bytes, and the position of Pequod's history at which all that was committed up to it stands."""
 
-    place: int
+    lsn: int
     position: int
 
     def __str__(self) -> str:
-        return f"{place_text(self.place)} {self.position}"
+        return f"{lsn_text(self.lsn)} {self.position}"
 
 
-def read_place(text: str) -> int:
-    """Reads a place in the log as PostgreSQL writes it, as `16/B374D848`. ValueError where it is none."""
-    halves = _PLACE.fullmatch(text)
+def read_lsn(text: str) -> int:
+    """Reads an LSN as PostgreSQL writes it, as `16/B374D848`. ValueError where it is none."""
+    halves = _LSN.fullmatch(text)
     if halves is None:
-        raise ValueError(f"{text!r} is no place in PostgreSQL's log")
+        raise ValueError(f"{text!r} is no LSN")
     return (int(halves[1], 16) << 32) + int(halves[2], 16)
 
 
-def place_text(place: int) -> str:
-    """Writes a place in the log as PostgreSQL does."""
-    return f"{place >> 32:X}/{place & 0xFFFFFFFF:X}"
+def lsn_text(lsn: int) -> str:
+    """Writes an LSN as PostgreSQL does."""
+    return f"{lsn >> 32:X}/{lsn & 0xFFFFFFFF:X}"
 
 
 def read_mark(client: Client) -> Optional[Mark]:
@@ -53,8 +53,8 @@ def read_mark(client: Client) -> Optional[Mark]:
     value = client.get(MARKER_KEY).value
     if value is None:
         return None
-    place, _, position = value.partition(" ")
+    lsn, _, position = value.partition(" ")
     try:
-        return Mark(read_place(place), int(position))
+        return Mark(read_lsn(lsn), int(position))
     except ValueError as error:
         raise BadReply(f"what stands at {MARKER_KEY} is no marker: {value[:80]!r}") from error

@@ -25,9 +25,9 @@ class Begin(NamedTuple):
 
 
 class Commit(NamedTuple):
-    """It ends, and the record of its commit ends at this place in the log."""
+    """It ends, and the record of its commit ends at this LSN."""
 
-    place: int
+    lsn: int
 
 
 class Relation(NamedTuple):
@@ -88,7 +88,7 @@ class Decoder:
             return self._change(kind, message)
         if kind == _BEGIN:
             return Begin()
-        if kind == _COMMIT:                     # flags, the place of the commit, the place where it ends, the time
+        if kind == _COMMIT:                     # flags, the LSN of the commit, the LSN where it ends, the time
             return Commit(int.from_bytes(message[10:18], "big"))
         if kind == _RELATION:
             return self._relation(message)

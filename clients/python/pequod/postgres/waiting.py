@@ -6,7 +6,7 @@ import time
 from typing import Any, Mapping, Protocol
 
 from ..client import Client
-from .marks import NotCopied, place_text, read_mark, read_place
+from .marks import NotCopied, lsn_text, read_lsn, read_mark
 
 PAUSE = 0.001
 """How many seconds lie between two looks at the marker."""
@@ -48,18 +48,18 @@ def wait_for(client: Client, cursor: Cursor, timeout: float = 2.0) -> int:
     seconds, as where no bridge is at work. What other transactions write with `synchronous_commit=off` may have it wait for
     PostgreSQL's `wal_writer_delay` too."""
     end = time.monotonic() + timeout
-    place = committed_place(cursor)
+    lsn = committed_lsn(cursor)
     while True:
         mark = read_mark(client)
-        if mark is not None and mark.place >= place:
+        if mark is not None and mark.lsn >= lsn:
             return mark.position
         if time.monotonic() > end:
-            stands = "nothing" if mark is None else f"what was written up to {place_text(mark.place)}"
-            raise TimeoutError(f"{stands} stands in Pequod after {timeout} seconds, and {place_text(place)} was waited for")
+            stands = "nothing" if mark is None else f"what was written up to {lsn_text(mark.lsn)}"
+            raise TimeoutError(f"{stands} stands in Pequod after {timeout} seconds, and {lsn_text(lsn)} was waited for")
         time.sleep(PAUSE)
 
 
-def committed_place(cursor: Cursor) -> int:
+def committed_lsn(cursor: Cursor) -> int:
     """Asks where PostgreSQL's log ends by now, which is at or after all that was committed so far.
 
     The log tells where the next record would begin. At the start of a page that lies behind the page's header, where no record
@@ -67,6 +67,6 @@ def committed_place(cursor: Cursor) -> int:
     cursor.execute(WHERE)
     row = cursor.fetchone()
     text, page, segment = row.values() if isinstance(row, Mapping) else row
-    place = read_place(text)
-    header = SEGMENT_HEADER_BYTES if place % segment == SEGMENT_HEADER_BYTES else PAGE_HEADER_BYTES
-    return place - header if place % page == header else place
+    lsn = read_lsn(text)
+    header = SEGMENT_HEADER_BYTES if lsn % segment == SEGMENT_HEADER_BYTES else PAGE_HEADER_BYTES
+    return lsn - header if lsn % page == header else lsn

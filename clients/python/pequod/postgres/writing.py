@@ -61,9 +61,9 @@ class Writer:
         """Removes a pair, in its turn."""
         self._add(key, None)
 
-    def end_transaction(self, place: int) -> None:
-        """Notes that what was written so far ends with a transaction, and that all up to this place in the log is among it."""
-        self._ended = len(self._pending), place
+    def end_transaction(self, lsn: int) -> None:
+        """Notes that what was written so far ends with a transaction, and that all up to this LSN is among it."""
+        self._ended = len(self._pending), lsn
 
     def send(self) -> None:
         """Has all of it done, and puts the marker where a transaction ended. `WriteRefused` where the server refuses a write, and
@@ -78,13 +78,13 @@ class Writer:
             self.own.note(pending)
         if ended is None:
             return
-        count, place = ended
+        count, lsn = ended
         if count == 0:
-            self.put_mark(Mark(place, before))
+            self.put_mark(Mark(lsn, before))
         elif count == len(pending):
-            self.put_mark(Mark(place, self._done))
+            self.put_mark(Mark(lsn, self._done))
         elif answers is not None:
-            self.put_mark(Mark(place, answers[count - 1].result().position))
+            self.put_mark(Mark(lsn, answers[count - 1].result().position))
         # Else writes of the next transaction stand among the others, and the marker waits for its end.
 
     def put_mark(self, mark: Mark) -> None:

@@ -17,9 +17,8 @@ def page(title, *parts, me=None, badge="0", is_late=False):
 
 def field(name, limit, rows=0):
     """A field of a form, of one line or of several."""
-    if rows:
-        return f"<textarea name={name} rows={rows} maxlength={limit} required></textarea>"
-    return f"<input name={name} maxlength={limit} required>"
+    label = f"name={name} aria-label={name} placeholder={name.capitalize()} maxlength={limit} required"
+    return f"<textarea {label} rows={rows}></textarea>" if rows else f"<input {label}>"
 
 
 def form(action, label, *fields, **hidden):
@@ -41,7 +40,7 @@ def threads(title, found, me, what):
 
 def front(latest):
     """The page for everybody."""
-    name = '<input name=me pattern="[a-z][a-z0-9_]*" maxlength=20 required>'
+    name = '<input name=me aria-label=name placeholder=Name pattern="[a-z][a-z0-9_]*" maxlength=20 required>'
     enter = f'<form action="/" method=get>{name}<button>Enter</button></form>'
     return page("Forum", enter, threads("Latest", latest, None, "messages"))
 
@@ -55,7 +54,7 @@ def home(me, badge, watched, began, is_late):
     )
 
 
-def thread(me, number, badge, messages, is_late):
+def thread(me, number, badge, title, messages, is_late):
     """The messages of a thread. Who only looks has no forms."""
     parts = []
     for message in messages:
@@ -68,7 +67,7 @@ def thread(me, number, badge, messages, is_late):
     if me and messages:
         parts.append(form(f"/{me}/{number}/reply", "Reply", field("text", MAX_TEXT, 4)))
         parts.append(form(f"/{me}/{number}/see", "Mark as read", number=messages[-1].number))
-    return page(f"Thread {number}" if messages else "No such thread", *parts, me=me, badge=badge, is_late=is_late)
+    return page("There is no such thread" if title is None else title, *parts, me=me, badge=badge, is_late=is_late)
 
 
 def failed(sentence):

@@ -109,15 +109,16 @@ class Forum:
         return dict(badge).get(f"badge|{me}", "0"), watched, began
 
     def thread(self, me, number):
-        """The messages of a thread, in order, with how many messages are not read in all."""
-        badge, page = self._read(f"badge|{me}", f"page|{number:08}|")
+        """How many messages are not read in all, the title of a thread, which is None where there is no such thread, and its
+        messages, in order."""
+        badge, titles, page = self._read(f"badge|{me}", f"thread|{number:08}|", f"page|{number:08}|")
         messages = {}
         for key, text in page:
             _, _, place, part, author = key.split("|")
             messages.setdefault(int(place), {"author": author})[part] = text
         shown = [Message(place, found["author"], found["1text"], found.get("2votes", "0"), found.get("3karma", "0"))
                  for place, found in messages.items()]
-        return dict(badge).get(f"badge|{me}", "0"), shown
+        return dict(badge).get(f"badge|{me}", "0"), titles[0][1] if titles else None, shown
 
     def _read(self, *wanted):
         """The pairs of some keys, and of all keys that begin with a prefix where one ends with `|`, all at one position."""

@@ -112,6 +112,11 @@ CASES = [
         (f"update T set a = repeat('y', {LONG})", {"k" * 500: big("y")}),
         ("update T set m = 'k'", {"k": big("y")}),
     ]),
+    Rows("stored apart, and the old row had no pair", "create table T(m text primary key, a text); alter table T alter a set storage "
+         "external", "T|{m}", "{a}", [
+        (f"insert into T values ('x|y', repeat('x', {LONG}))", {}),
+        ("update T set m = 'z'", {"z": big("x")}),
+    ]),
     Rows("a value of two columns", WHOLE, "T|{id}", "{a}, {{{b}}}", [
         (f"insert into T values (1, repeat('x', {LONG}), 'b')", {"1": big("x") + ", {b}"}),
         ("update T set b = 'c'", {"1": big("x") + ", {c}"}),

@@ -100,6 +100,7 @@ class Table:
 
     @property
     def is_partitioned(self) -> bool:
+        """Whether its rows are those of partitions."""
         return self.kind == "p"
 
 

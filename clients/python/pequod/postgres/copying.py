@@ -22,6 +22,7 @@ class TableCopy:
 
     def __init__(self, table: TableMapping, stands: dict[str, str], writer: Writer, skipped: Skipped) -> None:
         self._table = table
+        self._columns = table.columns
         self._stands = stands
         self._writer = writer
         self._skipped = skipped
@@ -44,7 +45,7 @@ class TableCopy:
         texts: list[Optional[str]] = list(line.split("\t"))
         if "\\" in line:
             texts = [None if text is None or text == _NULL else _ESCAPE.sub(_unescaped, text) for text in texts]
-        row = dict(zip(self._table.columns, texts))
+        row = dict(zip(self._columns, texts))
         try:
             key, value = self._table.key.make(row), self._table.value.make(row)
         except NoPair as error:

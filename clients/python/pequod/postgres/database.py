@@ -103,7 +103,7 @@ class Database:
 
     def copy(self, schema: str, table: str, columns: Sequence[str], sink: Sink) -> None:
         """Writes the rows into a sink, in the text form of COPY."""
-        named = ", ".join(_quoted(name) for name in columns) or "1"
+        named = ", ".join(map(_quoted, columns))
         with self._questions.cursor() as cursor:
             cursor.copy_expert(f"copy (select {named} from {_quoted(schema)}.{_quoted(table)}) to stdout", sink)
 

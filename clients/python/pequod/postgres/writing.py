@@ -9,8 +9,8 @@ from ..answers import Done
 from ..client import Client
 from ..errors import OutOfMemory, PequodError
 from ..exchange import Pending
-from .looking import OwnWrites
 from .marks import MARKER_KEY, Mark
+from .own_writes import OwnWrites
 
 BATCH = 2_000
 """How many writes go at once."""

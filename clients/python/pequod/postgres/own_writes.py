@@ -1,4 +1,4 @@
-"""A look at what else was written into the mapped tables, after a beginning.
+"""What the bridge wrote, to find what another wrote into the mapped tables since it began.
 
 A bridge that was ended, or that lost its link, may have left lines with the server that are answered later: after the next bridge
 has compared the pairs with the rows. So that one looks what changed since then, and whether it was its own writes.

@@ -54,6 +54,8 @@ def make_certificates(folder):
 
 
 class Certificates(unittest.TestCase):
+    maxDiff = None
+
     @classmethod
     def setUpClass(cls):
         folder = tempfile.TemporaryDirectory()

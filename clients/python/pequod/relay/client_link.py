@@ -18,7 +18,7 @@ from ..wire import MAX_LINE_BYTES
 from .counts import Cause
 from .lines import LONG, Kind, kind_of
 from .server_link import ServerLink
-from .sockets import keep_alive, reset_on_close
+from .sockets import has_ended, keep_alive, reset_on_close
 
 if TYPE_CHECKING:
     from .hub import Relay
@@ -131,7 +131,7 @@ class ClientLink(asyncio.Protocol):
     def take(self, replies: bytes, ended: int) -> None:
         """Writes replies, or a piece of one, and lets go of a client for which too much waits."""
         self._note_answered(ended)
-        if self._transport is None or self._state is State.GONE:
+        if self._transport is None or self._is_over():
             return
         self._transport.write(replies)
         if self._is_slow:
@@ -142,6 +142,8 @@ class ClientLink(asyncio.Protocol):
     def go_on(self) -> None:
         """Sends lines that wait, as far as the bounds go, ends a connection whose lines are all answered, and reads on where
         nothing waits."""
+        if self._is_over():
+            return
         if self._state in (State.OPEN, State.ENDING):
             self._send_lines()
         if self._state is State.ENDING and self._at == len(self._lines) and self._answered == self._sent:
@@ -150,7 +152,7 @@ class ClientLink(asyncio.Protocol):
 
     def reset(self, cause: Cause) -> None:
         """Ends the connection by a reset, and counts why."""
-        if self._state is State.GONE or self._transport is None:
+        if self._transport is None or self._is_over():
             return
         self._counts.resets.add(1, cause.value)
         self._state = State.GONE
@@ -249,12 +251,16 @@ class ClientLink(asyncio.Protocol):
 
     def _stop_lingering(self) -> None:
         """Closes an ended connection, unless the client has not yet read all replies."""
-        if self._state is not State.ENDED or self._transport is None:
+        if self._transport is None or self._is_over():
             return
         if self._transport.get_write_buffer_size() > 0:
             asyncio.get_running_loop().call_later(LINGER_SECONDS, self._stop_lingering)
         else:
             self._transport.abort()
+
+    def _is_over(self) -> bool:
+        """Whether the connection has ended. One over TLS may have, and the loop says so later: until then a call of it fails."""
+        return self._transport is None or self._state is State.GONE or has_ended(self._transport)
 
     def _leave(self) -> None:
         """Is bound to the link no more, which is not to reset a client that has all its replies."""

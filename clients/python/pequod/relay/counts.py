@@ -22,6 +22,7 @@ class Cause(enum.Enum):
     TOO_MANY = "too_many"
     TOO_SLOW = "too_slow"
     RELAY_ENDED = "relay_ended"
+    FAILED = "failed"
 
 
 class Counts:

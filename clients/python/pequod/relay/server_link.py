@@ -117,7 +117,7 @@ class ServerLink(asyncio.Protocol):
         if whole and not self._hand_on(data[:whole]):
             return
         rest = data[whole:]
-        if self._is_within or len(rest) > PIECE_BYTES:
+        if rest and (self._is_within or len(rest) > PIECE_BYTES):
             self._hand_on_piece(rest)
         else:
             self._held = rest
@@ -130,7 +130,10 @@ class ServerLink(asyncio.Protocol):
         self._is_full = False
         while self._waiters and not self._is_full:
             owner, _ = self._waiters.popitem(last=False)
-            owner.go_on()
+            try:
+                owner.go_on()
+            except Exception as error:
+                _end_alone(owner, error)
 
     def connection_lost(self, error: Optional[Exception]) -> None:
         """Resets each client that is bound to it: what it is owed is never answered, and one that is owed nothing has to learn
@@ -179,7 +182,7 @@ class ServerLink(asyncio.Protocol):
                 end, ended = len(block) if owed.count == left else _after_lines(block, at, owed.count), owed.count
                 self._owed.popleft()
             self._counts.latency.observe(now - owed.since, ended)
-            owed.owner.take(block[at:end], ended)
+            _give(owed.owner, block[at:end], ended)
             at, left = end, left - ended
         return True
 
@@ -187,8 +190,7 @@ class ServerLink(asyncio.Protocol):
         """Hands on a part of the reply that is under way."""
         if self._owed:
             self._is_within = True
-            if piece:
-                self._owed[0].owner.take(piece, 0)
+            _give(self._owed[0].owner, piece, 0)
         else:
             self.close()
 
@@ -198,6 +200,20 @@ class ServerLink(asyncio.Protocol):
         found = POSITION.match(block, max(start, block.rfind(b"\n", 0, len(block) - 1) + 1))
         if found is not None:
             self.position = max(self.position, int(found.group(1)))
+
+
+def _give(owner: Owner, replies: bytes, ended: int) -> None:
+    try:
+        owner.take(replies, ended)
+    except Exception as error:
+        _end_alone(owner, error)
+
+
+def _end_alone(owner: Owner, error: Exception) -> None:
+    """Has what went wrong with one client end its connection, and not the link of all. The loop says what it was."""
+    told = {"message": "a client of the relay failed", "exception": error, "protocol": owner}
+    asyncio.get_running_loop().call_exception_handler(told)
+    owner.reset(Cause.FAILED)
 
 
 def _after_lines(block: bytes, at: int, count: int) -> int:

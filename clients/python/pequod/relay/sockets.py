@@ -6,7 +6,7 @@ import asyncio
 import socket
 import struct
 
-__all__ = ["keep_alive", "reset_on_close"]
+__all__ = ["has_ended", "keep_alive", "reset_on_close"]
 
 PROBES = (("TCP_KEEPIDLE", 30), ("TCP_KEEPINTVL", 10), ("TCP_KEEPCNT", 3))
 NO_LINGERING = struct.pack("ii", 1, 0)
@@ -21,6 +21,11 @@ def keep_alive(transport: asyncio.BaseTransport) -> None:
         option = getattr(socket, name, None)
         if option is not None:
             link.setsockopt(socket.IPPROTO_TCP, option, value)
+
+
+def has_ended(transport: asyncio.BaseTransport) -> bool:
+    """Whether there is no socket beneath it any more."""
+    return transport.get_extra_info("socket") is None
 
 
 def reset_on_close(transport: asyncio.BaseTransport) -> None:

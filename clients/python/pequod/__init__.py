@@ -13,19 +13,24 @@ position stands in every answer with that position or a greater one, whichever c
 whether an answer has seen a write.
 
 A `Client` is one connection. Threads that share one take turns; threads that want to ask at once share a `Pool`. A forked child
-uses no connection of its parent's. As long as a connection is open it holds one worker of the server, also while it asks nothing; the server's `--workers` says how many it has. `pequod.aio` has the same calls
-for asyncio. `python3 -m pequod HOST:PORT` is a prompt, and `python3 -m pequod check FILE` looks at a file of joins.
+uses no connection of its parent's. As long as a connection is open it holds one worker of the server, also while it asks nothing;
+the server's `--workers` says how many it has. `pequod.aio` has the same calls for asyncio.
+
+`python3 -m pequod HOST:PORT` is a prompt. `python3 -m pequod check FILE` looks at a file of joins, and `explain FILE KEY` says what
+they have to do with a key; `dump HOST:PORT TABLE..` and `load HOST:PORT FILE` write and put pairs.
 """
 
 from .answers import Absent, Changes, Done, Found, Pairs
 from .client import Client, Pipeline, connect
-from .errors import Ahead, BadReply, Gone, LinkLost, NotServed, OutOfMemory, PequodError, Refused, Restarted
+from .errors import Ahead, BadReply, Gone, LinkLost, NotServed, OutOfMemory, PequodError, Refused, Restarted, Unread
 from .exchange import Pending
+from .feeding import Joins
+from .keys import key, parts
 from .pool import Pool
 
 __version__ = "1.0.0"
 
 __all__ = [
-    "Absent", "Ahead", "BadReply", "Changes", "Client", "Done", "Found", "Gone", "LinkLost", "NotServed", "OutOfMemory", "Pairs",
-    "Pending", "PequodError", "Pipeline", "Pool", "Refused", "Restarted", "connect",
+    "Absent", "Ahead", "BadReply", "Changes", "Client", "Done", "Found", "Gone", "Joins", "LinkLost", "NotServed", "OutOfMemory",
+    "Pairs", "Pending", "PequodError", "Pipeline", "Pool", "Refused", "Restarted", "Unread", "connect", "key", "parts",
 ]

@@ -1,14 +1,16 @@
-"""`python3 -m pequod HOST:PORT` is a prompt, `python3 -m pequod check FILE` looks at a file of joins, and `python3 -m pequod postgres
-MAPPING.toml` keeps tables equal to those of PostgreSQL."""
+"""`python3 -m pequod HOST:PORT` is a prompt, and `python3 -m pequod COMMAND ..` does one thing: the commands are below."""
 
 from __future__ import annotations
 
 import argparse
 import sys
-from typing import Optional, Sequence
+from typing import Callable, Optional, Sequence
 
 from . import __version__
 from .check import check_file
+from .commands import address, dump_command, load_command
+from .explain import explain_file
+from .keys import parts
 from .prompt import run_prompt
 
 STATUS_OF_WORDS = 2
@@ -17,13 +19,8 @@ STATUS_OF_WORDS = 2
 def main(words: Optional[Sequence[str]] = None) -> int:
     """Does what the words say, and gives the status."""
     given = list(sys.argv[1:] if words is None else words)
-    if given[:1] == ["relay"]:
-        from .relay.command import run
-
-        return run(given[1:])
-    if given[:1] == ["postgres"]:
-        return _postgres(given[1:])
-    return _check(given[1:]) if given[:1] == ["check"] else _prompt(given)
+    command = COMMANDS.get(given[0]) if given else None
+    return _prompt(given) if command is None else command(given[1:])
 
 
 def _check(given: Sequence[str]) -> int:
@@ -43,19 +40,44 @@ def _postgres(given: Sequence[str]) -> int:
     return keep_tables(given)
 
 
+def _relay(given: Sequence[str]) -> int:
+    from .relay.command import run
+
+    return run(given)
+
+
+def _explain(given: Sequence[str]) -> int:
+    parser = argparse.ArgumentParser(
+        prog="python3 -m pequod explain",
+        description="Says which joins of a file a put of a key feeds, and which one makes it. Each line is taken to be accepted.",
+        epilog="Status 0: some join has to do with it. 1: none has. 9: the file could not be used.",
+    )
+    parser.add_argument("file", metavar="FILE")
+    parser.add_argument("key", metavar="KEY")
+    options = parser.parse_args(given)
+    try:
+        parts(options.key)
+    except ValueError as error:
+        parser.error(str(error))
+    return explain_file(options.file, options.key)
+
+
 def _prompt(given: Sequence[str]) -> int:
     parser = argparse.ArgumentParser(
         prog="python3 -m pequod", description="A prompt for a server.",
-        epilog="python3 -m pequod check FILE looks at a file of joins.",
+        epilog=f"python3 -m pequod COMMAND --help says more of {', '.join(COMMANDS)}.",
     )
-    parser.add_argument("address", metavar="HOST:PORT")
+    parser.add_argument("address", metavar="HOST:PORT", type=address)
     parser.add_argument("--timeout", type=float, default=10.0, metavar="SECONDS", help="for each answer; 10 unless given")
     parser.add_argument("--version", action="version", version=__version__)
     options = parser.parse_args(given)
-    host, _, port = options.address.rpartition(":")
-    if not host or not port.isdigit():
-        parser.error(f"{options.address!r} is no HOST:PORT")
-    return run_prompt(host.strip("[]"), int(port), options.timeout)
+    host, port = options.address
+    return run_prompt(host, port, options.timeout)
+
+
+COMMANDS: dict[str, Callable[[Sequence[str]], int]] = {
+    "check": _check, "explain": _explain, "dump": dump_command, "load": load_command, "postgres": _postgres, "relay": _relay,
+}
 
 
 if __name__ == "__main__":

@@ -9,8 +9,8 @@ from .reasons import Note
 from .walks import Walk, fronts, walks
 
 ORDERED = frozenset((
-    "at", "created", "date", "day", "hour", "index", "minute", "month", "n", "no", "number", "page", "points", "pos", "position", "price",
-    "rank", "score", "second", "seq", "sequence", "time", "timestamp", "ts", "updated", "week", "when", "year",
+    "at", "created", "date", "day", "hour", "index", "minute", "month", "n", "no", "number", "page", "points", "pos", "position",
+    "price", "rank", "score", "second", "seq", "sequence", "time", "timestamp", "ts", "updated", "week", "when", "year",
 ))
 """Names of slots that are likely to be in an order by which pages are cut. A text does not tell; its names may."""
 
@@ -34,7 +34,8 @@ def _missed_slots(join: Join) -> Iterator[Note]:
     if not join.output.slots and not seen and not is_total:
         first = join.output.segments[1]
         walked = ", ".join(str(walk) for walk in walks(join, {}))
-        yield Note(f"the output has no slot, so it is one pair; was <{first}> meant? A read of it walks {walked}", join.text, first.byte)
+        sentence = f"the output has no slot, so it is one pair; was <{first}> meant? A read of it walks {walked}"
+        yield Note(sentence, join.text, first.byte)
 
 
 def _long_walks(join: Join) -> Iterator[Note]:
@@ -74,10 +75,8 @@ def _missed_widths(join: Join) -> Iterator[Note]:
         if isinstance(segment, Slot) and segment.width is None and segment.name not in known and _is_ordered(segment.name):
             walked = [_walked(walk) for walk in walks(join, known) if walk.stop is not None and walk.stop.name == segment.name]
             if walked:
-                yield Note(
-                    f"a page of {front} that is cut by {segment} walks all of {' and '.join(walked)}, since the slot has no width, as"
-                    f" <{segment.name}:16>", join.text, segment.byte,
-                )
+                what = f"a page of {front} that is cut by {segment} walks all of {' and '.join(walked)}"
+                yield Note(f"{what}, since the slot has no width, as <{segment.name}:16>", join.text, segment.byte)
                 return
         if isinstance(segment, Slot):
             known[segment.name] = str(segment)

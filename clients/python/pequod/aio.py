@@ -20,11 +20,12 @@ import contextlib
 import os
 import selectors
 import time
-from typing import Any, AsyncIterator, Awaitable, Callable, Optional, Sequence, TypeVar
+from typing import Any, AsyncIterator, Awaitable, Callable, Literal, Optional, Sequence, TypeVar, Union, overload
 
 from .answers import Changes, Done, Pairs, Value
 from .errors import Ahead, Gone, LinkLost, Restarted
-from .exchange import Batch, Exchange, Lines, Pending
+from .exchange import Batch, Exchange, Lines, ManyPairs, Pending, pairs_of
+from .feeding import Joins
 from .forks import OwnOfProcess
 from .runs import PROBE_KEY, Run
 from .watching import RECONNECT_PAUSE, Watch
@@ -110,14 +111,29 @@ class Client:
         self._where = (host, port)
         self._timeout = timeout
         self._links = 0
+        self._restarted: Optional[Restarted] = None
         self._is_closed = False
         self._turn = OwnOfProcess(asyncio.Lock)
         self._connecting = OwnOfProcess(asyncio.Lock)
         self._link: Optional[_Link] = None
 
-    async def put(self, key: str, value: str) -> Done:
-        """Sets the value of a key, of at most 65,536 bytes. A key is `TABLE|` and more, of at most 512 bytes."""
-        return await self._ask(put_request(key, value))
+    async def put(self, key: str, value: str, strict: Optional[Joins] = None) -> Done:
+        """Sets the value of a key, of at most 65,536 bytes. A key is `TABLE|` and more, of at most 512 bytes. With `strict` it
+        raises `Unread`, and sends nothing, where none of these joins reads the key."""
+        return await self._ask(put_request(key, value, strict))
+
+    async def put_many(self, pairs: ManyPairs, strict: Optional[Joins] = None) -> int:
+        """Puts the pairs of a mapping, or of anything that gives pairs, by pipelines of some thousand each, and gives how many
+        there were. Where one is refused, `Refused` or `OutOfMemory` is raised with its place as `number`, counted from 0: those
+        before it stand, and those behind it in the same pipeline may. With `strict` as `put`."""
+        count = 0
+        pipeline = self.pipeline()
+        for count, (key, value) in enumerate(pairs_of(pairs), 1):
+            pipeline.put(key, value, strict)
+            if pipeline._is_large():
+                await pipeline.send()
+        await pipeline.send()
+        return count
 
     async def remove(self, key: str) -> Done:
         """Removes the pair of a key. It is a write also where nothing stands there."""
@@ -151,11 +167,29 @@ class Client:
         """What changed in the range since a position, up to now. `Gone` and `Ahead` as of `scan`."""
         return await self._ask(changes_request(first, last, since))
 
-    async def watch(self, first: str, last: str, every: float = 1.0) -> AsyncIterator[tuple[str, Optional[str]]]:
+    @overload
+    def watch(
+        self, first: str, last: str, every: float = 1.0, restarts: Literal[False] = False,
+    ) -> AsyncIterator[tuple[str, Optional[str]]]: ...
+
+    @overload
+    def watch(
+        self, first: str, last: str, every: float = 1.0, *, restarts: Literal[True],
+    ) -> AsyncIterator[Union[tuple[str, Optional[str]], Restarted]]: ...
+
+    async def watch(self, first: str, last: str, every: float = 1.0, restarts: bool = False) -> AsyncIterator[Any]:
         """Yields each key of a range with its value, and then each that changes, as that of `pequod.Client` does. Several tasks
         may watch over one client."""
-        watch = Watch(first, last)
+        watch, seen = Watch(first, last), self._restarted
         while True:
+            if restarts:
+                async with self._connecting.own():
+                    # Another task that connects anew finds first whether the server was started anew.
+                    pass
+            if restarts and self._restarted is not None and self._restarted is not seen:
+                seen = self._restarted
+                watch.forget()
+                yield seen
             try:
                 changed = watch.take(await self._ask(watch.request(self._links)))
             except (Gone, Ahead):
@@ -243,7 +277,8 @@ class Client:
         position = (await self._ask(get_request(PROBE_KEY))).position
         if position < before:
             self._run = Run(position)
-            raise Restarted(before, position)
+            self._restarted = Restarted(before, position)
+            raise self._restarted
 
     async def _ask(self, request: Request[T]) -> T:
         pending = Pending(request)

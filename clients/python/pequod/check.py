@@ -14,6 +14,7 @@ from .advice import warnings
 from .answers import Answer, Done
 from .errors import BadReply, OutOfMemory, Refused
 from .joins import AGGREGATES, Join, Slot, overlap, read_join
+from .joins_file import join_lines
 from .reasons import REASONS, Note, place, shown, syntax_fault
 from .wire import join_request, read_reply
 
@@ -76,10 +77,7 @@ def _print_note(note: Note) -> None:
 def read_lines(content: bytes) -> tuple[list[Line], list[Verdict]]:
     """The lines that are to be joins, and those of them that are no UTF-8."""
     lines, unread = [], []
-    for number, line in enumerate(content.split(b"\n"), 1):
-        line = line[:-1] if line.endswith(b"\r") else line
-        if line.strip(b" ") == b"" or line.startswith(b"#"):
-            continue
+    for number, line in join_lines(content):
         try:
             lines.append(Line(number, line.decode()))
         except UnicodeDecodeError as error:

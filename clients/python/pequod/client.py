@@ -7,11 +7,12 @@ import selectors
 import socket
 import threading
 import time
-from typing import Any, Iterator, Optional, Sequence, TypeVar
+from typing import Any, Iterator, Literal, Optional, Sequence, TypeVar, Union, overload
 
 from .answers import Changes, Done, Pairs, Value
 from .errors import Ahead, Gone, LinkLost, Restarted
-from .exchange import PIECE_BYTES, Batch, Exchange, Lines, Pending
+from .exchange import PIECE_BYTES, Batch, Exchange, Lines, ManyPairs, Pending, pairs_of
+from .feeding import Joins
 from .forks import OwnOfProcess
 from .runs import PROBE_KEY, Run
 from .watching import RECONNECT_PAUSE, Watch
@@ -43,12 +44,27 @@ class Client:
         self._turn = OwnOfProcess(threading.RLock)
         self._is_asking = False
         self._process = 0
+        self._restarted: Optional[Restarted] = None
         self._socket: Optional[socket.socket] = None
         self._connect()
 
-    def put(self, key: str, value: str) -> Done:
-        """Sets the value of a key, of at most 65,536 bytes. A key is `TABLE|` and more, of at most 512 bytes."""
-        return self._ask(put_request(key, value))
+    def put(self, key: str, value: str, strict: Optional[Joins] = None) -> Done:
+        """Sets the value of a key, of at most 65,536 bytes. A key is `TABLE|` and more, of at most 512 bytes. With `strict` it
+        raises `Unread`, and sends nothing, where none of these joins reads the key."""
+        return self._ask(put_request(key, value, strict))
+
+    def put_many(self, pairs: ManyPairs, strict: Optional[Joins] = None) -> int:
+        """Puts the pairs of a mapping, or of anything that gives pairs, by pipelines of some thousand each, and gives how many
+        there were. Where one is refused, `Refused` or `OutOfMemory` is raised with its place as `number`, counted from 0: those
+        before it stand, and those behind it in the same pipeline may. With `strict` as `put`."""
+        count = 0
+        pipeline = self.pipeline()
+        for count, (key, value) in enumerate(pairs_of(pairs), 1):
+            pipeline.put(key, value, strict)
+            if pipeline._is_large():
+                pipeline.send()
+        pipeline.send()
+        return count
 
     def remove(self, key: str) -> Done:
         """Removes the pair of a key. It is a write also where nothing stands there."""
@@ -82,7 +98,17 @@ class Client:
         """What changed in the range since a position, up to now. `Gone` and `Ahead` as of `scan`."""
         return self._ask(changes_request(first, last, since))
 
-    def watch(self, first: str, last: str, every: float = 1.0) -> Iterator[tuple[str, Optional[str]]]:
+    @overload
+    def watch(
+        self, first: str, last: str, every: float = 1.0, restarts: Literal[False] = False,
+    ) -> Iterator[tuple[str, Optional[str]]]: ...
+
+    @overload
+    def watch(
+        self, first: str, last: str, every: float = 1.0, *, restarts: Literal[True],
+    ) -> Iterator[Union[tuple[str, Optional[str]], Restarted]]: ...
+
+    def watch(self, first: str, last: str, every: float = 1.0, restarts: bool = False) -> Iterator[Any]:
         """Yields each key of a range with its value, and then, `every` so many seconds, each key that changed with its new
         value, or None where it has gone.
 
@@ -92,12 +118,20 @@ class Client:
         timeout, it raises `LinkLost` rather than ask again and again. It does so too where the client was closed. `OutOfMemory`
         and other refusals end it as well.
 
+        With `restarts` it yields a `Restarted` where the server was started anew, and after it each key with its value as at the
+        start. Without, a restart shows by the keys that it takes away, and that come back when the cache is filled.
+
         The client can be used for other requests between two pairs. But give a watch a client of its own, and none of a pool: a
         restart is no error to it, so `on_restart` is not called, and no other request over the client is told."""
-        watch = Watch(first, last)
+        watch, seen = Watch(first, last), self._restarted
         while True:
+            if restarts and self._restarted is not None and self._restarted is not seen:
+                seen = self._restarted
+                watch.forget()
+                yield seen
             try:
-                changed = watch.take(self._ask(watch.request(self._links)))
+                link = self._links
+                changed = watch.take(self._ask(watch.request(link), link))
             except (Gone, Ahead):
                 watch.begin_anew()
                 continue
@@ -182,19 +216,23 @@ class Client:
         position = self._ask(get_request(PROBE_KEY)).position
         if position < before:
             self._run = Run(position)
-            raise Restarted(before, position)
+            self._restarted = Restarted(before, position)
+            raise self._restarted
 
-    def _ask(self, request: Request[T]) -> T:
+    def _ask(self, request: Request[T], link: Optional[int] = None) -> T:
         pending = Pending(request)
-        self._exchange([pending])
+        self._exchange([pending], self._links if link is None else link)
         return pending.result()
 
-    def _exchange(self, asked: Sequence[Pending[Any]]) -> None:
+    def _exchange(self, asked: Sequence[Pending[Any]], number: int) -> None:
         """Sends all requests and takes their replies, when it is their turn. Where that ends early, replies may be on their way
         that nobody could tell from those of later requests, so the link is closed, and all that is not answered yet is answered
-        by `LinkLost`."""
+        by `LinkLost`.
+
+        What is asked may name a position, and over another link that may be one of another run. So it goes over the link with this
+        number, which stood when it was asked, or over none."""
         with self._turn.own():
-            link = self._open_link()
+            link = self._open_link(number)
             exchange = Exchange(asked)
             self._is_asking = True
             try:
@@ -214,12 +252,12 @@ class Client:
                     self.position = exchange.position
                     self._run.note(exchange.position)
 
-    def _open_link(self) -> socket.socket:
-        """The link, where a request may be sent over it."""
+    def _open_link(self, number: int) -> socket.socket:
+        """The link, where it has this number and a request may be sent over it."""
         if self._socket is not None and not self._is_own():
             self._drop_link()
             raise LinkLost("the link is that of the process which this one was forked from, and nothing was sent; reconnect")
-        if self._socket is None:
+        if self._socket is None or number != self._links:
             raise LinkLost("the link is closed, and nothing was sent")
         if self._is_asking:
             # The turn is this thread's already, so a signal handler asks. It would be given the other request's reply.
@@ -290,7 +328,7 @@ class Pipeline(Batch):
         """Sends what was asked since the last call, and waits for all answers. `with` calls it at its end."""
         asked = self._take_all()
         if asked:
-            self._client._exchange(asked)
+            self._client._exchange(asked, self._client._links)
         self._raise_first(asked)
 
     def __enter__(self) -> Pipeline:

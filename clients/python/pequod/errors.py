@@ -71,6 +71,19 @@ class OutOfMemory(NotServed):
         return "the server found no memory"
 
 
+class Unread(PequodError, ValueError):
+    """A strict put of a key that no join reads, which was not sent. `key` is the key, and `misses` says by what it misses each
+    source of its table."""
+
+    def __init__(self, key: str, misses: tuple[str, ...]) -> None:
+        super().__init__(key, misses)
+        self.key = key
+        self.misses = misses
+
+    def __str__(self) -> str:
+        return f"no join reads {self.key!r}: {'; '.join(self.misses)}"
+
+
 class LinkLost(PequodError, ConnectionError):
     """The link ended, or the server took too long, so that the client closed it. Connect anew to go on.
 

@@ -2,10 +2,11 @@
 
 from __future__ import annotations
 
-from typing import Any, Generic, Optional, Sequence, TypeVar, Union
+from typing import Any, Generic, Iterable, Mapping, Optional, Sequence, TypeVar, Union
 
 from .answers import Answer, Changes, Done, Pairs, Value
 from .errors import BadReply, LinkLost, NotServed, OutOfMemory, PequodError
+from .feeding import Joins
 from .wire import (
     Request, changes_request, drop_request, get_request, join_request, prefix_bounds, put_request, read_reply, remove_request,
     scan_request,
@@ -14,7 +15,12 @@ from .wire import (
 PIECE_BYTES = 65_536
 """How many bytes are read at once."""
 
+MANY_REQUESTS = 2_000
+MANY_BYTES = 1_048_576
+"""Of very many requests so many, or so many bytes of them, are sent at once."""
+
 T = TypeVar("T")
+ManyPairs = Union[Mapping[str, str], Iterable[tuple[str, str]]]
 
 
 class Pending(Generic[T]):
@@ -58,6 +64,11 @@ def _earlier_of(answer: Union[Answer, NotServed], asked: Optional[int]) -> Optio
     if isinstance(answer, Changes):
         return answer.since
     return answer.position if isinstance(answer, Pairs) and asked is not None else asked
+
+
+def pairs_of(pairs: ManyPairs) -> Iterable[tuple[str, str]]:
+    """The pairs of a mapping, or those that are given."""
+    return pairs.items() if isinstance(pairs, Mapping) else pairs
 
 
 class Lines:
@@ -126,10 +137,11 @@ class Batch:
         self._check = check
         self._asked: list[Pending[Any]] = []
         self._count = 0
+        self._bytes = 0
 
-    def put(self, key: str, value: str) -> Pending[Done]:
+    def put(self, key: str, value: str, strict: Optional[Joins] = None) -> Pending[Done]:
         """As that of `Client`."""
-        return self._add(put_request(key, value))
+        return self._add(put_request(key, value, strict))
 
     def remove(self, key: str) -> Pending[Done]:
         """As that of `Client`."""
@@ -163,10 +175,15 @@ class Batch:
         pending = Pending(request, self._count)
         self._count += 1
         self._asked.append(pending)
+        self._bytes += len(request.line)
         return pending
 
+    def _is_large(self) -> bool:
+        """Whether as much is collected as is sent at once where more is to come."""
+        return len(self._asked) >= MANY_REQUESTS or self._bytes >= MANY_BYTES
+
     def _take_all(self) -> list[Pending[Any]]:
-        asked, self._asked = self._asked, []
+        asked, self._asked, self._bytes = self._asked, [], 0
         return asked
 
     def _raise_first(self, asked: Sequence[Pending[Any]]) -> None:

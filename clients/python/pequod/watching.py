@@ -48,6 +48,11 @@ class Watch:
         """All pairs are asked for next."""
         self._since = None
 
+    def forget(self) -> None:
+        """All pairs are asked for next, and told as at the start: those that were told are of an earlier run."""
+        self._pairs.clear()
+        self.begin_anew()
+
     def lose(self, error: LinkLost) -> None:
         """Notes that the link was lost before the answer came. It raises the error where that is the second time since the last
         answer: a scan that takes longer than the timeout would be asked without an end, each time at the server's cost. Where

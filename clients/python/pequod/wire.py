@@ -8,6 +8,7 @@ from typing import Any, Generic, Optional, TypeVar, Union
 
 from .answers import Absent, Answer, Changes, Done, Found, Pairs, Value
 from .errors import Ahead, BadReply, Gone, OutOfMemory, Refused
+from .feeding import Joins
 
 MAX_LINE_BYTES = 1_048_576
 
@@ -33,7 +34,10 @@ class Request(Generic[T_co]):
         return self.answers == (Done,)
 
 
-def put_request(key: str, value: str) -> Request[Done]:
+def put_request(key: str, value: str, strict: Optional[Joins] = None) -> Request[Done]:
+    if strict is not None:
+        _want_text("put", "key", key)
+        strict.want_fed(key)
     return Request("put", key, _line("put", ("key", key), ("value", value)), (Done,))
 
 

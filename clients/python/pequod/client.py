@@ -27,6 +27,7 @@ class Client:
     """A connection to a server. `connect` makes one.
 
     Threads that share one take turns: each request, or pipeline when it is sent, waits until the one before it is answered.
+    Where the link is lost or replaced by then, it is not sent over another one, and raises `LinkLost`.
     After a fork the link is the parent's: in the child each request raises `LinkLost` and sends nothing, until `reconnect`."""
 
     position: int

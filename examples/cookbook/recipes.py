@@ -42,8 +42,8 @@ def best_of(karma: Mapping[str, str], size: int) -> str:
 
 
 def keep_best(client: pequod.Client, size: int = 10, every: float = 0.5) -> None:
-    """Keeps the best in the pair `best|karma`, and looks `every` so many seconds. It ends by `LinkLost` where the link is lost, as
-    by a restart: call it again then, with another client."""
+    """Keeps the best in the pair `best|karma`, and looks `every` so many seconds; values are walked only where one has changed. It
+    ends by `LinkLost`, as after a restart, or by `Gone`: call it again then, with another client."""
     bounds = "karma|", "karma}"
     pairs = client.scan(*bounds)
     karma, position, told = dict(pairs), pairs.position, None
@@ -53,7 +53,11 @@ def keep_best(client: pequod.Client, size: int = 10, every: float = 0.5) -> None
             client.put("best|karma", best)
             told = best
         time.sleep(every)
-        position = refresh(client, *bounds, karma, position)
+        while not (changes := client.changes(*bounds, position)):
+            position = changes.position
+            time.sleep(every)
+        position = changes.position
+        apply(changes, karma)
 
 
 # Newest first.
@@ -177,12 +181,17 @@ def refresh(client: pequod.Client, first: str, last: str, shown: dict[str, str],
         shown.clear()
         shown.update(pairs)
         return pairs.position
+    apply(changes, shown)
+    return changes.position
+
+
+def apply(changes: pequod.Changes, shown: dict[str, str]) -> None:
+    """Sets the pairs that changed, and takes out those that have gone."""
     for key, value in changes:
         if value is None:
             shown.pop(key, None)
         else:
             shown[key] = value
-    return changes.position
 
 
 # A page that is open.

@@ -1,0 +1,12 @@
+pub mod Computes
+pub mod TakingLemmas
+pub mod ReadingLemmas
+pub mod LineTakes
+pub mod RefusalLemmas
+pub mod PullLemmas
+pub mod ProgressLemmas
+pub mod FedLemmas
+pub mod StandingLemmas
+pub mod LinesFeed
+pub mod ReadBack
+pub mod OwnLines

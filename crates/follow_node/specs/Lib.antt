@@ -1,0 +1,12 @@
+pub mod FedLines
+pub mod Fed
+pub mod FedRows
+pub mod Replicas
+pub mod HomeLines
+pub mod Heard
+pub mod Feeders
+pub mod Pulls
+pub mod Asking
+pub mod Standing
+pub mod Rows
+pub mod FedLaw

@@ -20,7 +20,8 @@ use request_codec::Lines;
 use std::alloc::Global;
 use std::marker::Model;
 
-/// What takes the entries of a home over a link, line by line, and gives their writes to a replica.
+/// What takes the entries of a home over a link, line by line, and gives their writes to a replica. Contracts see it as a
+/// `FeederView`.
 #[derive(Drop)]
 pub struct Feeder {
     lines: Lines,
@@ -55,7 +56,7 @@ fn may_take(first: Option<u64>, asked: u64, from: u64, position: u64, count: usi
 }
 
 impl Feeder {
-    /// A feeder that has given nothing. It takes memory for the longest line.
+    /// Makes a feeder that has given nothing. It takes memory for the longest line, 1,048,576 bytes.
     pub fn new(alloc: Global) -> Result<Feeder, OutOfMemory>
         ensures given { IfOk result (λ f. given f ≡ 0) }
         ensures kept { IfOk result (λ f. f.kept ≡ false) }
@@ -159,7 +160,15 @@ impl Feeder {
     }
 
     /// Asks the home for the entries after those that the replica has, and gives it their writes, until it has as many as the home
-    /// had at the pull's first line.
+    /// had at the pull's first line: `Level`. A line of which not all was taken, for want of memory, is kept, and the next pull goes on
+    /// with the rest of it, as its first line.
+    ///
+    /// `HomeMemory` comes where the home found no memory: the next pull asks again. `Gone` and `Ahead` come where the home refused the
+    /// position so; `Bad` where a line is none of a feed, does not go on where the replica's writes end, has fewer entries than the
+    /// pull's first line told, or fewer than it lists, lists none where there are some, has a write that the replica refuses, is too
+    /// long, or was followed by a byte in the same read; `Ended` where the home's bytes end; `ReadFault` and `WriteFault` where the link
+    /// failed. After each of these the feeder has ended: a later pull neither writes nor reads, and answers `Over`. `OutOfMemory` comes
+    /// where none is found for a line or a write. Linear in the lines that are taken.
     pub fn pull<L: Link, R: Replica>(
         &mut self,
         alloc: Global,

@@ -199,6 +199,7 @@ class Counts(Served):
             b'["changes","a|","a}",1]\n', b'["join","b|<x> = copy a|<x>"]\n', b'["put","b|1","x"]\n', b'["drop",9]\n', b"\n",
             b'[ "get","a|1"]\n', b'["get","a"]\n', b'["quit"]\n',
         )))
+        self.assertTrue(wait_for(lambda: relay.counted("pequod_clients") == 0))
         counts = relay.counts()
         requests = {"put": 4, "get": 6, "remove": 1, "scan": 3, "changes": 1, "join": 1, "drop": 1, "other": 2, "quit": 1}
         self.assertEqual(self.labelled(counts, "pequod_requests_total", "kind"), requests)

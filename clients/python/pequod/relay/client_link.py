@@ -117,7 +117,10 @@ class ClientLink(asyncio.Protocol):
     def resume_writing(self) -> None:
         self._is_slow = False
         self._relay.release(self)
-        self.go_on()
+        if self._state is State.ENDED:
+            self._end_sending()
+        else:
+            self.go_on()
 
     def connection_lost(self, error: Optional[Exception]) -> None:
         """Leaves the link. What is still owed is thrown away as it comes."""
@@ -244,9 +247,26 @@ class ClientLink(asyncio.Protocol):
             self._transport.write(self._last.words)
         if self._is_at_end or not self._transport.can_write_eof():
             self._transport.close()
+            self._linger()
         else:
+            # Where something waits, it is slow by that, and reads on later.
+            self._transport.set_write_buffer_limits(high=0)
+            if not self._is_slow:
+                self._end_sending()
+
+    def _end_sending(self) -> None:
+        """Ends that side, now that all is sent, and reads on. One that is being closed does both by itself."""
+        if self._transport is None or self._transport.is_closing():
+            return
+        try:
             self._transport.write_eof()
-            self._transport.resume_reading()
+        except OSError:
+            # The client has reset the connection, and the loop has not seen it yet.
+            return self._transport.abort()
+        self._transport.resume_reading()
+        self._linger()
+
+    def _linger(self) -> None:
         asyncio.get_running_loop().call_later(LINGER_SECONDS, self._stop_lingering)
 
     def _stop_lingering(self) -> None:
@@ -254,7 +274,7 @@ class ClientLink(asyncio.Protocol):
         if self._transport is None or self._is_over():
             return
         if self._transport.get_write_buffer_size() > 0:
-            asyncio.get_running_loop().call_later(LINGER_SECONDS, self._stop_lingering)
+            self._linger()
         else:
             self._transport.abort()
 

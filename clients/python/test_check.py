@@ -79,7 +79,8 @@ CAUSES = (
 # A join that is accepted, and the warnings about it, each with what stands at the caret.
 WARNED = (
     ("page|<thread>|<n>|<author> = copy post|<author>|<thread>|<n>", (
-        ("a read of page|<thread>| walks all of post|: <thread> stands behind <author>, which such a read does not know", "<author>|<th"),
+        ("a read of page|<thread>| walks all of post|: <thread> stands behind <author>, which such a read does not know",
+         "<author>|<thread>"),
     )),
     ("page|<thread>|<n:8>|<author> = copy post|<thread>|<n:8>|<author>", ()),
     ("at|<game>|<player>|<level> = copy level|<game>|<level>|<player>", (
@@ -138,7 +139,8 @@ class Checks(unittest.TestCase):
         for text, sentence, character in CAUSES:
             status, told = self.check(text.encode())
             _, cause, line, caret, count = told.splitlines()
-            self.assertEqual((status, cause, line[len(caret) - 1:len(caret)], count), (7, "  " + sentence, character, "0 accepted, 1 refused"))
+            seen = (status, cause, line[len(caret) - 1:len(caret)], count)
+            self.assertEqual(seen, (7, f"  {sentence}", character, "0 accepted, 1 refused"))
 
     def test_what_is_accepted_and_warned_of(self):
         for text, wanted in WARNED:

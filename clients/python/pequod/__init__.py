@@ -17,8 +17,9 @@ uses no connection of its parent's. As long as a connection is open it holds one
 the server's `--workers` says how many it has. `pequod.aio` has the same calls for asyncio.
 
 `python3 -m pequod HOST:PORT` is a prompt. `python3 -m pequod check FILE` looks at a file of joins, and `explain FILE KEY` says what
-they have to do with a key; `dump HOST:PORT TABLE..` and `load HOST:PORT FILE` write and put pairs,
-`postgres MAPPING.toml` keeps tables equal to those of PostgreSQL, and `relay` has many clients share a few connections.
+they have to do with a key; `dump HOST:PORT TABLE..` and `load HOST:PORT FILE` write and put pairs, `metrics HOST:PORT` shows how
+a server is, `postgres MAPPING.toml` keeps tables equal to those of PostgreSQL, and `relay` has many clients share a few
+connections.
 """
 
 from .answers import Absent, Changes, Done, Found, Pairs

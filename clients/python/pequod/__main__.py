@@ -11,6 +11,7 @@ from .check import check_file
 from .commands import address, dump_command, load_command
 from .explain import explain_file
 from .keys import parts
+from .metrics import metrics_command
 from .prompt import run_prompt
 
 STATUS_OF_WORDS = 2
@@ -76,7 +77,8 @@ def _prompt(given: Sequence[str]) -> int:
 
 
 COMMANDS: dict[str, Callable[[Sequence[str]], int]] = {
-    "check": _check, "explain": _explain, "dump": dump_command, "load": load_command, "postgres": _postgres, "relay": _relay,
+    "check": _check, "explain": _explain, "dump": dump_command, "load": load_command, "metrics": metrics_command,
+    "postgres": _postgres, "relay": _relay,
 }
 
 

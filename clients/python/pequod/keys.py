@@ -35,7 +35,7 @@ def parts(key: str) -> tuple[str, ...]:
     """Gives the table of a key and its segments, as texts. It raises a ValueError where it is no key."""
     found = tuple(key.split("|"))
     if len(found) < 2 or not 1 <= len(found[0].encode()) <= MAX_TABLE_BYTES or len(key.encode()) > MAX_KEY_BYTES:
-        raise ValueError(f"{_short(key)} is no key: it is TABLE| and more, with a table's name of 1 to 64 bytes, and has at most 512")
+        raise ValueError(f"{_short(key)} is no key: TABLE| and more, with a table's name of 1 to 64 bytes, and at most 512 in all")
     return found
 
 

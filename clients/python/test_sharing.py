@@ -44,21 +44,21 @@ class Threads(Case):
         with self.client.pipeline() as pipeline:
             for number in range(8):
                 pipeline.put(f"k|{number}", str(number) * 1_000)
-        others = []
+        seen = []
 
         def work(number):
             for _ in range(300):
                 with self.client.pipeline() as both:
                     first, second = both.get(f"k|{number}"), both.scan(f"k|{number}", f"k|{number}0")
                 values = [self.client.get(f"k|{number}").value, first.result().value, *dict(second.result()).values()]
-                others.extend(value for value in values if value != str(number) * 1_000)
+                seen.append(values == [str(number) * 1_000] * 3)
 
         threads = [threading.Thread(target=work, args=(number,)) for number in range(8)]
         for thread in threads:
             thread.start()
         for thread in threads:
             thread.join()
-        self.assertEqual(others, [])
+        self.assertEqual((len(seen), all(seen)), (2_400, True))
 
     def test_a_thread_that_connects_anew_waits_for_the_request_of_another(self):
         self.client.put("k|a", "x" * 60_000)
@@ -149,13 +149,17 @@ class Forks(unittest.TestCase):
 
         def ask():
             with pool.client() as client:
-                return client.get("k|a").value
+                return client.get("k|a").value, client._socket.getsockname()[1]
 
-        self.assertEqual(ask(), "x")
-        self.child_and_parent(ask, "x")
+        def ask_over_another_link():
+            value, port = ask()
+            return value, port != links[0]
+
+        links = [ask()[1]]
+        self.child_and_parent(ask_over_another_link, "('x', True)")
         with pool.client():
-            self.child_and_parent(ask, "x")
-        self.assertEqual(ask(), "x")
+            self.child_and_parent(ask_over_another_link, "('x', True)")
+        self.assertEqual(ask(), ("x", links[0]))
 
     def test_a_client_for_asyncio(self):
         async def ask(client):

@@ -1,5 +1,7 @@
 // What one thread writes, evicts and reads, how often each read passes the gate, and how many steps some may take.
 
+use crate::limited_rows::{TOO_HEAVY, TOO_HEAVY_COST, USED_LEAST};
+
 /// How many cells there may be, how much may be kept, lines, and what those that read add: how often the gate was passed, and
 /// the pairs. A line that begins with `most` or `least` reads with so many steps, one that begins with `often` writes so often, and
 /// one that begins with `changes` adds what changed.
@@ -27,20 +29,6 @@ read 3 t|ann| t|ann}
 ",
     wanted: "1: t|ann|100|bob=Hi
 0: t|ann|100|bob=Hi
-",
-};
-
-/// A range of one row weighs two: it goes at once, and is evaluated each time.
-const TOO_HEAVY: Row = Row {
-    cells: 4,
-    limit: 1,
-    lines: "write b|<x> = copy a|<x>
-write a|1=A
-read 2 b| b}
-read 2 b| b}
-",
-    wanted: "1: b|1=A
-1: b|1=A
 ",
 };
 
@@ -420,19 +408,6 @@ most 3 3 t|ann| t|ann}
     wanted: "",
 };
 
-/// What may not be kept is read afresh each time.
-const TOO_HEAVY_COST: Row = Row {
-    cells: 4,
-    limit: 1,
-    lines: "write t|<user>|<time>|<poster> = check s|<user>|<poster> copy p|<poster>|<time>
-write s|ann|bob=1
-write p|bob|100=Hi
-least 5 3 t|ann| t|ann}
-least 5 3 t|ann| t|ann}
-",
-    wanted: "",
-};
-
 /// After a turn a read finds its two rows as they are kept.
 const TURNED_COST: Row = Row {
     cells: 4,
@@ -466,9 +441,10 @@ least 7 4 t|ann| t|ann}
 };
 
 /// All of them.
-pub const ROWS: [Row; 21] = [
+pub const ROWS: [Row; 22] = [
     KEPT,
     TOO_HEAVY,
+    USED_LEAST,
     PULLED,
     EARLIER,
     ONE_OVER_ANOTHER,

@@ -46,6 +46,8 @@ mod kept;
 #[cfg(test)]
 mod kept_rows;
 #[cfg(test)]
+mod limited_rows;
+#[cfg(test)]
 mod playing;
 #[cfg(test)]
 mod scan_cost;

@@ -54,6 +54,14 @@ def read(link, lines):
     return b"".join(pieces)
 
 
+def read_bytes(link, count):
+    """So many bytes."""
+    came = b""
+    while len(came) < count:
+        came += link.recv(count - len(came))
+    return came
+
+
 class UnderWay(unittest.TestCase):
     """What a server sees that answers only when it is told to."""
 
@@ -109,7 +117,7 @@ class UnderWay(unittest.TestCase):
         first, other = self.two([SCAN, GET])
         beginning = b'["pairs",7,[["big|1","' + b"x" * 100_000
         self.told.say(beginning)
-        self.assertEqual(first.recv(len(beginning), socket.MSG_WAITALL), beginning)
+        self.assertEqual(read_bytes(first, len(beginning)), beginning)
         self.told.say(b'["error","no"]"]]]\n["error","memory"]\n["value",9,"y')
         self.told.say(b'"]\n')
         self.assertEqual(read(first, 2), b'["error","no"]"]]]\n["error","memory"]\n')
@@ -216,7 +224,7 @@ class Slow(unittest.TestCase):
             self.assertLess(relay.counted('pequod_requests_total{kind="scan"}'), 4)
             self.assertLess(relay.kilobytes(), 80_000)
             slow.settimeout(PATIENCE)
-            self.assertEqual(slow.recv(16, socket.MSG_WAITALL), b'["pairs",%d,[["' % self.VALUES)
+            self.assertEqual(read_bytes(slow, 16), b'["pairs",%d,[["' % self.VALUES)
             self.assertGreater(sent, 3 * len(SCAN))
             # It reads on, and its further scans are answered.
             read(slow, 5)

@@ -195,9 +195,12 @@ class ServerLink(asyncio.Protocol):
             self.close()
 
     def _note(self, block: bytes, start: int) -> None:
-        """Counts the refusals in whole replies, and notes the position that the last of them tells."""
+        """Counts the refusals in whole replies, and notes the position that the last of them tells which tells one."""
         self._counts.note_refusals(block, start)
-        found = POSITION.match(block, max(start, block.rfind(b"\n", 0, len(block) - 1) + 1))
+        end, found = len(block), None
+        while end > start and found is None:
+            end = max(start, block.rfind(b"\n", 0, end - 1) + 1)
+            found = POSITION.match(block, end)
         if found is not None:
             self.position = max(self.position, int(found.group(1)))
 

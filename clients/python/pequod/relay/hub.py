@@ -12,7 +12,6 @@ from typing import Optional, Union
 from .client_link import ClientLink
 from .counts import Cause, Counts
 from .server_link import ServerLink
-from .sockets import keep_alive
 
 __all__ = ["Address", "Bounds", "Relay"]
 
@@ -154,10 +153,9 @@ class Relay:
         loop = asyncio.get_running_loop()
         making = loop.create_connection(lambda: ServerLink(self.counts), *self._where, ssl=self._server_tls)
         try:
-            transport, link = await asyncio.wait_for(making, CONNECT_SECONDS)
+            _, link = await asyncio.wait_for(making, CONNECT_SECONDS)
         except asyncio.TimeoutError:
             raise TimeoutError("timed out") from None
-        keep_alive(transport)
         slow = loop.call_later(ANSWER_SECONDS, _say, f"{_shown(self._where)} does not answer: are all its workers taken?")
         try:
             await link.opened

@@ -16,6 +16,7 @@ from typing import Deque, Optional, OrderedDict, Protocol
 from ..runs import PROBE_KEY
 from ..wire import get_request
 from .counts import Cause, Counts
+from .sockets import keep_alive
 
 __all__ = ["Owner", "ServerLink"]
 
@@ -101,6 +102,7 @@ class ServerLink(asyncio.Protocol):
         assert isinstance(transport, asyncio.Transport)
         self._transport = transport
         transport.set_write_buffer_limits(high=SENDING_BYTES)
+        keep_alive(transport)
         transport.write(get_request(PROBE_KEY).line)
 
     def data_received(self, data: bytes) -> None:

@@ -1,7 +1,7 @@
 #!/usr/bin/env bash
 # Makes a Debian package of the built program, its unit, the client in Python, the man page and the documents.
 # Usage: bench/package.sh PROGRAM [FOLDER]. The package goes into FOLDER, by default the one where the command is given.
-# It wants dpkg-deb, strip, gzip and git. Where lintian is there, it has to be quiet about the package, or the status is 1.
+# It wants git, and of Debian dpkg, binutils and gzip. Where lintian is there, it has to be quiet about the package, or the status is 1.
 set -eu
 program=${1:-}
 if [ ! -f "$program" ] || [ ! -x "$program" ]; then
@@ -17,6 +17,7 @@ trap 'rm -rf "$folder"' EXIT
 root=$folder/pequod
 version=$(sed -n 's/^__version__ = "\(.*\)"$/\1/p' clients/python/pequod/__init__.py)
 maintainer=${DEBFULLNAME:-$(git log -1 --format=%an)}" <"${DEBEMAIL:-$(git log -1 --format=%ae)}">"
+library=$(objdump -T "$program" | grep -o 'GLIBC_[0-9.]*' | sort -Vu | tail -n 1)
 # Files are of the last commit's time, so that the same commit and program make the same package.
 SOURCE_DATE_EPOCH=$(git log -1 --format=%ct)
 export SOURCE_DATE_EPOCH
@@ -58,7 +59,7 @@ Version: $version
 Architecture: $(dpkg --print-architecture)
 Maintainer: $maintainer
 Installed-Size: $(du -sk --exclude=DEBIAN "$root" | cut -f1)
-Depends: libc6 (>= 2.36), python3 (>= 3.9)
+Depends: libc6 (>= ${library#GLIBC_}), python3 (>= 3.9)
 Section: database
 Priority: optional
 Description: ordered key-value cache with cache joins
@@ -78,4 +79,6 @@ if command -v lintian > /dev/null; then
     cat "$folder/told"
     exit 1
   fi
+else
+  echo "bench/package.sh: lintian is not there, and was not asked" >&2
 fi

@@ -91,6 +91,9 @@ WARNED = (
     ("t|user|time = copy p|user|time", (
         ("the output has no slot, so it is one pair; was <user> meant? A read of it walks the key p|user|time", "user|time ="),
     )),
+    ("t|user|time = count p|user|time", (
+        ("the output has no slot, so it is one pair; was <user> meant? A read of it walks the key p|user|time", "user|time ="),
+    )),
     ("t|user|<time:8> = count p|<user>|<time:8>", (
         ("user is a literal here, and <user> is a slot of this join", "user|"),
         ("a read of t|user|<time:8> walks all of p|: <time:8> stands behind <user>, which such a read does not know", "<user>"),

@@ -71,6 +71,8 @@ def _prompt(given: Sequence[str]) -> int:
     parser.add_argument("address", metavar="HOST:PORT", type=address)
     parser.add_argument("--timeout", type=float, default=10.0, metavar="SECONDS", help="for each answer; 10 unless given")
     parser.add_argument("--version", action="version", version=__version__)
+    if given and ":" not in given[0] and not given[0].startswith("-"):
+        parser.error(f"{given[0]!r} is neither HOST:PORT nor one of the commands {', '.join(COMMANDS)}")
     options = parser.parse_args(given)
     host, port = options.address
     return run_prompt(host, port, options.timeout)

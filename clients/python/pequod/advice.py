@@ -30,7 +30,7 @@ def _missed_slots(join: Join) -> Iterator[Note]:
             if isinstance(segment, Literal) and segment.text in names:
                 seen = True
                 yield Note(f"{segment} is a literal here, and <{segment}> is a slot of this join", join.text, segment.byte)
-    is_total = join.values[0].operator in AGGREGATES
+    is_total = join.values[0].operator in AGGREGATES and join.values[0].pattern.slots
     if not join.output.slots and not seen and not is_total:
         first = join.output.segments[1]
         walked = ", ".join(str(walk) for walk in walks(join, {}))

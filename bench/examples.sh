@@ -43,8 +43,11 @@ judge() {
 for requests in *.requests cookbook/*.requests; do
   replies=${requests%.requests}.replies
   attempt "$requests" 0 "$replies" run < "$requests"
-  "$bench/through_link.py" "$program" --cells 2 --rows 5 < "$requests" > "$folder/written" 2> "$folder/message"
-  judge "$requests through a connection" 0 $? "$replies"
+  "$bench/through_link.py" "$program" --cells 2 --rows 5 < "$requests" > "$folder/replied" 2> "$folder/message"
+  ended=$?
+  # The client of `run` has the number 0, and that of a connection the number of its worker's client: a feed shows it.
+  sed -E '/^\["entries"/s/\[[1-9][0-9]*,(\["(put|remove|join|drop)")/[0,\1/g' "$folder/replied" > "$folder/written"
+  judge "$requests through a connection" 0 $ended "$replies"
 done
 for joins in *.joins; do
   written=${joins%.joins}.written

@@ -156,6 +156,7 @@ class Links(unittest.IsolatedAsyncioTestCase):
             with self.assertRaises(pequod.LinkLost) as caught:
                 await client.get("k|a")
         self.assertEqual((caught.exception.unanswered, caught.exception.write_may_stand), (1, False))
+        self.assertIn("was no worker free?", str(caught.exception))
 
     async def test_another_kind_of_server(self):
         for reply in b"HTTP/1.1 400 Bad Request\r\n", b'["ok",1]\n', b'["none",1]\n["none",1]\n', b"[]\n":

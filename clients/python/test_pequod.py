@@ -12,7 +12,7 @@ import threading
 import unittest
 
 import pequod
-from serving import HOST, Case, free_port, want_program
+from serving import HOST, Case, Server, free_port, want_program
 
 TIMELINE = "t|<user>|<time>|<poster> = check s|<user>|<poster> copy p|<poster>|<time>"
 
@@ -406,6 +406,20 @@ class Links(unittest.TestCase):
         self.assertEqual((caught.exception.unanswered, caught.exception.write_may_stand), (1, True))
         self.assertIn("may stand", str(caught.exception))
         self.assertIsInstance(caught.exception, OSError)
+
+    def test_a_server_without_a_free_worker(self):
+        with Server("--workers", "1") as server, server.connect() as first, server.connect(0.5) as second:
+            first.get("k|a")
+            with self.assertRaises(pequod.LinkLost) as caught:
+                second.get("k|a")
+        self.assertIn("was no worker free?", str(caught.exception))
+
+    def test_a_later_reply_that_takes_too_long(self):
+        with self.client_of(b'["none",0]\n', timeout=0.5) as client:
+            client.get("k|a")
+            with self.assertRaises(pequod.LinkLost) as caught:
+                client.get("k|a")
+        self.assertNotIn("was no worker free?", str(caught.exception))
 
     def test_a_pipeline_that_breaks(self):
         with self.client_of(b'["ok",1]\n["none",1]\n') as client:

@@ -73,6 +73,11 @@ class _Link(asyncio.Protocol):
             selector.register(self._transport.get_extra_info("socket"), selectors.EVENT_READ)
             return not selector.select(0)
 
+    @property
+    def is_fresh(self) -> bool:
+        """Whether nothing ever came over it."""
+        return self._lines.is_fresh
+
     def send(self, data: bytes) -> None:
         """Sends bytes in the background."""
         if self._transport is not None:
@@ -306,7 +311,7 @@ class Client:
                 # Another task may have replaced it meanwhile.
                 if link is self._link:
                     self._drop_link()
-                lost = exchange.lose(error)
+                lost = exchange.lose(error, link.is_fresh)
                 if isinstance(error, OSError):
                     raise lost from error
                 raise

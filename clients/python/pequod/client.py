@@ -243,7 +243,7 @@ class Client:
                     self._do_many(link, exchange)
             except BaseException as error:
                 self._drop_link()
-                lost = exchange.lose(error)
+                lost = exchange.lose(error, self._lines.is_fresh)
                 if isinstance(error, OSError):
                     raise lost from error
                 raise

@@ -2,6 +2,7 @@
 
 from __future__ import annotations
 
+import socket
 from typing import Any, Generic, Iterable, Mapping, Optional, Sequence, TypeVar, Union
 
 from .answers import Answer, Changes, Done, Pairs, Value
@@ -88,6 +89,11 @@ class Lines:
         self._unended = [rest]
         return lines
 
+    @property
+    def is_fresh(self) -> bool:
+        """Whether nothing ever came."""
+        return not self._unended
+
 
 class Exchange:
     """Requests that are sent together, and how far they are answered."""
@@ -120,11 +126,15 @@ class Exchange:
             self.position = self.position if position is None else position
             self._answered += 1
 
-    def lose(self, error: BaseException) -> LinkLost:
-        """Answers all that is not answered yet by the loss of the link, and gives it."""
+    def lose(self, error: BaseException, is_fresh: bool) -> LinkLost:
+        """Answers all that is not answered yet by the loss of the link, over which nothing ever came where it is fresh, and gives
+        it."""
         left = self._asked[self._answered:]
         is_write = any(pending._request.is_write for pending in left)
-        lost = LinkLost(f"the link was lost: {str(error) or type(error).__name__}", len(left), is_write)
+        cause = str(error) or type(error).__name__
+        if is_fresh and isinstance(error, (TimeoutError, socket.timeout)):
+            cause += " before the first reply (was no worker free?)"
+        lost = LinkLost(f"the link was lost: {cause}", len(left), is_write)
         for pending in left:
             pending._answer = lost
         return lost
